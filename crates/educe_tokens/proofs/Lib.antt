@@ -1,0 +1,16 @@
+pub mod Bytes
+pub mod Classes
+pub mod Front
+pub mod Readings
+pub mod Tokens
+pub mod Lexed
+pub mod Unique
+pub mod Few
+pub mod Joined
+pub mod TextLexes
+pub mod Behind
+pub mod Printed
+pub mod Quoting
+pub mod Appending
+pub mod Ascii
+pub mod Writing

@@ -1,0 +1,48 @@
+use Rattle.std.proofs.Common.{ℕ, ◌+◌, List, length, take, sym, refl, ap, ◌∙◌, subst, arith, encode_utf8_all, false-eqb}
+use Rattle.std.proofs.lemmas.Bool.{and_parts}
+use Rattle.std.proofs.lemmas.Str.{length-le-encodes}
+use Rattle.educe_tokens.specs.declared.span.Span.{Span}
+use Rattle.educe_tokens.specs.Pieces.{is_piece}
+use Rattle.educe_tokens.specs.Steps.{Adds}
+use Rattle.educe_tokens.proofs.Readings.{found_is}
+use Rattle.educe_tokens.proofs.Lexed.{Before, start_bytes, front_within, before_push, lexes_none}
+use Rattle.educe_tokens.proofs.lexer.token_pieces.Goals as goal
+
+pub returns-in_default-clause-none : goal.returns-in_default-clause-none
+returns-in_default-clause-none c = λ tokens.
+    lexes_none _ _ _ tokens _ c.loop-rest.invariant (omega (arith, false-eqb _ 0 c.loop-rest-test.ensures)) (sym c.piece_at.ensures.value ∙ c.in_default.is)
+
+pub piece_at-requires : goal.piece_at-requires
+piece_at-requires c =
+    let h = start_bytes _ _ _ _ c.loop-rest.invariant in
+    let k = length-le-encodes c.loop-rest.rest.now in
+    omega (arith, h, k, c.requires)
+
+pub byte_len-requires : goal.byte_len-requires
+byte_len-requires c = let h = front_within _ _ _ _ _ _ c.loop-rest.invariant c.split_at.ensures.front in omega (arith, h, c.requires)
+
+pub overflow_cast-end : goal.overflow_cast-end
+overflow_cast-end c = let h = front_within _ _ _ _ _ _ c.loop-rest.invariant c.split_at.ensures.front in omega (arith, h, c.requires, c.byte_len.ensures)
+
+pub overflow_add-end : goal.overflow_add-end
+overflow_add-end c = let h = front_within _ _ _ _ _ _ c.loop-rest.invariant c.split_at.ensures.front in omega (arith, h, c.requires, c.byte_len.ensures)
+
+pub push_piece-requires : goal.push_piece-requires
+push_piece-requires c =
+    let found = found_is c.loop-rest.rest.now c.piece_at.result c.in-Some.kind c.in-Some.len c.piece_at.ensures.value c.in-Some.is in
+    rw c.split_at.ensures.front (and_parts (is_piece c.in-Some.kind (take c.in-Some.len c.loop-rest.rest.now)) _ found.0).0
+
+pub loop-rest-smaller : goal.loop-rest-smaller
+loop-rest-smaller c =
+    let found = found_is c.loop-rest.rest.now c.piece_at.result c.in-Some.kind c.in-Some.len c.piece_at.ensures.value c.in-Some.is in
+    omega (arith, found.1, found.2, c.split_at.ensures.back_len)
+
+pub loop-rest-preserved : goal.loop-rest-preserved
+loop-rest-preserved c =
+    let found = found_is c.loop-rest.rest.now c.piece_at.result c.in-Some.kind c.in-Some.len c.piece_at.ensures.value c.in-Some.is in
+    let front = c.split_at.ensures.front in
+    let span : Span = record { start = c.loop-rest.start; end = c.loop-rest.start + c.byte_len.result } in
+    let adds = subst (λ (s : List ℕ). Adds c.in-Some.kind s span c.loop-rest.tokens c.push_piece.new.tokens) front c.in_ok-push_piece.ensures.ok in
+    subst (λ (r : List ℕ). Before c.args.text.now r c.push_piece.new.tokens span.end) (sym c.split_at.ensures.back)
+    (before_push c.args.text.now c.loop-rest.rest.now c.loop-rest.tokens c.push_piece.new.tokens c.loop-rest.start c.in-Some.kind c.in-Some.len span c.loop-rest.invariant found adds refl
+    (ap (λ k. c.loop-rest.start + k) (c.byte_len.ensures ∙ ap (λ (t : List ℕ). length (encode_utf8_all t)) front)))

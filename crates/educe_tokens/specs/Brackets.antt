@@ -1,0 +1,55 @@
+-- Brackets that close in order, and how deep they nest (Rust Reference, Delimiters).
+use Rattle.std.specs.Prelude.{ℕ, ◌+◌, ◌-◌, Bool, true, false, cond, ◌&&◌, IsTrue, Option, Some, None, List, [], ◌∷◌, map, nat_le}
+use Rattle.educe_tokens.specs.declared.token.Bracket.{Bracket}
+use Rattle.educe_tokens.specs.declared.token.Bracket.TheVariants.{Round, Square, Curly}
+use Rattle.educe_tokens.specs.declared.token.TokenKind.{TokenKind}
+use Rattle.educe_tokens.specs.declared.token.TokenKind.TheVariants.{Ident, Lifetime, Literal, Punct, Start, Stop, Doc}
+use Rattle.educe_tokens.specs.Lexes.{Lexeme}
+
+abbrev pub same_bracket : Bracket → Bracket → Bool
+same_bracket Round b = elim b [ Round ↦ true | Square ↦ false | Curly ↦ false ]
+same_bracket Square b = elim b [ Round ↦ false | Square ↦ true | Curly ↦ false ]
+same_bracket Curly b = elim b [ Round ↦ false | Square ↦ false | Curly ↦ true ]
+
+-- the brackets that are open behind one more token, innermost first; none where it closes another than the innermost
+abbrev pub open_after : List Bracket → TokenKind → Option (List Bracket)
+open_after outer (Start b) = Some (b ∷ outer)
+open_after [] (Stop b) = None
+open_after (o ∷ outer) (Stop b) = cond (same_bracket o b) (Some outer) None
+open_after outer Ident = Some outer
+open_after outer Lifetime = Some outer
+open_after outer (Literal l) = Some outer
+open_after outer (Punct c joint) = Some outer
+open_after outer Doc = Some outer
+
+-- behind these open brackets, innermost first, each bracket closes in order
+abbrev pub closes : List Bracket → List TokenKind → Bool
+closes [] [] = true
+closes (o ∷ outer) [] = false
+closes outer (kind ∷ more) = elim (open_after outer kind) [ None ↦ false | Some inner ↦ closes inner more ]
+
+-- how many brackets are open behind one more token
+abbrev pub depth_after : ℕ → TokenKind → ℕ
+depth_after depth (Start b) = depth + 1
+depth_after depth (Stop b) = depth - 1
+depth_after depth Ident = depth
+depth_after depth Lifetime = depth
+depth_after depth (Literal l) = depth
+depth_after depth (Punct c joint) = depth
+depth_after depth Doc = depth
+
+-- with so many open before it, never more than the limit are open
+abbrev pub nests : ℕ → ℕ → List TokenKind → Bool
+nests limit depth [] = true
+nests limit depth (kind ∷ more) = nat_le (depth_after depth kind) limit && nests limit (depth_after depth kind) more
+
+abbrev pub kinds : List Lexeme → List TokenKind
+kinds found = map (λ lexeme. lexeme.kind) found
+
+-- the brackets close in order
+abbrev pub IsBalanced : List Lexeme → Type 0
+IsBalanced found = IsTrue (closes [] (kinds found))
+
+-- at most 128 brackets are open at once
+abbrev pub IsShallow : List Lexeme → Type 0
+IsShallow found = IsTrue (nests 128 0 (kinds found))

@@ -1,0 +1,12 @@
+pub mod formers
+pub mod Pieces
+pub mod Span
+pub mod Lexes
+pub mod Brackets
+pub mod Text
+pub mod Scan
+pub mod Built
+pub mod Steps
+pub mod Appends
+pub mod Quote
+pub mod Message

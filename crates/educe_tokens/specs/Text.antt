@@ -1,0 +1,69 @@
+-- The text of a list of tokens.
+use Rattle.std.specs.Prelude.{ℕ, ◌==◌, Bool, true, false, cond, ◌&&◌, not, IsTrue, List, [], ◌∷◌, ◌++◌}
+use Rattle.educe_tokens.specs.declared.token.TokenKind.{TokenKind}
+use Rattle.educe_tokens.specs.declared.token.TokenKind.TheVariants.{Ident, Lifetime, Literal, Punct, Start, Stop, Doc}
+use Rattle.educe_tokens.specs.Pieces.{is_slash_or_star}
+use Rattle.educe_tokens.specs.Lexes.{Lexeme}
+use Rattle.educe_tokens.specs.Brackets.{kinds, closes}
+
+-- nothing stands between the token and the next
+abbrev pub joins_next : TokenKind → Bool
+joins_next (Punct c joint) = joint
+joins_next Ident = false
+joins_next Lifetime = false
+joins_next (Literal l) = false
+joins_next (Start b) = false
+joins_next (Stop b) = false
+joins_next Doc = false
+
+-- behind the punct c, joint with it, stands a punct, and the two open no comment
+abbrev pub is_punct_behind : ℕ → List TokenKind → Bool
+is_punct_behind c (Punct d joint ∷ more) = not ((c == 47) && is_slash_or_star d)
+is_punct_behind c [] = false
+is_punct_behind c (Ident ∷ more) = false
+is_punct_behind c (Lifetime ∷ more) = false
+is_punct_behind c (Literal l ∷ more) = false
+is_punct_behind c (Start b ∷ more) = false
+is_punct_behind c (Stop b ∷ more) = false
+is_punct_behind c (Doc ∷ more) = false
+
+-- the token may stand before these; no Doc may
+abbrev pub may_join : TokenKind → List TokenKind → Bool
+may_join (Punct c true) more = is_punct_behind c more
+may_join (Punct c false) more = true
+may_join Ident more = true
+may_join Lifetime more = true
+may_join (Literal l) more = true
+may_join (Start b) more = true
+may_join (Stop b) more = true
+may_join Doc more = false
+
+-- there is no Doc, and each joint punct is followed by a punct with which it opens no comment
+abbrev pub joins_well : List TokenKind → Bool
+joins_well [] = true
+joins_well (kind ∷ more) = may_join kind more && joins_well more
+
+-- the brackets close in order, and each token may stand before the next
+abbrev pub is_well_formed : List Lexeme → Bool
+is_well_formed found = closes [] (kinds found) && joins_well (kinds found)
+
+abbrev pub IsWellFormed : List Lexeme → Type 0
+IsWellFormed found = IsTrue (is_well_formed found)
+
+-- the last token is not joint
+abbrev pub ends_apart : List TokenKind → Bool
+ends_apart [] = true
+ends_apart (kind ∷ []) = not (joins_next kind)
+ends_apart (kind ∷ next ∷ more) = ends_apart (next ∷ more)
+
+-- the spellings, with one space between two tokens and none behind a joint punct
+abbrev pub text_behind : Bool → List Lexeme → List ℕ
+text_behind joint [] = []
+text_behind joint (x ∷ xs) = cond joint [] (32 ∷ []) ++ (x.spelling ++ text_behind (joins_next x.kind) xs)
+
+abbrev pub text_of : List Lexeme → List ℕ
+text_of found = text_behind true found
+
+-- well formed, and the last token is not joint: such lists may stand side by side
+abbrev pub is_written : List Lexeme → Bool
+is_written found = is_well_formed found && ends_apart (kinds found)

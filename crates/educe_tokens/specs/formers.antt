@@ -1,0 +1,2 @@
+pub mod seq
+pub mod boxed

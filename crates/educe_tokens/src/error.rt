@@ -1,0 +1,85 @@
+//! Why a text is refused.
+ghost use Rattle.std.specs.Prelude.{◌≡◌, ◌≢◌, [], IfOk};
+ghost use Rattle.std.specs.String.{string_bytes};
+ghost use Rattle.educe_tokens.specs.Message.{HasWords, message_of};
+
+use crate::seq::Seq;
+use crate::span::Span;
+use crate::spelling::Spelling;
+use std::alloc::{AllocError, Global};
+
+/// Texts in their order.
+pub type Texts = Seq<Spelling>;
+
+/// The kinds of refusals.
+#[derive(Clone, Copy, Debug, PartialEq, Eq)]
+pub enum Kind {
+    /// The text is not of the form that is built so far.
+    NotBuilt,
+    /// No trait is listed at the type.
+    DeriveAttributeNotSetUpYet,
+    /// Want of memory.
+    Alloc,
+}
+
+/// A refusal: its kind, its place, and the words that its message cites.
+#[derive(Drop)]
+pub struct EduceError {
+    pub kind: Kind,
+    pub span: Span,
+    pub words: Texts,
+}
+
+impl EduceError {
+    /// A refusal without words. It takes no memory.
+    pub fn new(alloc: Global, kind: Kind, span: Span) -> EduceError
+        ensures { result ≡ record { kind = kind; span = span; words = [] } }
+    {
+        EduceError {
+            kind,
+            span,
+            words: Seq::new(alloc),
+        }
+    }
+
+    /// The refusal for want of memory. It takes none itself.
+    pub fn alloc(alloc: Global) -> EduceError
+        ensures { result ≡ record { kind = Kind.Alloc; span = Span.NONE; words = [] } }
+    {
+        EduceError::new(alloc, Kind::Alloc, Span::NONE)
+    }
+    /// The message, without the place.
+    pub fn message(&self, alloc: Global) -> Result<String, AllocError>
+        requires kind { self.now.kind ≢ Kind.Alloc }
+        requires words { HasWords self.now.kind self.now.words }
+        ensures { IfOk result (λ text. string_bytes text ≡ message_of self.now.kind self.now.words) }
+    {
+        match self.kind {
+            Kind::NotBuilt => String::from_str(alloc, "not built yet"),
+            Kind::DeriveAttributeNotSetUpYet => String::from_str(
+                alloc,
+                "you are using `Educe` in the `derive` attribute, but it has not been set up yet",
+            ),
+            Kind::Alloc => unreachable!(),
+        }
+    }
+}
+
+#[cfg(test)]
+mod tests {
+    use super::*;
+    use std::test::Fail;
+
+    #[test]
+    fn says_why(rt: HostRuntime) -> Result<(), Fail> {
+        let alloc = rt.alloc();
+        let error = EduceError::new(alloc, Kind::NotBuilt, Span::NONE);
+        assert_eq!(rt; error.message(alloc)?.as_str(), "not built yet");
+        let error = EduceError::new(alloc, Kind::DeriveAttributeNotSetUpYet, Span::NONE);
+        assert_eq!(rt;
+            error.message(alloc)?.as_str(),
+            "you are using `Educe` in the `derive` attribute, but it has not been set up yet"
+        );
+        Ok(())
+    }
+}

@@ -1,0 +1,63 @@
+//! Places in a source.
+ghost use Rattle.std.specs.Prelude.{◌≡◌, ◌≤◌, length};
+ghost use Rattle.educe_tokens.specs.Span.{line_of, column_of};
+ghost use Rattle.std.specs.Str.{IsCharBoundary};
+
+/// How many bytes a source may have.
+pub const SOURCE_LIMIT: usize = 131_072;
+
+/// Byte offsets into a source, the end excluded. Both are 0 for what the program makes.
+#[derive(Clone, Copy, Debug, PartialEq, Eq)]
+pub struct Span {
+    pub start: u32,
+    pub end: u32,
+}
+
+impl Span {
+    /// The span of no place: of what the program makes, and of a refusal that has none.
+    pub const NONE: Span = Span { start: 0, end: 0 };
+
+    /// The line and the column of the start, both counted from 1: a line ends at a line feed, a
+    /// column is a character.
+    pub fn line_column(&self, source: &str) -> (u32, u32)
+        requires boundary { IsCharBoundary source.now self.now.start }
+        requires limit { length source.now ≤ SOURCE_LIMIT }
+        ensures line { result.0 ≡ line_of source.now self.now.start }
+        ensures column { result.1 ≡ column_of source.now self.now.start }
+    {
+        let mut line = 1;
+        let mut column = 1;
+        for c in source[..self.start as usize].chars() {
+            if c == '\n' {
+                line += 1;
+                column = 1;
+            } else {
+                column += 1;
+            }
+        }
+        (line, column)
+    }
+}
+
+#[cfg(test)]
+mod tests {
+    use super::*;
+
+    #[test]
+    fn counts_lines_and_characters(rt: HostRuntime) {
+        let source = "a\né\nüb";
+        for (start, place) in [
+            (0, (1, 1)),
+            (1, (1, 2)),
+            (2, (2, 1)),
+            (4, (2, 2)),
+            (5, (3, 1)),
+            (7, (3, 2)),
+            (8, (3, 3)),
+        ] {
+            assert!(rt; source.is_char_boundary(start as usize));
+            let span = Span { start, end: start };
+            assert_eq!(rt; span.line_column(source), place, "at {start}");
+        }
+    }
+}

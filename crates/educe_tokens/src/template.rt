@@ -1,0 +1,104 @@
+//! Printing from templates.
+ghost use Rattle.std.specs.Prelude.{◌≡◌, IsTrue, OnOk};
+ghost use Rattle.educe_tokens.specs.Appends.{Appends, HasPrefix};
+ghost use Rattle.educe_tokens.specs.Quote.{is_name_start, mark_kind, word_lexemes, is_template_word, quoted, is_template};
+
+use crate::growing::push_spelled;
+use crate::token::{Bracket, TokenKind, TokenStream};
+use std::alloc::{AllocError, Global};
+
+/// Appends the tokens of a template, whose spans are `Span::NONE`.
+pub fn quote(alloc: Global, tokens: &mut TokenStream, template: &str) -> Result<(), AllocError>
+    requires { IsTrue (is_template template.now) }
+    ensures ok { OnOk result (Appends (quoted template.now) tokens.old tokens.new) }
+    ensures prefix { HasPrefix tokens.old tokens.new }
+{
+    for word in template.split(' ') {
+        quote_word(alloc, tokens, word)?;
+    }
+    Ok(())
+}
+
+/// Appends the tokens of a word of a template.
+fn quote_word(alloc: Global, tokens: &mut TokenStream, word: &str) -> Result<(), AllocError>
+    requires { IsTrue (is_template_word word.now) }
+    ensures ok { OnOk result (Appends (word_lexemes word.now) tokens.old tokens.new) }
+    ensures prefix { HasPrefix tokens.old tokens.new }
+{
+    match word.as_bytes() {
+        [first, ..] if is_name_start(*first) => {
+            push_spelled(alloc, tokens, TokenKind::Ident, word)
+        }
+        [only] => push_spelled(alloc, tokens, mark_kind(*only), word),
+        [first, second] => {
+            let front = TokenKind::Punct(*first as char, true);
+            push_spelled(alloc, tokens, front, &word[..1])?;
+            let back = TokenKind::Punct(*second as char, false);
+            push_spelled(alloc, tokens, back, &word[1..])
+        }
+        _ => Ok(()),
+    }
+}
+
+/// Whether a word that begins with this byte is an identifier.
+fn is_name_start(byte: u8) -> bool
+    ensures { result ≡ is_name_start byte }
+{
+    byte.is_ascii_alphabetic() || byte == b'_'
+}
+
+/// What a bracket or a punct by itself is.
+fn mark_kind(byte: u8) -> TokenKind
+    ensures { result ≡ mark_kind byte }
+{
+    match byte {
+        b'(' => TokenKind::Start(Bracket::Round),
+        b')' => TokenKind::Stop(Bracket::Round),
+        b'[' => TokenKind::Start(Bracket::Square),
+        b']' => TokenKind::Stop(Bracket::Square),
+        b'{' => TokenKind::Start(Bracket::Curly),
+        b'}' => TokenKind::Stop(Bracket::Curly),
+        _ => TokenKind::Punct(byte as char, false),
+    }
+}
+
+#[cfg(test)]
+mod tests {
+    use super::*;
+    use crate::growing::append;
+    use crate::seq::Seq;
+    use crate::span::Span;
+    use std::test::Fail;
+
+    #[test]
+    fn quotes_and_appends(rt: HostRuntime) -> Result<(), Fail> {
+        let alloc = rt.alloc();
+        let mut tokens = Seq::new(alloc);
+        quote(alloc, &mut tokens, "fn f_1 ( & self ) -> :: X { _ }")?;
+        let copy = tokens.duplicate(alloc)?;
+        append(alloc, &mut tokens, &copy)?;
+        let pieces = [
+            ("fn", TokenKind::Ident),
+            ("f_1", TokenKind::Ident),
+            ("(", TokenKind::Start(Bracket::Round)),
+            ("&", TokenKind::Punct('&', false)),
+            ("self", TokenKind::Ident),
+            (")", TokenKind::Stop(Bracket::Round)),
+            ("-", TokenKind::Punct('-', true)),
+            (">", TokenKind::Punct('>', false)),
+            (":", TokenKind::Punct(':', true)),
+            (":", TokenKind::Punct(':', false)),
+            ("X", TokenKind::Ident),
+            ("{", TokenKind::Start(Bracket::Curly)),
+            ("_", TokenKind::Ident),
+            ("}", TokenKind::Stop(Bracket::Curly)),
+        ];
+        assert_eq!(rt; tokens.len(), 2 * pieces.len());
+        for (token, (text, kind)) in tokens.as_slice().iter().zip(pieces) {
+            assert!(rt; token.spelling.is(text), "{text}");
+            assert_eq!(rt; token.kind, kind, "{text}");
+            assert_eq!(rt; token.span, Span::NONE, "{text}");
+        }
+        Ok(())
+    }
+}
