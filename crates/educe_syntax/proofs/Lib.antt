@@ -1,0 +1,10 @@
+pub mod Words
+pub mod Turns
+pub mod Trees
+pub mod Expecting
+pub mod Accepting
+pub mod Listing
+pub mod Sound
+pub mod Again
+pub mod Apart
+pub mod Whole

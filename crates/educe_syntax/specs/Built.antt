@@ -1,0 +1,40 @@
+-- The form that is built so far, on the definition that was read.
+use Rattle.std.specs.Prelude.{◌≡◌, ◌≢◌, ℕ, List, [], ◌∷◌, map, Some, None, Result, Ok, Err, codes}
+use Rattle.std.specs.List.{AllByRecursion}
+use Rattle.educe_tokens.specs.declared.token.Token.{Token}
+use Rattle.educe_tokens.specs.declared.error.EduceError.{EduceError}
+use Rattle.educe_tokens.specs.declared.error.Kind.TheVariants.{Alloc}
+use Rattle.educe_syntax.specs.declared.data.Field.{Field}
+use Rattle.educe_syntax.specs.declared.derive.DeriveInput.{DeriveInput}
+use Rattle.educe_syntax.specs.declared.derive.Shape.{Shape}
+use Rattle.educe_syntax.specs.declared.derive.Shape.TheVariants.{Struct}
+
+-- the fields of a definition, in written order
+abbrev pub shape_fields : Shape → List Field
+shape_fields (Struct shape) = shape.fields
+
+abbrev pub fields_of : DeriveInput → List Field
+fields_of definition = shape_fields definition.shape
+
+-- the name of a field, as it was written
+abbrev pub name_of : Field → List ℕ
+name_of field = elim field.ident [ None ↦ [] | Some ident ↦ ident.text ]
+
+-- each differs from all that follow it
+abbrev pub AreApart : List (List ℕ) → Type 0
+AreApart [] = Unit {0}
+AreApart (name ∷ names) = AllByRecursion (λ other. name ≢ other) names × AreApart names
+
+-- no token is the word `other`
+abbrev pub HasNoOther : List Token → Type 0
+HasNoOther tokens = AllByRecursion (λ (t : Token). t.spelling ≢ codes "other") tokens
+
+-- no token is the word `other`, and no two fields have one name
+pub record IsBuilt (definition : DeriveInput) : Type 0 where
+  pub no_other : HasNoOther definition.tokens
+  pub names_apart : AreApart (map name_of (fields_of definition))
+
+-- the definition, unless memory fails
+abbrev pub IsDefinition : DeriveInput → Result DeriveInput EduceError → Type 0
+IsDefinition definition (Ok found) = found ≡ definition
+IsDefinition definition (Err e) = e.kind ≡ Alloc

@@ -1,0 +1,76 @@
+//! Attributes (Rust Reference, Attributes).
+ghost use Rattle.std.specs.Prelude.{◌≡◌, ◌↔◌, IsTrue, IfOk, chars};
+ghost use Rattle.educe_syntax.specs.Reading.{IsOneWord};
+
+use educe_tokens::{Seq, Span, TokenKind, Written};
+use std::alloc::{AllocError, Global};
+
+/// An outer attribute: what stands between `#[` and `]`.
+#[derive(Drop)]
+pub struct Attribute {
+    pub meta: Meta,
+}
+
+impl Attribute {
+    /// An equal attribute in memory of its own.
+    pub fn duplicate(&self, alloc: Global) -> Result<Attribute, AllocError>
+        ensures { IfOk result (λ attribute. attribute ≡ self.now) }
+    {
+        let Meta::List(path, written, span) = &self.meta;
+        let path = path.duplicate(alloc)?;
+        let written = written.duplicate(alloc)?;
+        Ok(Attribute {
+            meta: Meta::List(path, written, *span),
+        })
+    }
+}
+
+/// Equal attributes in memory of their own.
+pub fn duplicate_attributes(
+    alloc: Global,
+    attributes: &Attributes,
+) -> Result<Attributes, AllocError>
+    ensures { IfOk result (λ copies. copies ≡ attributes.now) }
+{
+    let mut copies = Seq::new(alloc);
+    for attribute in attributes.as_slice() {
+        copies.push(attribute.duplicate(alloc)?)?;
+    }
+    Ok(copies)
+}
+
+/// Attributes in their order.
+pub type Attributes = Seq<Attribute>;
+
+/// What an attribute says.
+#[derive(Drop)]
+pub enum Meta {
+    /// A path and a bracket pair, both brackets included; the span is the whole meta's.
+    List(MetaPath, Written, Span),
+}
+
+/// The path that a meta begins with.
+#[derive(Drop)]
+pub struct MetaPath {
+    pub written: Written,
+}
+
+impl MetaPath {
+    /// Whether the path is this one word.
+    pub fn is_ident(&self, name: &str) -> bool
+        ensures { IsTrue result ↔ IsOneWord self.now.written.tokens (chars name.now) }
+    {
+        match self.written.tokens().as_slice() {
+            [token] => matches!(token.kind, TokenKind::Ident) && token.spelling.is(name),
+            _ => false,
+        }
+    }
+
+    /// An equal path in memory of its own.
+    pub fn duplicate(&self, alloc: Global) -> Result<MetaPath, AllocError>
+        ensures { IfOk result (λ path. path ≡ self.now) }
+    {
+        let written = self.written.duplicate(alloc)?;
+        Ok(MetaPath { written })
+    }
+}

@@ -1,0 +1,52 @@
+//! Types (Rust Reference, Types).
+ghost use Rattle.std.specs.Prelude.{◌≡◌, IfOk};
+
+use crate::path::Path;
+use educe_tokens::{Boxed, Written};
+use std::alloc::{AllocError, Global};
+
+/// A type, with its tokens as they were written.
+#[cycle(tree)]
+#[derive(Drop)]
+pub struct Ty {
+    pub form: TypeForm,
+    pub written: Written,
+}
+
+/// The form of a type.
+#[cycle(tree)]
+#[derive(Drop)]
+pub enum TypeForm {
+    /// A path, behind the type of a qualified path where there is one.
+    Path(Option<Boxed<Ty>>, Path),
+}
+
+impl Ty {
+    /// An equal type in memory of its own.
+    #[cycle(duplicate)]
+    pub fn duplicate(&self, alloc: Global) -> Result<Ty, AllocError>
+        ensures { IfOk result (λ ty. ty ≡ self.now) }
+    {
+        let form = self.form.duplicate(alloc)?;
+        let written = self.written.duplicate(alloc)?;
+        Ok(Ty { form, written })
+    }
+}
+
+impl TypeForm {
+    /// An equal form in memory of its own.
+    #[cycle(duplicate)]
+    pub fn duplicate(&self, alloc: Global) -> Result<TypeForm, AllocError>
+        ensures { IfOk result (λ form. form ≡ self.now) }
+    {
+        match self {
+            TypeForm::Path(None, path) => Ok(TypeForm::Path(None, path.duplicate(alloc)?)),
+            TypeForm::Path(Some(self_type), path) => {
+                let self_type = self_type.get().duplicate(alloc)?;
+                let self_type = Boxed::new(alloc, self_type)?;
+                let path = path.duplicate(alloc)?;
+                Ok(TypeForm::Path(Some(self_type), path))
+            }
+        }
+    }
+}
