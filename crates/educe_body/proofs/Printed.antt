@@ -1,0 +1,83 @@
+-- The tokens of forms that hold forms, as equations on the lists and the boxed forms that they were made of.
+use denote.Hole.Carrier.{hidden}
+use mathlib.Core.Former.{Count}
+use Rattle.std.proofs.Common.{◌≡◌, ℕ, suc, ◌+◌, ◌<◌, List, [], ◌∷◌, ◌++◌, map, take, get_or, length, refl, sym, ap, ◌∙◌, arith, codes, append_assoc, append-nil}
+use Rattle.std.specs.Prelude.{◌==◌}
+use Rattle.std.specs.List.{flat_map}
+use Rattle.std.proofs.lemmas.Bool.{cond-false}
+use Rattle.std.proofs.lemmas.Bool.Decides.{nat_tests}
+use Rattle.std.proofs.lemmas.Grind.{flat_map-append}
+use Rattle.std.proofs.lemmas.List.{length-map, length-take-le, map-append, take_more}
+use Rattle.educe_tokens.specs.Lexes.{Lexeme, lexemes}
+use Rattle.educe_tokens.specs.Quote.{quoted}
+use Rattle.educe_syntax.specs.declared.path.ExprPath.{ExprPath}
+use Rattle.educe_body.specs.declared.form.Form.{Form, Call, Call', IfReturn, Return, Block, Block', Row_of-Form, end_of-Form, more_of-Form, items-the_row-Form, items_hidden-the_row-Form-0}
+use Rattle.educe_body.specs.declared.form.Form.TheBlock.{hidden-the_row-Form-1}
+use Rattle.educe_body.specs.Printing.{comma_before, separated}
+use Rattle.educe_body.specs.Tokens.{in_round, in_curly, form_lexemes, row_lexemes, argument_lexemes, behind_comma}
+
+-- the forms that a call or a block holds
+abbrev row_of : Form → (n : Count) × Row_of-Form n
+row_of (Call' path shape row) = (_, row)
+row_of (Block' shape row) = (_, row)
+row_of _ = (_, end_of-Form)
+
+-- the tokens of the forms of a row, behind one another
+row_lexemes-items : (n : _) (row : Row_of-Form n) → row_lexemes row ≡ flat_map form_lexemes (items-the_row-Form n row)
+row_lexemes-items n end_of-Form = refl
+row_lexemes-items n (more_of-Form x rest) = ap (λ found. form_lexemes x ++ found) (row_lexemes-items _ rest)
+
+-- the tokens of the forms of a row, a comma before each
+behind_comma-items : (n : _) (row : Row_of-Form n) → behind_comma row ≡ flat_map (λ found. quoted (codes ",") ++ found) (map form_lexemes (items-the_row-Form n row))
+behind_comma-items n end_of-Form = refl
+behind_comma-items n (more_of-Form x rest) = ap (λ found. (quoted (codes ",") ++ form_lexemes x) ++ found) (behind_comma-items _ rest)
+
+-- the tokens of the forms of a row, with commas between
+argument_lexemes-items : (n : _) (row : Row_of-Form n) → argument_lexemes row ≡ separated (map form_lexemes (items-the_row-Form n row))
+argument_lexemes-items n end_of-Form = refl
+argument_lexemes-items n (more_of-Form x rest) = ap (λ found. form_lexemes x ++ found) (behind_comma-items _ rest)
+
+-- a call, by the tokens of its arguments
+pub form_lexemes-Call : (path : ExprPath) (arguments : List Form) → form_lexemes (Call path arguments) ≡ lexemes path.written.tokens ++ in_round (separated (map form_lexemes arguments))
+form_lexemes-Call path arguments =
+    let row = row_of (Call path arguments) in
+    ap (λ found. lexemes path.written.tokens ++ in_round found)
+    (argument_lexemes-items row.0 row.1 ∙ ap (λ forms. separated (map form_lexemes forms)) (items_hidden-the_row-Form-0 arguments))
+
+-- a test, by the tokens of what it holds
+pub form_lexemes-IfReturn : (test : Form) → form_lexemes (IfReturn test) ≡ quoted (codes "if") ++ form_lexemes test ++ quoted (codes "{ return false ; }")
+unfolding hidden-the_row-Form-1 hidden
+form_lexemes-IfReturn test = ap (λ found. quoted (codes "if") ++ found ++ quoted (codes "{ return false ; }")) (append-nil (form_lexemes test))
+
+pub form_lexemes-Return : (inner : Form) → form_lexemes (Return inner) ≡ quoted (codes "return") ++ form_lexemes inner ++ quoted (codes ";")
+unfolding hidden-the_row-Form-1 hidden
+form_lexemes-Return inner = ap (λ found. quoted (codes "return") ++ found ++ quoted (codes ";")) (append-nil (form_lexemes inner))
+
+-- a block, by the tokens of its forms
+pub form_lexemes-Block : (forms : List Form) → form_lexemes (Block forms) ≡ in_curly (flat_map form_lexemes forms)
+form_lexemes-Block forms =
+    let row = row_of (Block forms) in
+    ap in_curly (row_lexemes-items row.0 row.1 ∙ ap (flat_map form_lexemes) (items_hidden-the_row-Form-0 forms))
+
+-- behind the first, there is a comma
+comma_before-suc : (i : ℕ) → comma_before (suc i) ≡ quoted (codes ",")
+comma_before-suc i = cond-false (suc i == 0) [] (quoted (codes ",")) (grind (arith, nat_tests))
+
+-- one more list behind lists with commas between
+separated-last : (xs : List (List Lexeme)) (x : List Lexeme) → separated (xs ++ x ∷ []) ≡ separated xs ++ (comma_before (length xs) ++ x)
+separated-last [] x = append-nil x
+separated-last (y ∷ ys) x =
+    ap (λ found. y ++ found)
+    (flat_map-append (λ found. quoted (codes ",") ++ found) ys (x ∷ [])
+    ∙ ap (λ found. flat_map (λ found. quoted (codes ",") ++ found) ys ++ found) (append-nil (quoted (codes ",") ++ x)))
+    ∙ sym (append_assoc y (flat_map (λ found. quoted (codes ",") ++ found) ys) (quoted (codes ",") ++ x))
+    ∙ ap (λ comma. separated (y ∷ ys) ++ (comma ++ x)) (sym (comma_before-suc (length ys)))
+
+-- the forms up to one more, with commas between
+pub separated-take : (forms : List Form) (i : ℕ) (d : Form) → i < length forms → separated (map form_lexemes (take (i + 1) forms)) ≡ separated (map form_lexemes (take i forms)) ++ (comma_before i ++ form_lexemes (get_or forms i d))
+separated-take forms i d h =
+    let few : length (map form_lexemes (take i forms)) ≡ i = length-map (take i forms) form_lexemes ∙ length-take-le i forms (omega arith) in
+    ap (λ forms. separated (map form_lexemes forms)) (take_more forms i d h)
+    ∙ ap separated (map-append form_lexemes (take i forms) (get_or forms i d ∷ []))
+    ∙ separated-last (map form_lexemes (take i forms)) (form_lexemes (get_or forms i d))
+    ∙ ap (λ index. separated (map form_lexemes (take i forms)) ++ (comma_before index ++ form_lexemes (get_or forms i d))) few

@@ -1,0 +1,48 @@
+-- What a call answers.
+use Rattle.std.specs.Prelude.{Bool, true, false, not, ◌&&◌, ◌==◌, List, [], ◌∷◌, Option, Some, None, if◌then◌else◌}
+use Rattle.std.specs.Ordering.{int_eq}
+use Rattle.educe_body.specs.declared.value.FieldValue.{FieldValue}
+use Rattle.educe_body.specs.declared.answers.Callee.{Callee}
+use Rattle.educe_body.specs.declared.answers.Callee.TheVariants.{Ne}
+use Rattle.educe_body.specs.declared.answers.Answer.{Answer}
+use Rattle.educe_body.specs.declared.answers.Answer.TheVariants.{Truth}
+use Rattle.educe_body.specs.declared.answers.Row.{Row}
+use Rattle.educe_body.specs.declared.answers.Answers.{Answers}
+
+abbrev pub same_value : FieldValue → FieldValue → Bool
+same_value x y = (x.ty == y.ty) && int_eq x.number y.number
+
+abbrev pub same_argument : Option FieldValue → Option FieldValue → Bool
+same_argument None None = true
+same_argument (Some x) (Some y) = same_value x y
+same_argument None (Some y) = false
+same_argument (Some x) None = false
+
+abbrev pub same_callee : Callee → Callee → Bool
+same_callee Ne Ne = true
+
+abbrev pub row_fits : Row → Callee → Option FieldValue → Option FieldValue → Bool
+row_fits row callee x y = same_callee row.callee callee && same_argument row.first x && same_argument row.second y
+
+-- the first row with these three
+abbrev pub first_row : List Row → Callee → Option FieldValue → Option FieldValue → Option Answer
+first_row [] callee x y = None
+first_row (row ∷ rows) callee x y = if row_fits row callee x y then Some row.answer else first_row rows callee x y
+
+abbrev pub compared_numbers : Callee → FieldValue → FieldValue → Option Answer
+compared_numbers Ne x y = Some (Truth (not (int_eq x.number y.number)))
+
+-- the comparison of the numbers of two values of one type
+abbrev pub by_number_answer : Callee → Option FieldValue → Option FieldValue → Option Answer
+by_number_answer callee None y = None
+by_number_answer callee (Some x) None = None
+by_number_answer callee (Some x) (Some y) = if x.ty == y.ty then compared_numbers callee x y else None
+
+abbrev pub or_else : Option Answer → Option Answer → Option Answer
+or_else None other = other
+or_else (Some answer) other = Some answer
+
+-- the first row with these three, or else, where the table answers by number, the comparison of the numbers
+abbrev pub answer_of : Answers → Callee → Option FieldValue → Option FieldValue → Option Answer
+answer_of table callee x y =
+    or_else (first_row table.rows callee x y) (if table.by_number then by_number_answer callee x y else None)

@@ -1,0 +1,39 @@
+-- Which function a path names.
+use Rattle.std.specs.Prelude.{ℕ, Bool, ◌&&◌, List, [], ◌∷◌, map, Option, Some, None, if◌then◌else◌, chars, codes}
+use Rattle.std.specs.Borrow.{Bor}
+use Rattle.std.specs.Str.{bytes_eq}
+use Rattle.std.specs.Cmp.Lexicographic.{pointwise}
+use Rattle.educe_tokens.specs.declared.token.Token.{Token}
+use Rattle.educe_syntax.specs.declared.path.ExprPath.{ExprPath}
+use Rattle.educe_body.specs.declared.answers.Callee.{Callee}
+use Rattle.educe_body.specs.declared.answers.Callee.TheVariants.{Ne}
+
+-- the spellings of tokens; two lists are the same tokens, jointness and spans aside, where these agree
+abbrev pub spellings : List Token → List (List ℕ)
+spellings tokens = map (λ t. t.spelling) tokens
+
+-- the spellings of the path of these words, each behind `::`
+abbrev pub path_of : List (List ℕ) → List (List ℕ)
+path_of [] = []
+path_of (word ∷ words) = codes ":" ∷ codes ":" ∷ word ∷ path_of words
+
+-- `:: core :: cmp :: PartialEq :: ne`
+abbrev pub ne_path : List (List ℕ)
+ne_path = path_of (codes "core" ∷ codes "cmp" ∷ codes "PartialEq" ∷ codes "ne" ∷ [])
+
+-- the function that a path of these spellings names, if it is built in
+unfoldable pub callee_named : List (List ℕ) → Option Callee
+callee_named path = if pointwise bytes_eq path ne_path then Some Ne else None
+
+abbrev pub callee_of : ExprPath → Option Callee
+callee_of path = callee_named (spellings path.written.tokens)
+
+-- the tokens are spelled `::` and the word
+abbrev pub segment_is : Token → Token → Token → List ℕ → Bool
+segment_is first second name word = bytes_eq first.spelling (codes ":") && bytes_eq second.spelling (codes ":") && bytes_eq name.spelling word
+
+-- the function of the first path of a table that has these spellings
+unfoldable pub first_named : List (List (Bor (List ℕ)) × Callee) → List (List ℕ) → Option Callee
+first_named [] path = None
+first_named (known ∷ more) path =
+    if pointwise bytes_eq path (path_of (map (λ word. chars word.now) known.0)) then Some known.1 else first_named more path

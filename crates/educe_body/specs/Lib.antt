@@ -1,0 +1,6 @@
+pub mod Answering
+pub mod Callees
+pub mod Meaning
+pub mod Tokens
+pub mod BuiltIn
+pub mod Printing

@@ -1,0 +1,108 @@
+-- The tokens of items, spans aside: one equation for each form.
+use Rattle.std.specs.Prelude.{ℕ, true, false, List, [], ◌∷◌, ◌++◌, if◌then◌else◌, codes}
+use Rattle.std.specs.List.{flat_map}
+use Rattle.std.specs.Str.{bytes_eq}
+use Rattle.educe_tokens.specs.declared.token.TokenKind.TheVariants as kind
+use Rattle.educe_tokens.specs.declared.word.Word.{Word}
+use Rattle.educe_tokens.specs.Lexes.{Lexeme, lexemes}
+use Rattle.educe_tokens.specs.Quote.{quoted, word_lexeme}
+use Rattle.educe_tokens.specs.Text.{text_of}
+use Rattle.educe_syntax.specs.declared.ident.Ident.{Ident}
+use Rattle.educe_syntax.specs.declared.traits.Trait.{Trait}
+use Rattle.educe_syntax.specs.declared.traits.Trait.TheVariants.{PartialEq}
+use Rattle.educe_body.specs.declared.form.Known.{Known}
+use Rattle.educe_body.specs.declared.form.Known.TheVariants.{Truth}
+use Rattle.educe_body.specs.declared.form.Form.{Form, Local, Reference, Call', IfReturn', Return', Block', Row_of-Form, end_of-Form, more_of-Form}
+use Rattle.educe_body.specs.declared.form.Form as form
+use Rattle.educe_body.specs.declared.body.Function.{Function}
+use Rattle.educe_body.specs.declared.body.ImplItem.{ImplItem}
+use Rattle.educe_body.specs.declared.body.Item.{Item}
+use Rattle.educe_body.specs.declared.body.Item.TheVariants.{Impl}
+
+-- ---- parts
+
+abbrev pub ident_lexeme : Ident → Lexeme
+ident_lexeme ident = record { kind = kind.Ident; spelling = ident.text }
+
+-- tokens in round brackets
+abbrev pub in_round : List Lexeme → List Lexeme
+in_round inside = quoted (codes "(") ++ inside ++ quoted (codes ")")
+
+-- tokens in curly brackets
+abbrev pub in_curly : List Lexeme → List Lexeme
+in_curly inside = quoted (codes "{") ++ inside ++ quoted (codes "}")
+
+-- ---- forms
+
+abbrev pub known_lexemes : Known → List Lexeme
+known_lexemes (Truth true) = quoted (codes "true")
+known_lexemes (Truth false) = quoted (codes "false")
+
+abbrev mutual
+  -- the tokens of one form
+  pub form_lexemes : Form → List Lexeme
+  form_lexemes (Local name) = ident_lexeme name ∷ []
+  form_lexemes (form.Known known) = known_lexemes known
+  form_lexemes (Reference base field) = quoted (codes "&") ++ ident_lexeme base ∷ quoted (codes ".") ++ word_lexeme field.text ∷ []
+  form_lexemes (Call' path shape arguments) = lexemes path.written.tokens ++ in_round (argument_lexemes arguments)
+  form_lexemes (IfReturn' shape test) = quoted (codes "if") ++ row_lexemes test ++ quoted (codes "{ return false ; }")
+  form_lexemes (Return' shape inner) = quoted (codes "return") ++ row_lexemes inner ++ quoted (codes ";")
+  form_lexemes (Block' shape forms) = in_curly (row_lexemes forms)
+
+  -- forms behind one another
+  pub row_lexemes : {m : _} → Row_of-Form m → List Lexeme
+  row_lexemes end_of-Form = []
+  row_lexemes (more_of-Form x rest) = form_lexemes x ++ row_lexemes rest
+
+  -- forms with commas between
+  pub argument_lexemes : {m : _} → Row_of-Form m → List Lexeme
+  argument_lexemes end_of-Form = []
+  argument_lexemes (more_of-Form x rest) = form_lexemes x ++ behind_comma rest
+
+  -- a comma before each form
+  pub behind_comma : {m : _} → Row_of-Form m → List Lexeme
+  behind_comma end_of-Form = []
+  behind_comma (more_of-Form x rest) = quoted (codes ",") ++ form_lexemes x ++ behind_comma rest
+
+-- ---- functions and items
+
+-- the names that there are, as tokens
+abbrev pub name_lexemes : List Word → List Lexeme
+name_lexemes [] = []
+name_lexemes (name ∷ more) = word_lexeme name.text ∷ []
+
+-- `fn eq ( & self , other : & Self ) -> :: core :: primitive :: bool`
+abbrev pub eq_head : List Word → List Lexeme
+eq_head params =
+    quoted (codes "fn eq") ++ in_round (quoted (codes "& self ,") ++ name_lexemes params ++ quoted (codes ": & Self"))
+    ++ quoted (codes "-> :: core :: primitive :: bool")
+
+-- a function of a name that the trait does not have has no parameters and no result
+abbrev pub other_head : Word → List Lexeme
+other_head name = quoted (codes "fn") ++ word_lexeme name.text ∷ quoted (codes "( )")
+
+abbrev pub function_head : Trait → Function → List Lexeme
+function_head PartialEq f = if bytes_eq f.name.text (codes "eq") then eq_head f.body.params else other_head f.name
+
+abbrev pub function_lexemes : Trait → Function → List Lexeme
+function_lexemes which f = function_head which f ++ in_curly (flat_map form_lexemes f.body.block)
+
+-- the path of a trait
+abbrev pub trait_path : Trait → List Lexeme
+trait_path PartialEq = quoted (codes ":: core :: cmp :: PartialEq")
+
+abbrev pub impl_lexemes : ImplItem → List Lexeme
+impl_lexemes item =
+    lexemes item.attributes.tokens ++ quoted (codes "impl") ++ trait_path item.which ++ quoted (codes "for") ++ ident_lexeme item.ident
+    ∷ in_curly (flat_map (function_lexemes item.which) item.functions)
+
+abbrev pub item_lexemes : Item → List Lexeme
+item_lexemes (Impl item) = impl_lexemes item
+
+-- the tokens of items, in order
+abbrev pub tokens_of : List Item → List Lexeme
+tokens_of items = flat_map item_lexemes items
+
+-- the text of items: that of each, and a line feed
+abbrev pub spelling : List Item → List ℕ
+spelling items = flat_map (λ item. text_of (item_lexemes item) ++ 10 ∷ []) items

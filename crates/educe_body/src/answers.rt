@@ -1,0 +1,88 @@
+//! The table that says what calls answer.
+ghost use Rattle.std.specs.Prelude.{◌≡◌};
+ghost use Rattle.educe_body.specs.Answering.{answer_of, row_fits, by_number_answer};
+
+use crate::value::FieldValue;
+use educe_tokens::Seq;
+
+/// What is called.
+#[derive(Clone, Copy, Debug, PartialEq, Eq)]
+pub enum Callee {
+    /// `PartialEq::ne`
+    Ne,
+}
+
+/// What a call answers.
+#[derive(Clone, Copy, Debug, PartialEq, Eq)]
+pub enum Answer {
+    Truth(bool),
+}
+
+/// What a call of these arguments answers.
+#[derive(Clone, Copy, Debug, PartialEq, Eq)]
+pub struct Row {
+    pub callee: Callee,
+    pub first: Option<FieldValue>,
+    pub second: Option<FieldValue>,
+    pub answer: Answer,
+}
+
+/// Rows in their order.
+pub type Rows = Seq<Row>;
+
+/// A table of answers. Where no row fits, `by_number` has the numbers of two values of one type compared.
+#[derive(Drop)]
+pub struct Answers {
+    pub rows: Rows,
+    pub by_number: bool,
+}
+
+impl Answers {
+    /// The answer of the first row with these three; without one, where the table answers by
+    /// number, the comparison of the numbers of two values of one type.
+    pub fn answer(
+        &self,
+        callee: &Callee,
+        first: Option<FieldValue>,
+        second: Option<FieldValue>,
+    ) -> Option<Answer>
+        ensures { result ≡ answer_of self.now callee.now first second }
+    {
+        for row in self.rows.as_slice() {
+            if fits(row, callee, first, second) {
+                return Some(row.answer);
+            }
+        }
+        if self.by_number {
+            by_number(callee, first, second)
+        } else {
+            None
+        }
+    }
+}
+
+fn fits(row: &Row, callee: &Callee, first: Option<FieldValue>, second: Option<FieldValue>) -> bool
+    ensures { result ≡ row_fits row.now callee.now first second }
+{
+    row.callee == *callee && row.first == first && row.second == second
+}
+
+fn by_number(
+    callee: &Callee,
+    first: Option<FieldValue>,
+    second: Option<FieldValue>,
+) -> Option<Answer>
+    ensures { result ≡ by_number_answer callee.now first second }
+{
+    match (first, second) {
+        (Some(x), Some(y)) => {
+            if x.ty != y.ty {
+                return None;
+            }
+            match callee {
+                Callee::Ne => Some(Answer::Truth(x.number != y.number)),
+            }
+        }
+        _ => None,
+    }
+}

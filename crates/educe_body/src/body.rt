@@ -1,0 +1,42 @@
+//! Functions and the items that hold them.
+use crate::form::Forms;
+use educe_syntax::{Ident, Trait};
+use educe_tokens::{Seq, Word, Written};
+
+/// Names in their order.
+pub type Names = Seq<Word>;
+
+/// The parameters of a function behind `self`, and its forms.
+#[derive(Drop)]
+pub struct Body {
+    pub params: Names,
+    pub block: Forms,
+}
+
+/// A function of an item.
+#[derive(Drop)]
+pub struct Function {
+    pub name: Word,
+    pub body: Body,
+}
+
+/// Functions in their order.
+pub type Functions = Seq<Function>;
+
+/// The implementation of a trait for the type of this name, behind its attributes.
+#[derive(Drop)]
+pub struct ImplItem {
+    pub which: Trait,
+    pub attributes: Written,
+    pub ident: Ident,
+    pub functions: Functions,
+}
+
+/// An item that is printed.
+#[derive(Drop)]
+pub enum Item {
+    Impl(ImplItem),
+}
+
+/// Items in the order in which they are printed.
+pub type Items = Seq<Item>;

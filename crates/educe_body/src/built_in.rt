@@ -1,0 +1,59 @@
+//! The paths of the functions that are built in.
+ghost use Rattle.std.specs.Prelude.{◌≡◌, IfOk, IsTrue, true, map, codes, [], ◌∷◌};
+ghost use Rattle.educe_tokens.specs.Lexes.{lexemes};
+ghost use Rattle.educe_tokens.specs.Quote.{is_ascii_name};
+ghost use Rattle.educe_body.specs.BuiltIn.{path_lexemes, path_names};
+
+use crate::answers::Callee;
+use educe_syntax::{Args, ExprPath, Ident, Path, Segment, Segments};
+use educe_tokens::{Seq, Written};
+use std::alloc::{AllocError, Global};
+
+/// A segment without arguments.
+fn segment(alloc: Global, name: &str) -> Result<Segment, AllocError>
+    requires { IsTrue (is_ascii_name name.now) }
+    ensures { IfOk result (λ segment. segment.ident.text ≡ name.now) }
+{
+    let ident = Ident::from_name(alloc, name)?;
+    Ok(Segment {
+        ident,
+        args: Args::None,
+    })
+}
+
+/// The segments of a function of a comparison trait of the core library.
+fn comparison_segments(alloc: Global, which: &str, function: &str) -> Result<Segments, AllocError>
+    requires which { IsTrue (is_ascii_name which.now) }
+    requires function { IsTrue (is_ascii_name function.now) }
+    ensures { IfOk result (λ segments. map (λ s. s.ident.text) segments ≡ codes "core" ∷ codes "cmp" ∷ which.now ∷ function.now ∷ []) }
+{
+    let mut segments = Seq::new(alloc);
+    segments.push(segment(alloc, "core")?)?;
+    segments.push(segment(alloc, "cmp")?)?;
+    segments.push(segment(alloc, which)?)?;
+    segments.push(segment(alloc, function)?)?;
+    Ok(segments)
+}
+
+/// The path by which generated code calls a function that is built in.
+#[tactic(auto, unfolding(educe_tokens::specs::Quote::quoted))]
+pub fn built_in_path(alloc: Global, callee: &Callee) -> Result<ExprPath, AllocError>
+    ensures tokens { IfOk result (λ path. lexemes path.written.tokens ≡ path_lexemes callee.now) }
+    ensures leading { IfOk result (λ path. path.path.leading ≡ true) }
+    ensures names { IfOk result (λ path. map (λ s. s.ident.text) path.path.segments ≡ path_names callee.now) }
+{
+    match callee {
+        Callee::Ne => {
+            let segments = comparison_segments(alloc, "PartialEq", "ne")?;
+            let written = Written::from_template(alloc, ":: core :: cmp :: PartialEq :: ne")?;
+            Ok(ExprPath {
+                self_type: None,
+                path: Path {
+                    leading: true,
+                    segments,
+                },
+                written,
+            })
+        }
+    }
+}

@@ -1,0 +1,317 @@
+//! The evaluator.
+ghost use Rattle.std.specs.Prelude.{◌≡◌, map, IfOk};
+ghost use Rattle.std.specs.Option.{option_copied};
+ghost use Rattle.std.specs.Str.{bytes_eq};
+ghost use Rattle.educe_syntax.specs.Built.{name_of};
+ghost use Rattle.educe_body.specs.Meaning.{scene, value, outcome_of, bindings_of, look_up, list_value, form_value, call_value, answer_flow, with_part, if_return, return_of, reference_value, local_value, field_of, part_of, whole_value, known_thing};
+ghost use Rattle.educe_body.specs.Answering.{answer_of};
+
+use crate::answers::{Answer, Answers, Callee};
+use crate::body::{Body, Names};
+use crate::callee::callee_of;
+use crate::form::{Form, Forms, Known};
+use crate::text::is_text;
+use crate::value::{FieldValue, Value};
+use educe_syntax::{DeriveInput, ExprPath, Field, Shape};
+use educe_tokens::{Seq, Spelling};
+use std::alloc::{AllocError, Global};
+
+/// What a body is evaluated over: the definition, and the values of `self` and of the parameter.
+pub struct Scope<'a> {
+    pub ast: &'a DeriveInput,
+    pub this: Option<&'a Value>,
+    pub other: Option<&'a Value>,
+}
+
+/// What a body evaluates to.
+#[derive(Clone, Copy, Debug, PartialEq, Eq)]
+pub enum Outcome {
+    Truth(bool),
+    /// There is no value.
+    Stuck,
+}
+
+/// What a name stands for.
+#[derive(Clone, Copy, Debug, PartialEq, Eq)]
+pub enum Referent {
+    /// The value of `self`.
+    This,
+    /// The value of the parameter.
+    Other,
+}
+
+/// A name and what it stands for.
+#[derive(Drop)]
+pub struct Binding {
+    pub name: Spelling,
+    pub referent: Referent,
+}
+
+/// Bindings, the innermost last.
+pub type Bindings = Seq<Binding>;
+
+/// What a form gives.
+#[derive(Clone, Copy, Debug, PartialEq, Eq)]
+pub enum Thing {
+    Nothing,
+    Truth(bool),
+    Part(FieldValue),
+}
+
+/// How the evaluation of a form ends.
+#[derive(Clone, Copy, Debug, PartialEq, Eq)]
+pub enum Flow {
+    Gives(Thing),
+    Returns(Thing),
+    Stuck,
+}
+
+/// What a body evaluates to over a definition, two values and a table: what it returns, or the
+/// value of its last form; `Stuck` where a name stands for nothing, a value has no such field, a
+/// path names no built-in function or the table has no answer.
+pub fn eval(
+    alloc: Global,
+    body: &Body,
+    scope: &Scope,
+    answers: &Answers,
+) -> Result<Outcome, AllocError>
+    ensures { IfOk result (λ outcome. outcome ≡ value body.now (scene scope.now answers.now)) }
+{
+    let names = start(alloc, &body.params)?;
+    Ok(ended(run_block(&body.block, names.as_slice(), scope, answers)))
+}
+
+/// `self`, and the first parameter where there is one.
+fn start(alloc: Global, params: &Names) -> Result<Bindings, AllocError>
+    ensures { IfOk result (λ names. names ≡ bindings_of params.now) }
+{
+    let mut names = Seq::new(alloc);
+    names.push(Binding {
+        name: Spelling::from_str(alloc, "self")?,
+        referent: Referent::This,
+    })?;
+    let Some(param) = params.get(0) else {
+        return Ok(names);
+    };
+    names.push(Binding {
+        name: param.text.duplicate(alloc)?,
+        referent: Referent::Other,
+    })?;
+    Ok(names)
+}
+
+fn ended(flow: Flow) -> Outcome
+    ensures { result ≡ outcome_of flow }
+{
+    match flow {
+        Flow::Gives(Thing::Truth(b)) | Flow::Returns(Thing::Truth(b)) => Outcome::Truth(b),
+        _ => Outcome::Stuck,
+    }
+}
+
+#[cycle(run)]
+fn run_block(forms: &Forms, names: &[Binding], scope: &Scope, answers: &Answers) -> Flow
+    ensures { result ≡ list_value (scene scope.now answers.now) names.now Thing.Nothing forms.now }
+{
+    let mut last = Thing::Nothing;
+    for form in forms.as_slice() {
+        match run_form(form, names, scope, answers) {
+            Flow::Gives(thing) => last = thing,
+            end => return end,
+        }
+    }
+    Flow::Gives(last)
+}
+
+#[cycle(run)]
+fn run_form(form: &Form, names: &[Binding], scope: &Scope, answers: &Answers) -> Flow
+    ensures { result ≡ form_value (scene scope.now answers.now) names.now form.now }
+{
+    match form {
+        Form::Local(name) => local(scope, find(names, &name.text)),
+        Form::Known(known) => Flow::Gives(known_value(*known)),
+        Form::Reference(base, field) => reference(scope, find(names, &base.text), &field.text),
+        Form::Call(path, args) => run_call(path, args, names, scope, answers),
+        Form::IfReturn(test) => end_if(run_form(test.get(), names, scope, answers)),
+        Form::Return(inner) => returned(run_form(inner.get(), names, scope, answers)),
+        Form::Block(forms) => run_block(forms, names, scope, answers),
+    }
+}
+
+#[cycle(run)]
+fn run_call(
+    path: &ExprPath,
+    args: &Forms,
+    names: &[Binding],
+    scope: &Scope,
+    answers: &Answers,
+) -> Flow
+    ensures { let here = scene scope.now answers.now in
+        result ≡ call_value here path.now (map (form_value here names.now) args.now) }
+{
+    let Some(callee) = callee_of(path) else {
+        return Flow::Stuck;
+    };
+    let args = args.as_slice();
+    match args.len() {
+        0 => answer(&callee, None, None, answers),
+        1 => call_one(&callee, run_form(&args[0], names, scope, answers), answers),
+        2 => {
+            let first = run_form(&args[0], names, scope, answers);
+            let second = run_form(&args[1], names, scope, answers);
+            call_two(&callee, first, second, answers)
+        }
+        _ => Flow::Stuck,
+    }
+}
+
+fn call_one(callee: &Callee, first: Flow, answers: &Answers) -> Flow
+    ensures { result ≡ with_part first (λ x. answer_flow (answer_of answers.now callee.now (Some x) None)) }
+{
+    match first {
+        Flow::Gives(Thing::Part(x)) => answer(callee, Some(x), None, answers),
+        Flow::Gives(_) => Flow::Stuck,
+        end => end,
+    }
+}
+
+fn call_two(callee: &Callee, first: Flow, second: Flow, answers: &Answers) -> Flow
+    ensures { result ≡ with_part first (λ x. with_part second (λ y.
+        answer_flow (answer_of answers.now callee.now (Some x) (Some y)))) }
+{
+    match (first, second) {
+        (Flow::Gives(Thing::Part(x)), Flow::Gives(Thing::Part(y))) => {
+            answer(callee, Some(x), Some(y), answers)
+        }
+        (Flow::Gives(Thing::Part(_)), Flow::Returns(thing)) => Flow::Returns(thing),
+        (Flow::Returns(thing), _) => Flow::Returns(thing),
+        _ => Flow::Stuck,
+    }
+}
+
+fn answer(
+    callee: &Callee,
+    first: Option<FieldValue>,
+    second: Option<FieldValue>,
+    answers: &Answers,
+) -> Flow
+    ensures { result ≡ answer_flow (answer_of answers.now callee.now first second) }
+{
+    match answers.answer(callee, first, second) {
+        Some(Answer::Truth(b)) => Flow::Gives(Thing::Truth(b)),
+        None => Flow::Stuck,
+    }
+}
+
+fn end_if(test: Flow) -> Flow
+    ensures { result ≡ if_return test }
+{
+    match test {
+        Flow::Gives(Thing::Truth(true)) => Flow::Returns(Thing::Truth(false)),
+        Flow::Gives(Thing::Truth(false)) => Flow::Gives(Thing::Nothing),
+        Flow::Gives(_) => Flow::Stuck,
+        end => end,
+    }
+}
+
+fn returned(inner: Flow) -> Flow
+    ensures { result ≡ return_of inner }
+{
+    match inner {
+        Flow::Gives(thing) => Flow::Returns(thing),
+        end => end,
+    }
+}
+
+fn known_value(known: Known) -> Thing
+    ensures { result ≡ known_thing known }
+{
+    match known {
+        Known::Truth(b) => Thing::Truth(b),
+    }
+}
+
+/// What a name stands for: the innermost binding, which is the last, counts.
+fn find(names: &[Binding], name: &Spelling) -> Option<Referent>
+    ensures { result ≡ look_up names.now name.now }
+{
+    let mut found = None;
+    for binding in names {
+        if is_text(&binding.name, name.as_str()) {
+            found = Some(binding.referent);
+        }
+    }
+    found
+}
+
+/// The value that a name stands for, as a table is shown it.
+fn local(scope: &Scope, found: Option<Referent>) -> Flow
+    ensures { (answers : _) → result ≡ local_value (scene scope.now answers) found }
+{
+    match found {
+        None => Flow::Stuck,
+        Some(Referent::This) => whole(scope.this),
+        Some(Referent::Other) => whole(scope.other),
+    }
+}
+
+/// A whole value, as a table is shown it.
+fn whole(value: Option<&Value>) -> Flow
+    ensures { result ≡ whole_value (option_copied value.entry) }
+{
+    match value {
+        None => Flow::Stuck,
+        Some(value) => Flow::Gives(Thing::Part(FieldValue {
+            ty: u32::MAX,
+            number: value.variant as i128,
+        })),
+    }
+}
+
+/// The field of the value that a base stands for.
+fn reference(scope: &Scope, base: Option<Referent>, name: &Spelling) -> Flow
+    ensures { (answers : _) → result ≡ reference_value (scene scope.now answers) base name.now }
+{
+    match base {
+        None => Flow::Stuck,
+        Some(Referent::This) => field(scope, scope.this, name),
+        Some(Referent::Other) => field(scope, scope.other, name),
+    }
+}
+
+/// The value of a field of a value, where there is one.
+fn field(scope: &Scope, value: Option<&Value>, name: &Spelling) -> Flow
+    ensures { (answers : _) → result ≡ field_of (scene scope.now answers) (option_copied value.entry) name.now }
+{
+    let Some(value) = value else {
+        return Flow::Stuck;
+    };
+    match &scope.ast.shape {
+        Shape::Struct(shape) => part(shape.fields.as_slice(), value.fields.as_slice(), name),
+    }
+}
+
+/// The value at the place of the first field of that name.
+fn part(fields: &[Field], values: &[FieldValue], name: &Spelling) -> Flow
+    ensures { result ≡ part_of fields.now values.now name.now }
+{
+    for (i, field) in fields.iter().enumerate() {
+        if is_named(field, name) {
+            if i < values.len() {
+                return Flow::Gives(Thing::Part(values[i]));
+            }
+            return Flow::Stuck;
+        }
+    }
+    Flow::Stuck
+}
+
+/// Whether a field has this name; the name of a field without one is the empty text.
+fn is_named(field: &Field, name: &Spelling) -> bool
+    ensures { result ≡ bytes_eq (name_of field.now) name.now }
+{
+    match &field.ident {
+        Some(ident) => is_text(&ident.text, name.as_str()),
+        None => is_text(name, ""),
+    }
+}

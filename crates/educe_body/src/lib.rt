@@ -1,0 +1,23 @@
+//! The bodies and items that are printed, what they are printed as, and what they evaluate to.
+#![tactic(auto)]
+
+mod answers;
+mod body;
+mod built_in;
+mod callee;
+mod evaluator;
+mod form;
+mod print;
+mod print_items;
+mod speller;
+mod text;
+mod value;
+
+pub use answers::{Answer, Answers, Callee, Row, Rows};
+pub use body::{Body, Function, Functions, ImplItem, Item, Items, Names};
+pub use built_in::built_in_path;
+pub use callee::callee_of;
+pub use evaluator::{Outcome, Scope, eval};
+pub use form::{Form, Forms, Known};
+pub use speller::spell;
+pub use value::{FieldValue, FieldValues, Value};

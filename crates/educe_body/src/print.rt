@@ -1,0 +1,144 @@
+//! The tokens of forms.
+ghost use Rattle.std.specs.Prelude.{◌≡◌, OnOk, map};
+ghost use Rattle.std.specs.List.{flat_map};
+ghost use Rattle.educe_tokens.specs.Appends.{Appends, HasPrefix};
+ghost use Rattle.educe_body.specs.Printing.{comma_before, separated};
+ghost use Rattle.educe_body.specs.Tokens.{in_curly, known_lexemes, form_lexemes};
+
+use crate::form::{Form, Forms, Known};
+use educe_syntax::{ExprPath, Ident};
+use educe_tokens::{TokenStream, Word, append, push_word, quote};
+use std::alloc::{AllocError, Global};
+
+impl Known {
+    /// Appends `true` or `false`.
+    pub fn to_tokens(&self, alloc: Global, tokens: &mut TokenStream) -> Result<(), AllocError>
+        ensures ok { OnOk result (Appends (known_lexemes self.now) tokens.old tokens.new) }
+        ensures prefix { HasPrefix tokens.old tokens.new }
+    {
+        match self {
+            Known::Truth(true) => quote(alloc, tokens, "true"),
+            Known::Truth(false) => quote(alloc, tokens, "false"),
+        }
+    }
+}
+
+impl Form {
+    /// Appends the tokens of the form.
+    #[cycle(print)]
+    pub fn to_tokens(&self, alloc: Global, tokens: &mut TokenStream) -> Result<(), AllocError>
+        ensures ok { OnOk result (Appends (form_lexemes self.now) tokens.old tokens.new) }
+        ensures prefix { HasPrefix tokens.old tokens.new }
+    {
+        match self {
+            Form::Local(name) => name.to_tokens(alloc, tokens),
+            Form::Known(known) => known.to_tokens(alloc, tokens),
+            Form::Reference(base, field) => push_reference(alloc, tokens, base, field),
+            Form::Call(path, arguments) => push_call(alloc, tokens, path, arguments),
+            Form::IfReturn(test) => {
+                quote(alloc, tokens, "if")?;
+                test.get().to_tokens(alloc, tokens)?;
+                quote(alloc, tokens, "{ return false ; }")
+            }
+            Form::Return(inner) => {
+                quote(alloc, tokens, "return")?;
+                inner.get().to_tokens(alloc, tokens)?;
+                quote(alloc, tokens, ";")
+            }
+            Form::Block(forms) => push_block(alloc, tokens, forms),
+        }
+    }
+}
+
+/// Appends a reference to a field.
+fn push_reference(
+    alloc: Global,
+    tokens: &mut TokenStream,
+    base: &Ident,
+    field: &Word,
+) -> Result<(), AllocError>
+    ensures ok { let form = Form.Reference base.now field.now in
+        OnOk result (Appends (form_lexemes form) tokens.old tokens.new) }
+    ensures prefix { HasPrefix tokens.old tokens.new }
+{
+    quote(alloc, tokens, "&")?;
+    base.to_tokens(alloc, tokens)?;
+    quote(alloc, tokens, ".")?;
+    push_word(alloc, tokens, field)
+}
+
+/// Appends a call.
+#[cycle(print)]
+fn push_call(
+    alloc: Global,
+    tokens: &mut TokenStream,
+    path: &ExprPath,
+    arguments: &Forms,
+) -> Result<(), AllocError>
+    ensures ok { let form = Form.Call path.now arguments.now in
+        OnOk result (Appends (form_lexemes form) tokens.old tokens.new) }
+    ensures prefix { HasPrefix tokens.old tokens.new }
+{
+    append(alloc, tokens, &path.written.tokens)?;
+    quote(alloc, tokens, "(")?;
+    push_arguments(alloc, tokens, arguments)?;
+    quote(alloc, tokens, ")")
+}
+
+/// Appends forms with commas between.
+#[cycle(print)]
+fn push_arguments(
+    alloc: Global,
+    tokens: &mut TokenStream,
+    arguments: &Forms,
+) -> Result<(), AllocError>
+    ensures ok { let found = separated (map form_lexemes arguments.now) in
+        OnOk result (Appends found tokens.old tokens.new) }
+    ensures prefix { HasPrefix tokens.old tokens.new }
+{
+    for (i, form) in arguments.as_slice().iter().enumerate() {
+        push_comma(alloc, tokens, i)?;
+        form.to_tokens(alloc, tokens)?;
+    }
+    Ok(())
+}
+
+/// Appends a comma before the item at an index, but none before the first.
+fn push_comma(alloc: Global, tokens: &mut TokenStream, index: usize) -> Result<(), AllocError>
+    ensures ok { OnOk result (Appends (comma_before index) tokens.old tokens.new) }
+    ensures prefix { HasPrefix tokens.old tokens.new }
+{
+    if index == 0 {
+        Ok(())
+    } else {
+        quote(alloc, tokens, ",")
+    }
+}
+
+/// Appends forms in curly brackets.
+#[cycle(print)]
+pub(crate) fn push_block(
+    alloc: Global,
+    tokens: &mut TokenStream,
+    forms: &Forms,
+) -> Result<(), AllocError>
+    ensures ok { let found = in_curly (flat_map form_lexemes forms.now) in
+        OnOk result (Appends found tokens.old tokens.new) }
+    ensures prefix { HasPrefix tokens.old tokens.new }
+{
+    quote(alloc, tokens, "{")?;
+    push_forms(alloc, tokens, forms)?;
+    quote(alloc, tokens, "}")
+}
+
+/// Appends forms behind one another.
+#[cycle(print)]
+fn push_forms(alloc: Global, tokens: &mut TokenStream, forms: &Forms) -> Result<(), AllocError>
+    ensures ok { OnOk result (Appends (flat_map form_lexemes forms.now) tokens.old tokens.new) }
+    ensures prefix { HasPrefix tokens.old tokens.new }
+{
+    for form in forms.as_slice() {
+        form.to_tokens(alloc, tokens)?;
+    }
+    Ok(())
+}

@@ -1,0 +1,166 @@
+//! The tokens of functions and items.
+ghost use Rattle.std.specs.Prelude.{◌≡◌, ◌++◌, OnOk, codes};
+ghost use Rattle.std.specs.List.{flat_map};
+ghost use Rattle.educe_tokens.specs.Lexes.{lexemes};
+ghost use Rattle.educe_tokens.specs.Quote.{quoted};
+ghost use Rattle.educe_tokens.specs.Appends.{Appends, HasPrefix};
+ghost use Rattle.educe_body.specs.Tokens.{in_round, name_lexemes, eq_head, other_head, function_head, function_lexemes, trait_path, impl_lexemes, item_lexemes};
+
+use crate::body::{Function, Functions, ImplItem, Item, Names};
+use crate::print::push_block;
+use educe_syntax::Trait;
+use educe_tokens::{TokenStream, Word, append, push_word, quote};
+use std::alloc::{AllocError, Global};
+
+impl Function {
+    /// Appends the tokens of the function, as a function of this trait.
+    pub fn to_tokens(
+        &self,
+        alloc: Global,
+        tokens: &mut TokenStream,
+        which: Trait,
+    ) -> Result<(), AllocError>
+        ensures ok { OnOk result (Appends (function_lexemes which self.now) tokens.old tokens.new) }
+        ensures prefix { HasPrefix tokens.old tokens.new }
+    {
+        self.push_head(alloc, tokens, which)?;
+        push_block(alloc, tokens, &self.body.block)
+    }
+
+    /// Appends what stands before the block.
+    fn push_head(
+        &self,
+        alloc: Global,
+        tokens: &mut TokenStream,
+        which: Trait,
+    ) -> Result<(), AllocError>
+        ensures ok { OnOk result (Appends (function_head which self.now) tokens.old tokens.new) }
+        ensures prefix { HasPrefix tokens.old tokens.new }
+    {
+        match which {
+            Trait::PartialEq => {
+                if self.name.text.is("eq") {
+                    push_eq_head(alloc, tokens, &self.body.params)
+                } else {
+                    push_other_head(alloc, tokens, &self.name)
+                }
+            }
+        }
+    }
+}
+
+/// Appends the head of `eq`.
+fn push_eq_head(alloc: Global, tokens: &mut TokenStream, params: &Names) -> Result<(), AllocError>
+    ensures ok { OnOk result (Appends (eq_head params.now) tokens.old tokens.new) }
+    ensures prefix { HasPrefix tokens.old tokens.new }
+{
+    quote(alloc, tokens, "fn eq")?;
+    push_parameters(alloc, tokens, params)?;
+    quote(alloc, tokens, "-> :: core :: primitive :: bool")
+}
+
+/// Appends the parameters of `eq` in round brackets.
+fn push_parameters(
+    alloc: Global,
+    tokens: &mut TokenStream,
+    params: &Names,
+) -> Result<(), AllocError>
+    ensures ok { let name = name_lexemes params.now in
+        let inside = quoted (codes "& self ,") ++ name ++ quoted (codes ": & Self") in
+        OnOk result (Appends (in_round inside) tokens.old tokens.new) }
+    ensures prefix { HasPrefix tokens.old tokens.new }
+{
+    quote(alloc, tokens, "(")?;
+    quote(alloc, tokens, "& self ,")?;
+    push_first(alloc, tokens, params)?;
+    quote(alloc, tokens, ": & Self")?;
+    quote(alloc, tokens, ")")
+}
+
+/// Appends the head of a function that the trait does not have.
+fn push_other_head(alloc: Global, tokens: &mut TokenStream, name: &Word) -> Result<(), AllocError>
+    ensures ok { OnOk result (Appends (other_head name.now) tokens.old tokens.new) }
+    ensures prefix { HasPrefix tokens.old tokens.new }
+{
+    quote(alloc, tokens, "fn")?;
+    push_word(alloc, tokens, name)?;
+    quote(alloc, tokens, "( )")
+}
+
+/// Appends the first name, if there is one.
+fn push_first(alloc: Global, tokens: &mut TokenStream, names: &Names) -> Result<(), AllocError>
+    ensures ok { OnOk result (Appends (name_lexemes names.now) tokens.old tokens.new) }
+    ensures prefix { HasPrefix tokens.old tokens.new }
+{
+    match names.get(0) {
+        Some(name) => push_word(alloc, tokens, name),
+        None => Ok(()),
+    }
+}
+
+/// Appends the path of a trait.
+fn push_trait(alloc: Global, tokens: &mut TokenStream, which: Trait) -> Result<(), AllocError>
+    ensures ok { OnOk result (Appends (trait_path which) tokens.old tokens.new) }
+    ensures prefix { HasPrefix tokens.old tokens.new }
+{
+    match which {
+        Trait::PartialEq => quote(alloc, tokens, ":: core :: cmp :: PartialEq"),
+    }
+}
+
+/// Appends functions behind one another.
+fn push_functions(
+    alloc: Global,
+    tokens: &mut TokenStream,
+    which: Trait,
+    functions: &Functions,
+) -> Result<(), AllocError>
+    ensures ok { let found = flat_map (function_lexemes which) functions.now in
+        OnOk result (Appends found tokens.old tokens.new) }
+    ensures prefix { HasPrefix tokens.old tokens.new }
+{
+    for function in functions.as_slice() {
+        function.to_tokens(alloc, tokens, which)?;
+    }
+    Ok(())
+}
+
+impl ImplItem {
+    /// Appends the tokens of the implementation, its attributes first.
+    pub fn to_tokens(&self, alloc: Global, tokens: &mut TokenStream) -> Result<(), AllocError>
+        ensures ok { OnOk result (Appends (impl_lexemes self.now) tokens.old tokens.new) }
+        ensures prefix { HasPrefix tokens.old tokens.new }
+    {
+        self.push_head(alloc, tokens)?;
+        self.ident.to_tokens(alloc, tokens)?;
+        quote(alloc, tokens, "{")?;
+        push_functions(alloc, tokens, self.which, &self.functions)?;
+        quote(alloc, tokens, "}")
+    }
+
+    /// Appends what stands before the name of the type.
+    fn push_head(&self, alloc: Global, tokens: &mut TokenStream) -> Result<(), AllocError>
+        ensures ok { let attributes = lexemes self.now.attributes.tokens in
+            let path = trait_path self.now.which in
+            let head = attributes ++ quoted (codes "impl") ++ path ++ quoted (codes "for") in
+            OnOk result (Appends head tokens.old tokens.new) }
+        ensures prefix { HasPrefix tokens.old tokens.new }
+    {
+        append(alloc, tokens, &self.attributes.tokens)?;
+        quote(alloc, tokens, "impl")?;
+        push_trait(alloc, tokens, self.which)?;
+        quote(alloc, tokens, "for")
+    }
+}
+
+impl Item {
+    /// Appends the tokens of the item.
+    pub fn to_tokens(&self, alloc: Global, tokens: &mut TokenStream) -> Result<(), AllocError>
+        ensures ok { OnOk result (Appends (item_lexemes self.now) tokens.old tokens.new) }
+        ensures prefix { HasPrefix tokens.old tokens.new }
+    {
+        match self {
+            Item::Impl(item) => item.to_tokens(alloc, tokens),
+        }
+    }
+}

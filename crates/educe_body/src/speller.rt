@@ -1,0 +1,128 @@
+//! The text of items.
+ghost use Rattle.std.specs.Prelude.{◌≡◌, ◌∷◌, [], ◌++◌, IsTrue, OnOk, IfOk, chars, encode_utf8_all};
+ghost use Rattle.std.specs.String.{string_bytes};
+ghost use Rattle.educe_tokens.specs.Lexes.{LexesAside};
+ghost use Rattle.educe_tokens.specs.Quote.{is_template, quoted};
+ghost use Rattle.educe_tokens.specs.Text.{text_of, is_written};
+ghost use Rattle.educe_body.specs.Tokens.{item_lexemes, tokens_of, spelling};
+
+use crate::body::{Item, Items};
+use educe_tokens::{TokenStream, text};
+use std::alloc::{AllocError, Global};
+
+/// Adds the text of an item, and a line feed behind it.
+fn push_item(alloc: Global, out: &mut String, item: &Item) -> Result<(), AllocError>
+    ensures spelled { OnOk result (chars (string_bytes out.new) ≡
+        chars (string_bytes out.old) ++ (text_of (item_lexemes item.now) ++ 10 ∷ [])) }
+    ensures lexes { let found = item_lexemes item.now in OnOk result (LexesAside (text_of found) found) }
+{
+    let mut tokens = TokenStream::new(alloc);
+    item.to_tokens(alloc, &mut tokens)?;
+    let line = text(alloc, &tokens)?;
+    out.push_str(&line)?;
+    out.push('\n')?;
+    Ok(())
+}
+
+/// The text of items: that of each, and a line feed behind it.
+pub fn spell(alloc: Global, items: &Items) -> Result<String, AllocError>
+    ensures spelled { IfOk result (λ s. string_bytes s ≡ encode_utf8_all (spelling items.now)) }
+    ensures lexes { IfOk result (λ _. LexesAside (spelling items.now) (tokens_of items.now)) }
+{
+    let mut out = String::new(alloc);
+    for item in items.as_slice() {
+        push_item(alloc, &mut out, item)?;
+    }
+    Ok(out)
+}
+
+#[cfg(test)]
+mod tests {
+    use super::*;
+    use crate::body::{Body, Function, ImplItem};
+    use crate::form::{Form, Forms, Known};
+    use educe_syntax::{ExprPath, Ident, Path, Trait};
+    use educe_tokens::{Boxed, Seq, Span, TokenKind, Word, Written, quote};
+    use std::test::Fail;
+
+    fn name(alloc: Global, text: &str) -> Result<Ident, Fail>
+        requires { IsTrue (is_template text.now) }
+    {
+        let mut tokens = TokenStream::new(alloc);
+        quote(alloc, &mut tokens, text)?;
+        let Some(token) = tokens.get(0) else {
+            return Err(Fail::from("no token"));
+        };
+        let TokenKind::Ident = token.kind else {
+            return Err(Fail::from("no name"));
+        };
+        Ok(Ident {
+            text: token.spelling.duplicate(alloc)?,
+            span: Span::NONE,
+        })
+    }
+
+    fn word(alloc: Global, text: &str) -> Result<Word, Fail>
+        requires { IsTrue (is_template text.now) }
+    {
+        Ok(Word::new(name(alloc, text)?.text))
+    }
+
+    fn written(alloc: Global, text: &str) -> Result<Written, Fail>
+        requires template { IsTrue (is_template text.now) }
+        requires written { IsTrue (is_written (quoted text.now)) }
+    {
+        let mut tokens = TokenStream::new(alloc);
+        quote(alloc, &mut tokens, text)?;
+        Ok(Written::new(tokens))
+    }
+
+    #[tactic(auto, unfolding(educe_tokens::specs::Quote::quoted))]
+    fn compared_field(alloc: Global) -> Result<Form, Fail> {
+        let path = ExprPath {
+            self_type: None,
+            path: Path {
+                leading: true,
+                segments: Seq::new(alloc),
+            },
+            written: written(alloc, ":: core :: cmp :: PartialEq :: ne")?,
+        };
+        let mut arguments = Forms::new(alloc);
+        arguments.push(Form::Reference(name(alloc, "self")?, word(alloc, "a")?))?;
+        arguments.push(Form::Reference(name(alloc, "other")?, word(alloc, "a")?))?;
+        let call = Boxed::new(alloc, Form::Call(path, arguments))?;
+        Ok(Form::IfReturn(call))
+    }
+
+    fn eq_function(alloc: Global) -> Result<Function, Fail> {
+        let mut params = Seq::new(alloc);
+        params.push(word(alloc, "other")?)?;
+        let mut block = Forms::new(alloc);
+        block.push(compared_field(alloc)?)?;
+        block.push(Form::Known(Known::Truth(true)))?;
+        Ok(Function {
+            name: word(alloc, "eq")?,
+            body: Body { params, block },
+        })
+    }
+
+    #[tactic(auto, unfolding(educe_tokens::specs::Quote::quoted))]
+    #[test]
+    fn spells_an_implementation(rt: HostRuntime) -> Result<(), Fail> {
+        let alloc = rt.alloc();
+        let mut functions = Seq::new(alloc);
+        functions.push(eq_function(alloc)?)?;
+        let mut items = Items::new(alloc);
+        items.push(Item::Impl(ImplItem {
+            which: Trait::PartialEq,
+            attributes: written(alloc, "# [ automatically_derived ]")?,
+            ident: name(alloc, "S")?,
+            functions,
+        }))?;
+        assert_eq!(rt;
+            spell(alloc, &items)?.as_str(),
+            "# [ automatically_derived ] impl :: core :: cmp :: PartialEq for S { fn eq ( & self , other : & Self ) -> :: core :: primitive :: bool { if :: core :: cmp :: PartialEq :: ne ( & self . a , & other . a ) { return false ; } true } }\n"
+        );
+        Ok(())
+    }
+}
