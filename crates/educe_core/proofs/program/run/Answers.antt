@@ -1,0 +1,51 @@
+use Rattle.std.proofs.Common.{◌≡◌, ℕ, List, true, map, string_bytes, refl, sym, subst, inl, inr, ap, ◌∙◌}
+use Rattle.educe_core.specs.declared.status.Status.TheVariants.{Usage}
+use Rattle.educe_core.specs.Devices.{Change, change}
+use Rattle.educe_core.specs.Run.{Answers, expand_words, usage_line}
+use Rattle.educe_core.proofs.Table.{Answers-line}
+use Rattle.educe_core.proofs.Outcomes.{Usage-from_words, TooLong-from_length, NotUtf8-from_bytes, Done-from_valid, Done-without_cause, ReadFault-fails, ReadFault-from_faults, WriteFault-fails, WriteFault-from_sink, WriteFault-from_notes, TakesAtMost-none}
+use Rattle.educe_core.proofs.program.run.Goals as goal
+
+pub returns-then-not-is_expand : goal.returns-then-not-is_expand
+returns-then-not-is_expand g c =
+    let words : List (List ℕ) = map string_bytes c.args.words.now.items in
+    let source : Change = (change (g.S.Source.left c.args.source.now) (g.S.Source.left c.args.source.now) (g.S.Source.faults c.args.source.now) (g.S.Source.faults c.args.source.now) (g.S.Source.may_fail c.args.source.now)) in
+    let sink : Change = (change (g.K.Sink.held c.args.sink.now) (g.K.Sink.held c.args.sink.now) (g.K.Sink.faults c.args.sink.now) (g.K.Sink.faults c.args.sink.now) (g.K.Sink.may_fail c.args.sink.now)) in
+    let notes : Change = (change (g.E.Sink.held c.args.notes.now) (g.E.Sink.held c.deliver.new.sink) (g.E.Sink.faults c.args.notes.now) (g.E.Sink.faults c.deliver.new.sink) (g.E.Sink.may_fail c.args.notes.now)) in
+    let answer : Answers words source sink notes c.deliver.result = Answers-line words source sink notes Usage usage_line c.deliver.result (λ right. let found : c.is_expand.result ≡ true = c.is_expand.ensures.1 (ap (map string_bytes) c.deref.ensures.value ∙ right) in cc, record { bytes = refl; faults = refl }, refl) c.deliver.ensures (record { bytes = refl; faults = refl }) in
+    record {
+      answer = answer;
+      usage = Usage-from_words words source sink notes c.deliver.result answer;
+      too_long = TooLong-from_length words source sink notes c.deliver.result answer;
+      not_utf8 = NotUtf8-from_bytes words source sink notes c.deliver.result answer;
+      valid = Done-from_valid words source sink notes c.deliver.result answer;
+      caused = Done-without_cause words source sink notes c.deliver.result answer;
+      read_fault = λ is. let fails = ReadFault-fails words source sink notes c.deliver.result answer is in (fails.rose, fails.might);
+      source_faults = ReadFault-from_faults words source sink notes c.deliver.result answer;
+      write_fault = λ is. elim (WriteFault-fails words source sink notes c.deliver.result answer is) [ inl sinks ↦ inl (sinks.rose, sinks.might) | inr noted ↦ inr (noted.rose, noted.might) ];
+      sink_faults = WriteFault-from_sink words source sink notes c.deliver.result answer;
+      notes_faults = WriteFault-from_notes words source sink notes c.deliver.result answer;
+      most = TakesAtMost-none 131073 (g.S.Source.left c.args.source.now);
+    }
+
+pub returns : goal.returns
+returns g c =
+    let words : List (List ℕ) = map string_bytes c.args.words.now.items in
+    let source : Change = (change (g.S.Source.left c.args.source.now) (g.S.Source.left c.run_expand.new.source) (g.S.Source.faults c.args.source.now) (g.S.Source.faults c.run_expand.new.source) (g.S.Source.may_fail c.args.source.now)) in
+    let sink : Change = (change (g.K.Sink.held c.args.sink.now) (g.K.Sink.held c.run_expand.new.sink) (g.K.Sink.faults c.args.sink.now) (g.K.Sink.faults c.run_expand.new.sink) (g.K.Sink.may_fail c.args.sink.now)) in
+    let notes : Change = (change (g.E.Sink.held c.args.notes.now) (g.E.Sink.held c.run_expand.new.notes) (g.E.Sink.faults c.args.notes.now) (g.E.Sink.faults c.run_expand.new.notes) (g.E.Sink.may_fail c.args.notes.now)) in
+    let answer : Answers words source sink notes c.run_expand.result = let right : map string_bytes c.args.words.now.items ≡ expand_words = ap (map string_bytes) (sym c.deref.ensures.value) ∙ c.is_expand.ensures.0 c.if-not-is_expand.false in subst (λ spoken. Answers spoken source sink notes c.run_expand.result) (sym right) c.run_expand.ensures.answer in
+    record {
+      answer = answer;
+      usage = Usage-from_words words source sink notes c.run_expand.result answer;
+      too_long = TooLong-from_length words source sink notes c.run_expand.result answer;
+      not_utf8 = NotUtf8-from_bytes words source sink notes c.run_expand.result answer;
+      valid = Done-from_valid words source sink notes c.run_expand.result answer;
+      caused = Done-without_cause words source sink notes c.run_expand.result answer;
+      read_fault = λ is. let fails = ReadFault-fails words source sink notes c.run_expand.result answer is in (fails.rose, fails.might);
+      source_faults = ReadFault-from_faults words source sink notes c.run_expand.result answer;
+      write_fault = λ is. elim (WriteFault-fails words source sink notes c.run_expand.result answer is) [ inl sinks ↦ inl (sinks.rose, sinks.might) | inr noted ↦ inr (noted.rose, noted.might) ];
+      sink_faults = WriteFault-from_sink words source sink notes c.run_expand.result answer;
+      notes_faults = WriteFault-from_notes words source sink notes c.run_expand.result answer;
+      most = c.run_expand.ensures.most;
+    }

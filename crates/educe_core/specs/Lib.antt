@@ -1,0 +1,9 @@
+pub mod Listed
+pub mod Comparing
+pub mod Blocks
+pub mod Headline
+pub mod Expansion
+pub mod Devices
+pub mod Memory
+pub mod Status
+pub mod Run

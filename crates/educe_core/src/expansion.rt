@@ -1,0 +1,81 @@
+//! From the text of a definition to the text of its impls.
+ghost use Rattle.std.specs.Prelude.{◌≡◌, ◌≢◌, ◌≤◌, length, chars, IfOk, IfErr, IsCharBoundary};
+ghost use Rattle.educe_tokens.specs.Built.{IsUnbuiltOrAlloc};
+ghost use Rattle.educe_syntax.specs.declared.derive.DeriveInput.{DeriveInput};
+ghost use Rattle.educe_syntax.specs.Built.{IsDefinition};
+ghost use Rattle.educe_tokens.specs.Message.{HasWords};
+ghost use Rattle.educe_core.specs.Headline.{Defines, IsExpansion, IsCause, IsValid};
+ghost use Rattle.educe_core.specs.Expansion.{text_of_expansion, items_of_expansion};
+
+use crate::handler::derive_input_handler;
+use educe_body::{Items, spell};
+use educe_syntax::{DeriveInput, parse_derive_input};
+use educe_tokens::{EduceError, Kind, SOURCE_LIMIT, lex};
+use std::alloc::Global;
+
+/// The impls of a definition, as text.
+#[derive(Drop)]
+pub struct Expansion {
+    text: String,
+    items: Items,
+}
+
+impl Expansion {
+    /// The whole text.
+    #[tactic(auto, unfolding(crate::specs::Expansion::text_of_expansion))]
+    pub fn text(&self) -> &str
+        ensures { result.now ≡ text_of_expansion self.now }
+    {
+        self.text.as_str()
+    }
+
+    /// The items that the text spells.
+    #[tactic(auto, unfolding(crate::specs::Expansion::items_of_expansion))]
+    pub fn items(&self) -> &Items
+        ensures { result.now ≡ items_of_expansion self.now }
+    {
+        &self.items
+    }
+}
+
+/// The definition that a source is, where it is of the form that is built so far.
+fn read(alloc: Global, source: &str) -> Result<DeriveInput, EduceError>
+    requires { length source.now ≤ SOURCE_LIMIT }
+    ensures defines { IfOk result (Defines (chars source.now)) }
+    ensures err { IfErr result IsUnbuiltOrAlloc }
+    ensures only { (definition : DeriveInput) → Defines (chars source.now) definition →
+        IsDefinition definition result }
+{
+    match lex(alloc, source) {
+        Ok(tokens) => parse_derive_input(alloc, &tokens),
+        Err(error) => Err(error),
+    }
+}
+
+/// The expansion of a definition with `educe` attributes.
+pub fn expand(alloc: Global, source: &str) -> Result<Expansion, EduceError>
+    requires { length source.now ≤ SOURCE_LIMIT }
+    ensures done { IfOk result (λ e.
+        IsExpansion source.now (items_of_expansion e) (text_of_expansion e)) }
+    ensures cause { IfErr result (λ e. IsCause source.now e) }
+    // A valid text is expanded, or memory fails; a text with a cause is never expanded.
+    ensures valid { IsValid source.now → IfErr result (λ e. e.kind ≡ Kind.Alloc) }
+    ensures invalid { IfOk result (λ _. (e : EduceError) → e.kind ≢ Kind.Alloc →
+        IsCause source.now e → ⊥) }
+    // Its refusal can be shown.
+    ensures words { IfErr result (λ e. HasWords e.kind e.words) }
+    ensures placed { IfErr result (λ e. IsCharBoundary source.now e.span.start) }
+{
+    let ast = match read(alloc, source) {
+        Ok(ast) => ast,
+        Err(error) => return Err(error),
+    };
+    let items = match derive_input_handler(alloc, &ast) {
+        Ok(items) => items,
+        Err(error) => return Err(error),
+    };
+    match spell(alloc, &items) {
+        Ok(text) => Ok(Expansion { text, items }),
+        Err(_) => Err(EduceError::alloc(alloc)),
+    }
+}

@@ -1,0 +1,23 @@
+//! The derive compiler's top: what a definition is expanded to, and the command that runs it.
+#![tactic(auto)]
+
+mod devices;
+mod expansion;
+mod handler;
+mod listed;
+mod memory;
+mod partial_eq;
+mod program;
+mod reading;
+mod refusing;
+mod status;
+#[cfg(test)]
+mod tests;
+mod writing;
+
+pub use devices::{Failed, Sink, Source, Stopped};
+pub use expansion::{Expansion, expand};
+pub use handler::derive_input_handler;
+pub use memory::{MemorySink, MemorySource};
+pub use program::run;
+pub use status::Status;

@@ -1,0 +1,205 @@
+//! Runs over devices in memory, and bodies tried over tables.
+use super::*;
+use educe_body::{Answer, Answers, Callee, FieldValue, Item, Outcome, Row, Scope, Value, eval};
+use educe_syntax::parse_derive_input;
+use educe_tokens::{Seq, lex};
+use std::alloc::Global;
+use std::process::Abort;
+use std::test::Fail;
+
+/// What a struct of one field is expanded to.
+const ONE_FIELD: &str =
+    "# [ automatically_derived ] impl :: core :: cmp :: PartialEq for S { fn eq ( & self , other : & Self ) -> :: core :: primitive :: bool { if :: core :: cmp :: PartialEq :: ne ( & self . a , & other . a ) { return false ; } true } }\n";
+
+/// A run with one word, and what it answers.
+#[derive(Drop)]
+struct Case<'a> {
+    word: &'a str,
+    input: &'a [u8],
+    failing_reads: &'a [u32],
+    failing_writes: &'a [u32],
+    failing_notes: &'a [u32],
+    code: u8,
+    text: &'a str,
+    notes: &'a str,
+}
+
+impl<'a> Case<'a> {
+    /// The run of `expand` in which no call fails.
+    fn of(input: &'a [u8], code: u8, text: &'a str, notes: &'a str) -> Case<'a> {
+        Case {
+            word: "expand",
+            input,
+            failing_reads: &[],
+            failing_writes: &[],
+            failing_notes: &[],
+            code,
+            text,
+            notes,
+        }
+    }
+
+    /// Runs over devices whose calls move at most ten bytes.
+    fn check(&self, rt: &impl Abort, alloc: Global) -> Result<(), Fail> {
+        let mut words = Vec::new(alloc);
+        words.push(String::from_str(alloc, self.word)?)?;
+        let mut source = MemorySource::new(alloc, self.input, 10, self.failing_reads)?;
+        let mut sink = MemorySink::new(alloc, 10, self.failing_writes)?;
+        let mut notes = MemorySink::new(alloc, 10, self.failing_notes)?;
+        let status = run(alloc, &words, &mut source, &mut sink, &mut notes);
+        assert_eq!(rt; status.code(), self.code);
+        assert_eq!(rt; sink.bytes(), self.text.as_bytes());
+        assert_eq!(rt; notes.bytes(), self.notes.as_bytes());
+        Ok(())
+    }
+}
+
+#[test]
+fn a_struct_is_expanded(rt: HostRuntime) -> Result<(), Fail> {
+    let input = b"#[educe(PartialEq)] struct S { a: u8 }";
+    Case::of(input, 0, ONE_FIELD, "").check(&rt, rt.alloc())
+}
+
+#[test]
+fn refusals_have_a_line(rt: HostRuntime) -> Result<(), Fail> {
+    let not_set_up =
+        "1:1: you are using `Educe` in the `derive` attribute, but it has not been set up yet\n";
+    let not_built = "1:1: not built yet\n";
+    let cases: [(&[u8], &str); 6] = [
+        (b"struct S { f1: u8 }", not_set_up),
+        (b"", not_built),
+        (b"#[educe(PartialEq)] struct S { other: u8 }", not_built),
+        (b"#[educe(PartialEq)] struct S { a: u8, a: u8 }", not_built),
+        (b"#[educe(PartialEq)] enum S {}", not_built),
+        (b"#[educe(PartialEq)] struct S { a: u8 } // a", not_built),
+    ];
+    for (input, notes) in cases {
+        Case::of(input, 1, "", notes).check(&rt, rt.alloc())?;
+    }
+    Ok(())
+}
+
+#[test]
+fn unknown_words_show_the_usage(rt: HostRuntime) -> Result<(), Fail> {
+    let mut case = Case::of(b"", 2, "", "usage: educe expand\n");
+    case.word = "expnd";
+    case.check(&rt, rt.alloc())
+}
+
+#[test]
+fn a_byte_too_many_is_too_long(rt: HostRuntime) -> Result<(), Fail> {
+    let alloc = rt.alloc();
+    let spaces = vec![in alloc; b' '; 131_073]?;
+    Case::of(&spaces, 5, "", "the input is longer than 131072 bytes\n").check(&rt, alloc)
+}
+
+#[test]
+fn a_lone_byte_ff_is_no_text(rt: HostRuntime) -> Result<(), Fail> {
+    Case::of(b"\xff", 6, "", "the input is not UTF-8\n").check(&rt, rt.alloc())
+}
+
+#[test]
+fn a_failed_read_is_no_end(rt: HostRuntime) -> Result<(), Fail> {
+    let input = b"#[educe(PartialEq)] struct S { a: u8 }";
+    let mut first = Case::of(input, 3, "", "");
+    first.failing_reads = &[0];
+    first.check(&rt, rt.alloc())?;
+    let mut later = Case::of(input, 3, "", "");
+    later.failing_reads = &[1];
+    later.check(&rt, rt.alloc())
+}
+
+#[test]
+fn a_failed_write_is_a_fault(rt: HostRuntime) -> Result<(), Fail> {
+    let input = b"#[educe(PartialEq)] struct S { a: u8 }";
+    let mut sink = Case::of(input, 4, "# [ automa", "");
+    sink.failing_writes = &[1];
+    sink.check(&rt, rt.alloc())?;
+    let mut notes = Case::of(b"", 4, "", "usage: edu");
+    notes.word = "expnd";
+    notes.failing_notes = &[1];
+    notes.check(&rt, rt.alloc())
+}
+
+/// A value of a struct of fields of one type.
+fn value(alloc: Global, numbers: &[i128]) -> Result<Value, Fail> {
+    let mut fields = Seq::new(alloc);
+    for number in numbers {
+        fields.push(FieldValue {
+            ty: 0,
+            number: *number,
+        })?;
+    }
+    Ok(Value { variant: 0, fields })
+}
+
+/// What the first function of the first item of a struct of two bytes evaluates to.
+fn equality(alloc: Global, a: &[i128], b: &[i128], answers: &Answers) -> Result<Outcome, Fail> {
+    let tokens = lex(alloc, "#[educe(PartialEq)] struct S { a: u8, b: u8 }")
+        .ok()
+        .ok_or("lex")?;
+    let ast = parse_derive_input(alloc, &tokens).ok().ok_or("parse")?;
+    let expansion = expand(alloc, "#[educe(PartialEq)] struct S { a: u8, b: u8 }")
+        .ok()
+        .ok_or("expand")?;
+    let Some(Item::Impl(item)) = expansion.items().get(0) else {
+        return Err(Fail::from("no item"));
+    };
+    let Some(function) = item.functions.get(0) else {
+        return Err(Fail::from("no function"));
+    };
+    let this = value(alloc, a)?;
+    let other = value(alloc, b)?;
+    let scope = Scope {
+        ast: &ast,
+        this: Some(&this),
+        other: Some(&other),
+    };
+    Ok(eval(alloc, &function.body, &scope, answers)?)
+}
+
+#[test]
+fn eq_compares_the_fields(rt: HostRuntime) -> Result<(), Fail> {
+    let alloc = rt.alloc();
+    let by_number = Answers {
+        rows: Seq::new(alloc),
+        by_number: true,
+    };
+    assert_eq!(rt;
+        equality(alloc, &[1, 2], &[1, 2], &by_number)?,
+        Outcome::Truth(true)
+    );
+    assert_eq!(rt;
+        equality(alloc, &[1, 2], &[1, 3], &by_number)?,
+        Outcome::Truth(false)
+    );
+    assert_eq!(rt;
+        equality(alloc, &[4, 2], &[1, 2], &by_number)?,
+        Outcome::Truth(false)
+    );
+    assert_eq!(rt; equality(alloc, &[1], &[1], &by_number)?, Outcome::Stuck);
+    Ok(())
+}
+
+#[test]
+fn eq_asks_the_table(rt: HostRuntime) -> Result<(), Fail> {
+    let alloc = rt.alloc();
+    let mut rows = Seq::new(alloc);
+    let zero = FieldValue { ty: 0, number: 0 };
+    rows.push(Row {
+        callee: Callee::Ne,
+        first: Some(zero),
+        second: Some(zero),
+        answer: Answer::Truth(true),
+    })?;
+    let table = Answers {
+        rows,
+        by_number: false,
+    };
+    assert_eq!(rt;
+        equality(alloc, &[0, 0], &[0, 0], &table)?,
+        Outcome::Truth(false)
+    );
+    assert_eq!(rt; equality(alloc, &[1, 0], &[1, 0], &table)?, Outcome::Stuck);
+    Ok(())
+}
