@@ -1,0 +1,69 @@
+#!/usr/bin/env bash
+# How the program's time and memory grow with its input.
+#
+# Usage: bench/scale.sh PROGRAM
+#
+# Makes inputs of 16, 32, 64 and 128 KiB of each shape, runs the built program on each, and prints a
+# line for each: the bytes, the seconds and the peak memory in MB, with valgrind also the millions of
+# instructions, and the ratio to the line before. A ratio above 2.3 is marked.
+set -eu
+program=${1:?usage: bench/scale.sh PROGRAM}
+folder=$(mktemp -d)
+trap 'rm -rf "$folder"' EXIT
+
+python3 - "$folder" <<'PY'
+import sys
+
+folder = sys.argv[1]
+
+def struct(size, name):
+    """A struct of as many fields as fit, named by their number."""
+    head, tail, parts, used = "#[educe(PartialEq)] struct S {", "}", [], 0
+    while True:
+        part = f"{name(len(parts))}:u8,"
+        if len(head) + used + len(part) + len(tail) > size:
+            return head + "".join(parts) + tail
+        parts.append(part)
+        used += len(part)
+
+def fields(size):
+    return struct(size, lambda n: f"f{n}")
+
+def long_names(size):
+    return struct(size, lambda n: f"{'x' * 1000}{n}")
+
+def blanks(size):
+    """A small struct behind blanks."""
+    text = "#[educe(PartialEq)] struct S { a: u8 }"
+    return " " * (size - len(text)) + text
+
+for name, make in [("fields", fields), ("long_names", long_names), ("blanks", blanks)]:
+    for kib in (16, 32, 64, 128):
+        with open(f"{folder}/{name}.{kib}", "w") as out:
+            out.write(make(kib * 1024))
+PY
+
+ratio() {
+  awk -v now="$1" -v before="$2" 'BEGIN { if (before > 0) { r = now / before; printf "%.2f%s", r, (r > 2.3 ? "!" : "") } else printf "-" }'
+}
+
+printf '%-12s %7s %8s %7s %10s %7s %9s\n' shape bytes seconds ratio 'Minstr' ratio 'peak MB'
+for name in fields long_names blanks; do
+  seconds_before=0
+  count_before=0
+  for kib in 16 32 64 128; do
+    input=$folder/$name.$kib
+    /usr/bin/env time -f '%e %M' -o "$folder/cost" "$program" expand < "$input" > "$folder/text" || echo "status $?" >&2
+    read -r seconds memory < <(tail -n 1 "$folder/cost")
+    count=0
+    if command -v valgrind > /dev/null; then
+      valgrind --tool=callgrind --callgrind-out-file=/dev/null "$program" expand < "$input" 2> "$folder/counts" > /dev/null || true
+      count=$(sed -n 's/.*Collected *: *\([0-9]*\).*/\1/p' "$folder/counts")
+    fi
+    printf '%-12s %7d %8.3f %7s %10.1f %7s %9.1f\n' "$name" "$(stat -c %s "$input")" "$seconds" \
+      "$(ratio "$seconds" "$seconds_before")" "$(awk -v c="${count:-0}" 'BEGIN { print c / 1e6 }')" \
+      "$(ratio "${count:-0}" "$count_before")" "$(awk -v m="$memory" 'BEGIN { print m / 1024 }')"
+    seconds_before=$seconds
+    count_before=${count:-0}
+  done
+done

@@ -1,0 +1,5 @@
+#[educe(PartialEq)]
+struct Point {
+    x: i64,
+    y: i64,
+}
