@@ -17,6 +17,7 @@ use educe_tokens::{Seq, Spelling};
 use std::alloc::{AllocError, Global};
 
 /// What a body is evaluated over: the definition, and the values of `self` and of the parameter.
+#[derive(Drop)]
 pub struct Scope<'a> {
     pub ast: &'a DeriveInput,
     pub this: Option<&'a Value>,
