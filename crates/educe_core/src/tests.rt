@@ -1,7 +1,7 @@
 //! Runs over devices in memory, and bodies tried over tables.
 use super::*;
 use educe_body::{Answer, Answers, Callee, FieldValue, Item, Outcome, Row, Scope, Value, eval};
-use educe_syntax::parse_derive_input;
+use educe_syntax::{DeriveInput, parse_derive_input};
 use educe_tokens::{Seq, lex};
 use std::alloc::Global;
 use std::process::Abort;
@@ -133,6 +133,13 @@ fn value(alloc: Global, numbers: &[i128]) -> Result<Value, Fail> {
     Ok(Value { variant: 0, fields })
 }
 
+/// The definition with two values.
+fn scope<'a>(ast: &'a DeriveInput, this: &'a Value, other: &'a Value) -> Scope<'a> {
+    let this = Some(this);
+    let other = Some(other);
+    Scope { ast, this, other }
+}
+
 /// What the first function of the first item of a struct of two bytes evaluates to.
 fn equality(alloc: Global, a: &[i128], b: &[i128], answers: &Answers) -> Result<Outcome, Fail> {
     let tokens = lex(alloc, "#[educe(PartialEq)] struct S { a: u8, b: u8 }")
@@ -150,12 +157,7 @@ fn equality(alloc: Global, a: &[i128], b: &[i128], answers: &Answers) -> Result<
     };
     let this = value(alloc, a)?;
     let other = value(alloc, b)?;
-    let scope = Scope {
-        ast: &ast,
-        this: Some(&this),
-        other: Some(&other),
-    };
-    Ok(eval(alloc, &function.body, &scope, answers)?)
+    Ok(eval(alloc, &function.body, &scope(&ast, &this, &other), answers)?)
 }
 
 #[test]
