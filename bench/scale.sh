@@ -4,8 +4,8 @@
 # Usage: bench/scale.sh PROGRAM
 #
 # Makes inputs of 16, 32, 64 and 128 KiB of each shape, runs the built program on each, and prints a
-# line for each: the bytes, the seconds and the peak memory in MB, with valgrind also the millions of
-# instructions, and the ratio to the line before. A ratio above 2.3 is marked.
+# line for each: the bytes, the least seconds of five runs and the peak memory in MB, with valgrind also the
+# millions of instructions, and the ratio to the line before. A ratio above 2.3 is marked.
 set -eu
 program=${1:?usage: bench/scale.sh PROGRAM}
 folder=$(mktemp -d)
@@ -53,8 +53,11 @@ for name in fields long_names blanks; do
   count_before=0
   for kib in 16 32 64 128; do
     input=$folder/$name.$kib
-    /usr/bin/env time -f '%e %M' -o "$folder/cost" "$program" expand < "$input" > "$folder/text" || echo "status $?" >&2
-    read -r seconds memory < <(tail -n 1 "$folder/cost")
+    for _ in 1 2 3 4 5; do
+      /usr/bin/env time -f '%e %M' -o "$folder/cost" "$program" expand < "$input" > "$folder/text" || echo "status $?" >&2
+      tail -n 1 "$folder/cost"
+    done | sort -n > "$folder/costs"
+    read -r seconds memory < "$folder/costs"
     count=0
     if command -v valgrind > /dev/null; then
       valgrind --tool=callgrind --callgrind-out-file=/dev/null "$program" expand < "$input" 2> "$folder/counts" > /dev/null || true
