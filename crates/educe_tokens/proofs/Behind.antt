@@ -5,17 +5,24 @@ use Rattle.std.specs.Bool.{beq}
 use Rattle.std.proofs.lemmas.Bool.{and_parts, and_from}
 use Rattle.std.proofs.lemmas.List.{map-append}
 use Rattle.std.proofs.lemmas.List.Elements.{filter-append}
+use Rattle.unicode_ident.specs.Ident.{is_xid_continue}
 use Rattle.unicode_ident.proofs.IdentLemmas.{is_xid_continue-ascii}
+use Rattle.educe_tokens.specs.declared.token.LiteralKind.TheVariants.{Int, Str, ByteStr, Char, Byte}
 use Rattle.educe_tokens.specs.declared.token.TokenKind.TheVariants.{Ident, Lifetime, Literal, Punct, Start, Stop, Doc}
 use Rattle.educe_tokens.specs.declared.piece.PieceKind.{PieceKind}
 use Rattle.educe_tokens.specs.declared.piece.PieceKind.TheVariants.{Blank, Token as TokenPiece}
-use Rattle.educe_tokens.specs.Pieces.{begins, is_punct, is_slash_or_star, touches_word, opens_comment, is_joint, is_piece, may_precede}
+use Rattle.educe_tokens.specs.Pieces.{begins, is_punct, is_word_start, is_slash_or_star, touches_word, opens_comment, is_joint, makes_float, is_piece, may_precede}
 use Rattle.educe_tokens.specs.Lexes.{Lexeme, Piece, IsPiece, Reads, LexesAside, is_token, piece_of}
+use Rattle.educe_tokens.proofs.Classes.{word_start-ascii}
 use Rattle.educe_tokens.proofs.Readings.{piece_longest}
+
+-- no word goes on with a line feed
+line_feed_no_continue : is_xid_continue 10 ≡ false
+line_feed_no_continue = is_xid_continue-ascii 10 (omega arith)
 
 -- a word may stand before a line feed
 line_feed_is_apart : touches_word 10 ≡ false
-line_feed_is_apart = ap (λ b. b || ((10 == 34) || (10 == 39) || (10 == 35))) (is_xid_continue-ascii 10 (omega arith))
+line_feed_is_apart = ap (λ b. b || ((10 == 34) || (10 == 39) || (10 == 35))) line_feed_no_continue
 
 -- a line feed behind a list doesn't change what it begins with, to a test that the line feed fails
 begins-line_feed : (test : ℕ → Bool) → test 10 ≡ false → (r b : List ℕ) → begins test (r ++ 10 ∷ b) ≡ begins test r
@@ -31,12 +38,21 @@ opens_comment-line_feed (c ∷ r) b = ap (λ t. (c == 47) && t) (begins-line_fee
 is_joint-line_feed : (r b : List ℕ) → is_joint (r ++ 10 ∷ b) ≡ is_joint r
 is_joint-line_feed r b = λ i. begins-line_feed is_punct refl r b i && not (opens_comment-line_feed r b i)
 
+-- nor whether digits before it are a float
+makes_float-line_feed : (r b : List ℕ) → makes_float (r ++ 10 ∷ b) ≡ makes_float r
+makes_float-line_feed [] b = refl
+makes_float-line_feed (c ∷ r) b = ap (λ t. (c == 46) && not t) (begins-line_feed (λ d. (d == 46) || is_word_start d) (word_start-ascii 10 (omega arith)) r b)
+
 -- a line feed behind the rest changes nothing for a piece before it
 may_precede-line_feed : (kind : PieceKind) (r b : List ℕ) → may_precede kind (r ++ 10 ∷ b) ≡ may_precede kind r
 may_precede-line_feed Blank r b = refl
 may_precede-line_feed (TokenPiece Ident) r b = ap not (begins-line_feed touches_word line_feed_is_apart r b)
 may_precede-line_feed (TokenPiece Lifetime) r b = refl
-may_precede-line_feed (TokenPiece (Literal l)) r b = refl
+may_precede-line_feed (TokenPiece (Literal Int)) r b = λ i. not (begins-line_feed is_xid_continue line_feed_no_continue r b i) && not (makes_float-line_feed r b i)
+may_precede-line_feed (TokenPiece (Literal Str)) r b = refl
+may_precede-line_feed (TokenPiece (Literal ByteStr)) r b = refl
+may_precede-line_feed (TokenPiece (Literal Char)) r b = refl
+may_precede-line_feed (TokenPiece (Literal Byte)) r b = refl
 may_precede-line_feed (TokenPiece (Punct c joint)) r b = λ i. beq joint (is_joint-line_feed r b i) && not ((c == 47) && begins-line_feed is_slash_or_star refl r b i)
 may_precede-line_feed (TokenPiece (Start o)) r b = refl
 may_precede-line_feed (TokenPiece (Stop o)) r b = refl

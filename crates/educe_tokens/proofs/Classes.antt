@@ -2,10 +2,11 @@
 use Rattle.std.proofs.Common.{◌≡◌, ℕ, suc, ◌+◌, ◌<◌, Bool, true, false, ◌||◌, ◌&&◌, List, [], ◌∷◌, ◌++◌, length, take, refl, sym, ap, ◌∙◌, subst, ⊎_elim, arith}
 use Rattle.std.specs.Prelude.{◌==◌, nat_le}
 use Rattle.std.specs.List.{prefix_len, list_all}
-use Rattle.std.specs.Char.{is_ascii_alphabetic}
+use Rattle.std.specs.Char.{is_ascii_alphabetic, is_ascii_digit}
 use Rattle.std.proofs.lemmas.Bool.{eqb-true, or_cases, and_parts, and_from, false≢true, cond_both}
 use Rattle.std.proofs.lemmas.Bool.Decides.{nat_tests}
-use Rattle.unicode_ident.proofs.IdentLemmas.{is_xid_start-ascii}
+use Rattle.unicode_ident.specs.Ident.{is_xid_continue}
+use Rattle.unicode_ident.proofs.IdentLemmas.{is_xid_start-ascii, is_xid_continue-ascii}
 use Rattle.unicode_ident.proofs.Computing.{unicode_ident}
 use Rattle.educe_tokens.specs.Pieces.{begins, is_only, is_blank, is_punct, is_word_start}
 
@@ -46,9 +47,26 @@ blank_no_word c h =
 pub word_no_blank : (c : ℕ) → is_word_start c ≡ true → is_blank c ≡ false
 word_no_blank c h = cond_both (is_blank c) true false (λ b. is_blank c ≡ false) (λ e. absurd (false≢true (sym (blank_no_word c e) ∙ h))) (λ e. e)
 
+-- a digit is no blank
+pub digit_no_blank : (c : ℕ) → is_ascii_digit c ≡ true → is_blank c ≡ false
+digit_no_blank c h = grind (arith, nat_tests)
+
+-- a digit begins no word
+pub digit_no_word : (c : ℕ) → is_ascii_digit c ≡ true → is_word_start c ≡ false
+digit_no_word c h = let small : c < 128 = grind (arith, nat_tests) in word_start-ascii c small ∙ grind (arith, nat_tests)
+
+-- what no word goes on with is no digit
+pub no_continue_no_digit : (c : ℕ) → is_xid_continue c ≡ false → is_ascii_digit c ≡ false
+no_continue_no_digit c h = cond_both (is_ascii_digit c) true false (λ b. is_ascii_digit c ≡ false)
+    (λ e. let small : c < 128 = grind (arith, nat_tests) in absurd (false≢true (sym h ∙ is_xid_continue-ascii c small ∙ grind (arith, nat_tests)))) (λ e. e)
+
 -- a punct is no blank
 pub punct_no_blank : (c : ℕ) → is_punct c ≡ true → is_blank c ≡ false
 punct_no_blank c h = grind (arith, nat_tests)
+
+-- a punct is no digit
+pub punct_no_digit : (c : ℕ) → is_punct c ≡ true → is_ascii_digit c ≡ false
+punct_no_digit c h = grind (arith, nat_tests)
 
 -- a punct begins no word
 pub punct_no_word : (c : ℕ) → is_punct c ≡ true → is_word_start c ≡ false

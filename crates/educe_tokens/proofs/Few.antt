@@ -3,6 +3,7 @@ use Rattle.std.proofs.Common.{◌≡◌, ℕ, ◌<◌, ◌≤◌, Bool, true, fa
 use Rattle.std.proofs.lemmas.Bool.{false≢true, and_parts, cond_both}
 use Rattle.std.proofs.lemmas.Str.{length-le-encodes, encodes-chars}
 use Rattle.educe_tokens.specs.declared.token.Token.{Token}
+use Rattle.educe_tokens.specs.declared.token.LiteralKind.TheVariants.{Int, Str, ByteStr, Char, Byte}
 use Rattle.educe_tokens.specs.declared.token.TokenKind.TheVariants.{Ident, Lifetime, Literal, Punct, Start, Stop, Doc}
 use Rattle.educe_tokens.specs.declared.piece.PieceKind.{PieceKind}
 use Rattle.educe_tokens.specs.declared.piece.PieceKind.TheVariants.{Blank, Token as TokenPiece}
@@ -14,7 +15,11 @@ none_empty : (kind : PieceKind) → is_piece kind [] ≡ true → ⊥
 none_empty Blank h = false≢true h
 none_empty (TokenPiece Ident) h = false≢true h
 none_empty (TokenPiece Lifetime) h = false≢true h
-none_empty (TokenPiece (Literal l)) h = false≢true h
+none_empty (TokenPiece (Literal Int)) h = false≢true h
+none_empty (TokenPiece (Literal Str)) h = false≢true h
+none_empty (TokenPiece (Literal ByteStr)) h = false≢true h
+none_empty (TokenPiece (Literal Char)) h = false≢true h
+none_empty (TokenPiece (Literal Byte)) h = false≢true h
 none_empty (TokenPiece (Punct c joint)) h = false≢true (and_parts (is_punct c) false h).1
 none_empty (TokenPiece (Start b)) h = false≢true h
 none_empty (TokenPiece (Stop b)) h = false≢true h

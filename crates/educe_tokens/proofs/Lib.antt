@@ -14,3 +14,6 @@ pub mod Quoting
 pub mod Appending
 pub mod Ascii
 pub mod Writing
+pub mod Words
+pub mod Digits
+pub mod Limits

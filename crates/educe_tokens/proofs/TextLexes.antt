@@ -4,8 +4,10 @@ use Rattle.std.specs.Prelude.{◌==◌}
 use Rattle.std.specs.Bool.{beq}
 use Rattle.std.specs.List.{list_all}
 use Rattle.std.proofs.lemmas.Bool.{and_parts, and_from, and_right, not-true, not_from_false, false≢true}
+use Rattle.unicode_ident.specs.Ident.{is_xid_continue}
 use Rattle.unicode_ident.proofs.IdentLemmas.{is_xid_continue-ascii}
 use Rattle.educe_tokens.specs.declared.token.Token.{Token}
+use Rattle.educe_tokens.specs.declared.token.LiteralKind.TheVariants.{Int, Str, ByteStr, Char, Byte}
 use Rattle.educe_tokens.specs.declared.token.TokenKind.{TokenKind}
 use Rattle.educe_tokens.specs.declared.token.TokenKind.TheVariants.{Ident, Lifetime, Literal, Punct, Start, Stop, Doc}
 use Rattle.educe_tokens.specs.declared.piece.PieceKind.TheVariants.{Blank, Token as TokenPiece}
@@ -17,15 +19,23 @@ use Rattle.educe_tokens.proofs.Classes.{only_is}
 use Rattle.educe_tokens.proofs.Readings.{piece_longest}
 use Rattle.educe_tokens.proofs.Tokens.{is_lexeme, tokens_spelled}
 
+-- no word goes on with a space
+space_no_continue : is_xid_continue 32 ≡ false
+space_no_continue = is_xid_continue-ascii 32 (omega arith)
+
 -- a word may stand before a space
 space_is_apart : touches_word 32 ≡ false
-space_is_apart = ap (λ b. b || ((32 == 34) || (32 == 39) || (32 == 35))) (is_xid_continue-ascii 32 (omega arith))
+space_is_apart = ap (λ b. b || ((32 == 34) || (32 == 39) || (32 == 35))) space_no_continue
 
 -- what is spelled and not joint may stand before a space
 before_space : (kind : TokenKind) (s r : List ℕ) → spells kind s ≡ true → joins_next kind ≡ false → may_precede (TokenPiece kind) (32 ∷ r) ≡ true
 before_space Ident s r e h = not_from_false _ space_is_apart
 before_space Lifetime s r e h = absurd (false≢true e)
-before_space (Literal l) s r e h = absurd (false≢true e)
+before_space (Literal Int) s r e h = and_from _ _ (not_from_false _ space_no_continue) refl
+before_space (Literal Str) s r e h = absurd (false≢true e)
+before_space (Literal ByteStr) s r e h = absurd (false≢true e)
+before_space (Literal Char) s r e h = absurd (false≢true e)
+before_space (Literal Byte) s r e h = absurd (false≢true e)
 before_space (Punct c true) s r e h = absurd (false≢true (sym h))
 before_space (Punct c false) s r e h = not_from_false _ (and_right (c == 47) false refl)
 before_space (Start b) s r e h = refl
@@ -36,7 +46,11 @@ before_space Doc s r e h = absurd (false≢true e)
 before_end : (kind : TokenKind) (s : List ℕ) → spells kind s ≡ true → joins_next kind ≡ false → may_precede (TokenPiece kind) [] ≡ true
 before_end Ident s e h = refl
 before_end Lifetime s e h = absurd (false≢true e)
-before_end (Literal l) s e h = absurd (false≢true e)
+before_end (Literal Int) s e h = refl
+before_end (Literal Str) s e h = absurd (false≢true e)
+before_end (Literal ByteStr) s e h = absurd (false≢true e)
+before_end (Literal Char) s e h = absurd (false≢true e)
+before_end (Literal Byte) s e h = absurd (false≢true e)
 before_end (Punct c true) s e h = absurd (false≢true (sym h))
 before_end (Punct c false) s e h = not_from_false _ (and_right (c == 47) false refl)
 before_end (Start b) s e h = refl
@@ -91,7 +105,7 @@ before_punct c (x ∷ xs) e h j =
 precedes : (kind : TokenKind) (s : List ℕ) (xs : List Lexeme) → spells kind s ≡ true → list_all is_lexeme xs ≡ true → joins_well (kind ∷ kinds xs) ≡ true → may_precede (TokenPiece kind) (text_behind (joins_next kind) xs) ≡ true
 precedes Ident s xs e es h = before_text Ident s xs e refl
 precedes Lifetime s xs e es h = absurd (false≢true e)
-precedes (Literal l) s xs e es h = absurd (false≢true e)
+precedes (Literal l) s xs e es h = before_text (Literal l) s xs e refl
 precedes (Punct c false) s xs e es h = before_text (Punct c false) s xs e refl
 precedes (Punct c true) s xs e es h =
     let p = and_parts (is_punct_behind c (kinds xs)) _ h in

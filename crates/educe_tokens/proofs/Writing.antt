@@ -124,7 +124,7 @@ joins_well-apart (kind ∷ next ∷ xs) h = joins_well-apart (next ∷ xs) (and_
 -- ---- both
 
 -- what closes and joins well may stand beside others
-written_from : (xs : List Lexeme) → closes [] (kinds xs) ≡ true → joins_well (kinds xs) ≡ true → IsTrue (is_written xs)
+pub written_from : (xs : List Lexeme) → closes [] (kinds xs) ≡ true → joins_well (kinds xs) ≡ true → IsTrue (is_written xs)
 written_from xs c j = and_from _ _ (and_from _ _ c j) (joins_well-apart (kinds xs) j)
 
 -- its brackets close
@@ -132,7 +132,7 @@ written_closes : (xs : List Lexeme) → IsTrue (is_written xs) → closes [] (ki
 written_closes xs h = (and_parts (closes [] (kinds xs)) _ (and_parts _ (ends_apart (kinds xs)) h).0).0
 
 -- and it joins well
-written_joins : (xs : List Lexeme) → IsTrue (is_written xs) → joins_well (kinds xs) ≡ true
+pub written_joins : (xs : List Lexeme) → IsTrue (is_written xs) → joins_well (kinds xs) ≡ true
 written_joins xs h = (and_parts (closes [] (kinds xs)) _ (and_parts _ (ends_apart (kinds xs)) h).0).1
 
 -- no tokens

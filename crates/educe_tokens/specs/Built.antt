@@ -5,19 +5,24 @@ use Rattle.std.specs.Char.{is_ascii}
 use Rattle.educe_tokens.specs.declared.error.EduceError.{EduceError}
 use Rattle.educe_tokens.specs.declared.error.Kind.{Kind}
 use Rattle.educe_tokens.specs.declared.error.Kind.TheVariants.{NotBuilt, Alloc}
+use Rattle.educe_tokens.specs.declared.token.LiteralKind.TheVariants.{Int, Str, ByteStr, Char, Byte}
 use Rattle.educe_tokens.specs.declared.token.Token.{Token}
 use Rattle.educe_tokens.specs.declared.token.TokenKind.{TokenKind}
 use Rattle.educe_tokens.specs.declared.token.TokenKind.TheVariants.{Ident, Lifetime, Literal, Punct, Start, Stop, Doc}
 use Rattle.educe_tokens.specs.Lexes.{Lexeme}
 
--- an identifier of ASCII characters, a bracket, or one of `#`, `:` and `,`
+-- an identifier of ASCII characters, an integer, a bracket, or one of `#`, `:`, `,`, `=` and `-`
 abbrev pub is_built : TokenKind → List ℕ → Bool
 is_built Ident cs = list_all is_ascii cs
-is_built (Punct c joint) cs = (c == 35) || (c == 58) || (c == 44)
+is_built (Punct c joint) cs = (c == 35) || (c == 58) || (c == 44) || (c == 61) || (c == 45)
 is_built (Start b) cs = true
 is_built (Stop b) cs = true
 is_built Lifetime cs = false
-is_built (Literal l) cs = false
+is_built (Literal Int) cs = true
+is_built (Literal Str) cs = false
+is_built (Literal ByteStr) cs = false
+is_built (Literal Char) cs = false
+is_built (Literal Byte) cs = false
 is_built Doc cs = false
 
 -- the lexeme is one of those

@@ -10,3 +10,4 @@ pub mod Steps
 pub mod Appends
 pub mod Quote
 pub mod Message
+pub mod IntValue

@@ -1,11 +1,13 @@
 -- The pieces that a text consists of (Rust Reference, Lexical structure): blanks and tokens.
 -- A piece has two tests: its spelling alone, and what may follow it.
-use Rattle.std.specs.Prelude.{ℕ, ◌==◌, Bool, true, false, ◌&&◌, ◌||◌, not, List, [], ◌∷◌, nat_le}
+use Rattle.std.specs.Prelude.{ℕ, ◌^◌, ◌==◌, Bool, true, false, ◌&&◌, ◌||◌, not, List, [], ◌∷◌, nat_le, nat_lt}
 use Rattle.std.specs.List.{list_all}
 use Rattle.std.specs.Bool.{beq}
+use Rattle.std.specs.Char.{is_ascii_digit}
+use Rattle.std.specs.Str.Parse.{digits_value}
 use Rattle.unicode_ident.specs.Ident.{is_xid_start, is_xid_continue}
 use Rattle.educe_tokens.specs.declared.token.Bracket.{Bracket}
-use Rattle.educe_tokens.specs.declared.token.LiteralKind.TheVariants.{Int}
+use Rattle.educe_tokens.specs.declared.token.LiteralKind.TheVariants.{Int, Str, ByteStr, Char, Byte}
 use Rattle.educe_tokens.specs.declared.token.Bracket.TheVariants.{Round, Square, Curly}
 use Rattle.educe_tokens.specs.declared.token.TokenKind.{TokenKind}
 use Rattle.educe_tokens.specs.declared.token.TokenKind.TheVariants.{Ident, Lifetime, Literal, Punct, Start, Stop, Doc}
@@ -39,6 +41,19 @@ abbrev pub is_word : List ℕ → Bool
 is_word [] = false
 is_word (c ∷ cs) = is_word_start c && list_all is_xid_continue cs
 
+-- decimal digits, at least one
+abbrev pub is_decimal : List ℕ → Bool
+is_decimal [] = false
+is_decimal (c ∷ cs) = is_ascii_digit c && list_all is_ascii_digit cs
+
+-- the value of these digits is at most 2^128 - 1
+abbrev pub fits_u128 : List ℕ → Bool
+fits_u128 cs = nat_lt (digits_value 10 cs) (2 ^ 128)
+
+-- decimal digits alone, within the limit on an integer's value (Rust Reference, Integer literals)
+abbrev pub is_int : List ℕ → Bool
+is_int cs = is_decimal cs && fits_u128 cs
+
 abbrev pub opener : Bracket → ℕ
 opener Round = 40
 opener Square = 91
@@ -53,7 +68,11 @@ closer Curly = 125
 abbrev pub spells : TokenKind → List ℕ → Bool
 spells Ident cs = is_word cs
 spells Lifetime cs = false
-spells (Literal l) cs = false
+spells (Literal Int) cs = is_int cs
+spells (Literal Str) cs = false
+spells (Literal ByteStr) cs = false
+spells (Literal Char) cs = false
+spells (Literal Byte) cs = false
 spells (Punct c joint) cs = is_punct c && is_only c cs
 spells (Start b) cs = is_only (opener b) cs
 spells (Stop b) cs = is_only (closer b) cs
@@ -82,12 +101,21 @@ is_joint rest = begins is_punct rest && not (opens_comment rest)
 abbrev pub touches_word : ℕ → Bool
 touches_word c = is_xid_continue c || ((c == 34) || (c == 39) || (c == 35))
 
+-- digits before this are a float: a `.`, and then not `.`, `_` or XID_Start (Rust Reference, Floating-point literals)
+abbrev pub makes_float : List ℕ → Bool
+makes_float [] = false
+makes_float (c ∷ cs) = (c == 46) && not (begins (λ d. (d == 46) || is_word_start d) cs)
+
 -- what may follow a piece of the kind
 abbrev pub may_precede : PieceKind → List ℕ → Bool
 may_precede Blank rest = true
 may_precede (Token Ident) rest = not (begins touches_word rest)
 may_precede (Token Lifetime) rest = false
-may_precede (Token (Literal l)) rest = false
+may_precede (Token (Literal Int)) rest = not (begins is_xid_continue rest) && not (makes_float rest)
+may_precede (Token (Literal Str)) rest = false
+may_precede (Token (Literal ByteStr)) rest = false
+may_precede (Token (Literal Char)) rest = false
+may_precede (Token (Literal Byte)) rest = false
 may_precede (Token (Punct c joint)) rest = beq joint (is_joint rest) && not ((c == 47) && begins is_slash_or_star rest)
 may_precede (Token (Start b)) rest = true
 may_precede (Token (Stop b)) rest = true

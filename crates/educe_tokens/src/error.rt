@@ -1,5 +1,5 @@
 //! Why a text is refused.
-ghost use Rattle.std.specs.Prelude.{◌≡◌, ◌≢◌, [], IfOk};
+ghost use Rattle.std.specs.Prelude.{◌≡◌, ◌≢◌, [], ◌∷◌, ◌++◌, codes, IfOk};
 ghost use Rattle.std.specs.String.{string_bytes};
 ghost use Rattle.educe_tokens.specs.Message.{HasWords, message_of};
 
@@ -18,6 +18,10 @@ pub enum Kind {
     NotBuilt,
     /// No trait is listed at the type.
     DeriveAttributeNotSetUpYet,
+    /// A name, the one word, is defined more than once.
+    DuplicateName,
+    /// Two fields have one rank.
+    ReuseARank { rank: i64 },
     /// Want of memory.
     Alloc,
 }
@@ -42,6 +46,20 @@ impl EduceError {
         }
     }
 
+    /// A refusal with one word.
+    pub fn with_word(
+        alloc: Global,
+        kind: Kind,
+        span: Span,
+        word: Spelling,
+    ) -> Result<EduceError, AllocError>
+        ensures { IfOk result (λ e. e ≡ record { kind = kind; span = span; words = word ∷ [] }) }
+    {
+        let mut words = Seq::new(alloc);
+        words.push(word)?;
+        Ok(EduceError { kind, span, words })
+    }
+
     /// The refusal for want of memory. It takes none itself.
     pub fn alloc(alloc: Global) -> EduceError
         ensures { result ≡ record { kind = Kind.Alloc; span = Span.NONE; words = [] } }
@@ -60,9 +78,24 @@ impl EduceError {
                 alloc,
                 "you are using `Educe` in the `derive` attribute, but it has not been set up yet",
             ),
+            Kind::DuplicateName => match self.words.as_slice() {
+                [word] => duplicate_name(alloc, word.as_str()),
+                _ => unreachable!(),
+            },
+            Kind::ReuseARank { rank } => {
+                format!(in alloc; "the rank `{rank}` is repeatedly used")
+            }
             Kind::Alloc => unreachable!(),
         }
     }
+}
+
+/// The message for a name that is given more than once.
+fn duplicate_name(alloc: Global, name: &str) -> Result<String, AllocError>
+    ensures { IfOk result (λ text. string_bytes text ≡
+        codes "the name `" ++ name.now ++ codes "` is defined more than once") }
+{
+    format!(in alloc; "the name `{name}` is defined more than once")
 }
 
 #[cfg(test)]
@@ -80,6 +113,23 @@ mod tests {
             error.message(alloc)?.as_str(),
             "you are using `Educe` in the `derive` attribute, but it has not been set up yet"
         );
+        let word = Spelling::from_str(alloc, "é")?;
+        let error = EduceError::with_word(alloc, Kind::DuplicateName, Span::NONE, word)?;
+        assert_eq!(rt;
+            error.message(alloc)?.as_str(),
+            "the name `é` is defined more than once"
+        );
+        for (rank, message) in [
+            (0, "the rank `0` is repeatedly used"),
+            (-7, "the rank `-7` is repeatedly used"),
+            (
+                i64::MIN,
+                "the rank `-9223372036854775808` is repeatedly used",
+            ),
+        ] {
+            let error = EduceError::new(alloc, Kind::ReuseARank { rank }, Span::NONE);
+            assert_eq!(rt; error.message(alloc)?.as_str(), message);
+        }
         Ok(())
     }
 }

@@ -26,7 +26,7 @@ pub fn push_word(alloc: Global, tokens: &mut TokenStream, word: &Word) -> Result
     ensures ok { OnOk result (Appends (word_lexeme word.now.text ∷ []) tokens.old tokens.new) }
     ensures prefix { HasPrefix tokens.old tokens.new }
 {
-    push_spelled(alloc, tokens, TokenKind::Ident, word.as_str())
+    push_spelled(alloc, tokens, word.kind(), word.as_str())
 }
 
 /// Appends the token of this kind that the text spells.

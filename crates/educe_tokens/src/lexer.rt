@@ -17,7 +17,7 @@ use crate::scan::piece_at;
 use crate::seq::Seq;
 use crate::span::{SOURCE_LIMIT, Span};
 use crate::spelling::Spelling;
-use crate::token::{Token, TokenKind, TokenStream};
+use crate::token::{LiteralKind, Token, TokenKind, TokenStream};
 use std::alloc::{AllocError, Global};
 
 fn spelling_of(alloc: Global, text: &[char]) -> Result<Spelling, AllocError>
@@ -98,11 +98,11 @@ fn is_built_token(token: &Token) -> bool
 {
     match token.kind {
         TokenKind::Ident => is_ascii(token.spelling.as_str()),
-        TokenKind::Punct(c, _) => matches!(c, '#' | ':' | ','),
+        TokenKind::Punct(c, _) => matches!(c, '#' | ':' | ',' | '=' | '-'),
         TokenKind::Start(_) => true,
         TokenKind::Stop(_) => true,
         TokenKind::Lifetime => false,
-        TokenKind::Literal(_) => false,
+        TokenKind::Literal(kind) => matches!(kind, LiteralKind::Int),
         TokenKind::Doc => false,
     }
 }
@@ -142,8 +142,9 @@ fn built_tokens(alloc: Global, source: &str) -> Result<Option<TokenStream>, Allo
 }
 
 /// The tokens of a text (Rust Reference, Lexical structure) of the form that is built so far:
-/// identifiers of ASCII characters, brackets that close in order, at most 128 of them open at
-/// once, `#`, `:` and `,`, with blanks between them. Any other text is answered `NotBuilt`.
+/// identifiers of ASCII characters, integers of decimal digits alone, brackets that close in order,
+/// at most 128 of them open at once, `#`, `:`, `,`, `=` and `-`, with blanks between them. Any other
+/// text is answered `NotBuilt`.
 pub fn lex(alloc: Global, source: &str) -> Result<TokenStream, EduceError>
     requires { length source.now ≤ SOURCE_LIMIT }
     ensures lexes { IfOk result (λ tokens. Lexes (chars source.now) tokens) }
@@ -211,7 +212,7 @@ mod tests {
         assert!(rt; refused(alloc, "(a]"));
         assert!(rt; refused(alloc, "(a"));
         assert!(rt; refused(alloc, "// a"));
-        assert!(rt; refused(alloc, "1"));
+        assert!(rt; refused(alloc, "1u8"));
         assert!(rt; refused(alloc, "a;"));
         assert!(rt; refused(alloc, "é"));
         assert!(rt; !refused(alloc, ""));

@@ -14,6 +14,7 @@ mod span;
 mod spelling;
 mod template;
 mod token;
+mod value;
 mod word;
 mod written;
 
@@ -27,5 +28,6 @@ pub use span::{SOURCE_LIMIT, Span};
 pub use spelling::Spelling;
 pub use template::quote;
 pub use token::{Bracket, LiteralKind, Token, TokenKind, TokenStream};
+pub use value::int_value;
 pub use word::Word;
 pub use written::Written;

@@ -1,9 +1,10 @@
 //! Texts that are printed as one token.
 ghost use Rattle.std.specs.Prelude.{◌≡◌, IsTrue, IfOk, chars};
 ghost use Rattle.educe_tokens.specs.Pieces.{is_name_or_index};
-ghost use Rattle.educe_tokens.specs.Quote.{is_ascii_name};
+ghost use Rattle.educe_tokens.specs.Quote.{is_ascii_name, word_lexeme};
 
 use crate::spelling::Spelling;
+use crate::token::{LiteralKind, TokenKind};
 use std::alloc::{AllocError, Global};
 
 /// A text that spells one identifier or one integer: a name, or the index of a tuple's field.
@@ -37,6 +38,16 @@ impl Word {
         ensures { chars result.now ≡ self.now.text }
     {
         self.text.as_str()
+    }
+
+    /// Which of the two it is.
+    pub fn kind(&self) -> TokenKind
+        ensures { result ≡ (word_lexeme self.now.text).kind }
+    {
+        match self.as_str().chars().next() {
+            Some(first) if first.is_ascii_digit() => TokenKind::Literal(LiteralKind::Int),
+            _ => TokenKind::Ident,
+        }
     }
 
     /// An equal word in memory of its own.

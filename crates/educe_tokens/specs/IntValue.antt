@@ -1,0 +1,25 @@
+-- The value of an integer literal.
+use Rattle.std.specs.Prelude.{ℕ, Option, Some, None, List}
+use Rattle.std.specs.Str.Parse.{digits_value}
+use Rattle.educe_tokens.specs.declared.token.LiteralKind.TheVariants.{Int, Str, ByteStr, Char, Byte}
+use Rattle.educe_tokens.specs.declared.token.TokenKind.{TokenKind}
+use Rattle.educe_tokens.specs.declared.token.TokenKind.TheVariants.{Ident, Lifetime, Literal, Punct, Start, Stop, Doc}
+use Rattle.educe_tokens.specs.Lexes.{Lexeme}
+
+-- the number that the digits write, where the kind is `Int`
+abbrev pub value_of : TokenKind → List ℕ → Option ℕ
+value_of (Literal Int) cs = Some (digits_value 10 cs)
+value_of (Literal Str) cs = None
+value_of (Literal ByteStr) cs = None
+value_of (Literal Char) cs = None
+value_of (Literal Byte) cs = None
+value_of Ident cs = None
+value_of Lifetime cs = None
+value_of (Punct c joint) cs = None
+value_of (Start b) cs = None
+value_of (Stop b) cs = None
+value_of Doc cs = None
+
+-- the value of an integer literal; another token has none
+abbrev pub int_value : Lexeme → Option ℕ
+int_value lexeme = value_of lexeme.kind lexeme.spelling
