@@ -1,5 +1,5 @@
 -- Names that differ, and words that do not occur.
-use Rattle.std.proofs.Common.{append_assoc, add-one, ◌≡◌, ◌≢◌, ℕ, ◌+◌, ◌<◌, Bool, true, false, not, cond, ◌||◌, List, [], ◌∷◌, ◌++◌, length, take, drop, get_or, refl, ap, sym, subst, ◌∙◌, ◌⊎◌, inl, inr, codes, chars, map, encode_utf8_all, Bor}
+use Rattle.std.proofs.Common.{append_assoc, add-one, ◌≡◌, ◌≢◌, ℕ, ◌+◌, ◌<◌, Bool, true, false, not, cond, ◌||◌, List, [], ◌∷◌, ◌++◌, length, take, drop, get_or, refl, ap, sym, subst, ◌∙◌, codes, chars, map, encode_utf8_all, Bor}
 use Rattle.std.specs.List.{AllByRecursion, list_any}
 use Rattle.std.specs.Str.{bytes_eq}
 use Rattle.std.specs.Bool.{Decides}
@@ -67,14 +67,16 @@ pub record Seen (seen : BTreeSet (Bor (List ℕ))) (fields : List Field) : Type 
   pub texts : AllByRecursion IsText fields
   pub apart : AreApart (map name_of fields)
 
-same_bytes : (f g : Field) → IsText f → IsText g → bytes_eq (bytes_of f) (bytes_of g) ≡ true → name_of f ≡ name_of g
+-- fields of the same bytes have one name
+pub same_bytes : (f g : Field) → IsText f → IsText g → bytes_eq (bytes_of f) (bytes_of g) ≡ true → name_of f ≡ name_of g
 same_bytes f g text_f text_g same = sym text_f ∙ ap chars ((bytes_eq-Decides (bytes_of f) (bytes_of g)).0 same) ∙ text_g
 
 all_snoc : {X : Type 0} (P : X → Type 0) (xs : List X) (x : X) → AllByRecursion P xs → P x → AllByRecursion P (xs ++ x ∷ [])
 all_snoc P [] x all last = (last, tt)
 all_snoc P (y ∷ ys) x all last = (all.0, all_snoc P ys x all.1 last)
 
-all_at : {X : Type 0} (P : X → Type 0) (xs ys : List X) (x : X) → AllByRecursion P (xs ++ x ∷ ys) → P x
+-- what holds of each holds of one in the middle
+pub all_at : {X : Type 0} (P : X → Type 0) (xs ys : List X) (x : X) → AllByRecursion P (xs ++ x ∷ ys) → P x
 all_at P [] ys x all = all.0
 all_at P (z ∷ zs) ys x all = all_at P zs ys x all.1
 
@@ -95,7 +97,8 @@ apart_snoc : (names : List (List ℕ)) (name : List ℕ) → AreApart names → 
 apart_snoc [] name apart new = (tt, tt)
 apart_snoc (n ∷ ns) name apart new = (all_snoc (λ other. n ≢ other) ns name apart.0 new.0, apart_snoc ns name apart.1 new.1)
 
-map_snoc : {X Y : Type 0} (f : X → Y) (xs ys : List X) → map f (xs ++ ys) ≡ map f xs ++ map f ys
+-- the image of two lists, one behind the other
+pub map_snoc : {X Y : Type 0} (f : X → Y) (xs ys : List X) → map f (xs ++ ys) ≡ map f xs ++ map f ys
 map_snoc f [] ys = refl
 map_snoc f (x ∷ xs) ys = ap (λ zs. f x ∷ zs) (map_snoc f xs ys)
 
@@ -122,21 +125,6 @@ seen_more seen next fields field name before text bytes new updates =
       texts = all_snoc IsText fields field before.texts text;
       apart = subst AreApart (sym (map_snoc name_of fields (field ∷ []))) (apart_snoc (map name_of fields) (name_of field) before.apart (differs fields field none));
     }
-
--- a name that occurs before makes the list not apart
-pub not_apart : (fields after : List Field) (field : Field) → AllByRecursion IsText fields → IsText field → has_name fields (bytes_of field) ≡ true
-    → AreApart (map name_of (fields ++ field ∷ after)) → ⊥
-not_apart [] after field texts text found apart = cc
-not_apart (f ∷ fs) after field texts text found apart =
-    elim (either (bytes_eq (bytes_of f) (bytes_of field)) (has_name fs (bytes_of field)) found) [
-      | inl same ↦ all_at (λ other. name_of f ≢ other) (map name_of fs) (map name_of after) (name_of field)
-          (subst (AllByRecursion (λ other. name_of f ≢ other)) (map_snoc name_of fs (field ∷ after)) apart.0) (same_bytes f field texts.0 text same)
-      | inr more ↦ not_apart fs after field texts.1 text more apart.1
-    ]
-  where
-    either : (a b : Bool) → (a || b) ≡ true → (a ≡ true) ⊎ (b ≡ true)
-    either true b h = inl refl
-    either false b h = inr h
 
 -- the front with one more item
 pub take_more : {X : Type 0} (xs : List X) (i : ℕ) (x : X) → i < length xs → x ≡ get_or xs i x → take (i + 1) xs ≡ take i xs ++ x ∷ []

@@ -3,7 +3,7 @@ use Rattle.std.proofs.Common.{◌≡◌, suc, ◌-◌, ◌≤◌, Bool, true, fa
 use Rattle.std.proofs.Math.Seq.{take-append_seam}
 use Rattle.educe_tokens.specs.declared.token.Token.{Token}
 use Rattle.educe_syntax.specs.declared.parse_error.ParseError.{ParseError}
-use Rattle.educe_syntax.specs.Steps.{Tokens, Outcome, Parser, and_then, Found, found_if, expect, sees, after, since}
+use Rattle.educe_syntax.specs.Steps.{Tokens, Outcome, Parser, and_then, check, Found, found_if, expect, sees, after, since}
 use Rattle.educe_syntax.proofs.Trees.{IsTrue-prop}
 
 ok_same : {A : Type 0} {x y : A} → ◌≡◌ {A = Result A ParseError} (Ok x) (Ok y) → x ≡ y
@@ -29,6 +29,16 @@ went (Err e) f y rest h = absurd (cc)
 pub chose : {A : Type 0} (b : Bool) (x y : Outcome A) (z : Outcome A) → cond b x y ≡ z → ((b ≡ true) × (x ≡ z)) ⊎ ((b ≡ false) × (y ≡ z))
 chose true x y z h = inl (refl, h)
 chose false x y z h = inr (refl, h)
+
+-- what was checked holds
+pub checked : (b : Bool) (ts rest : Tokens) (u : Unit {0}) → check b ts ≡ Ok (u, rest) → (b ≡ true) × (ts ≡ rest)
+checked true ts rest u h = (refl, (ok_pair h).1)
+checked false ts rest u h = absurd (cc)
+
+-- a test holds or fails
+pub decided : (b : Bool) → (b ≡ true) ⊎ (b ≡ false)
+decided true = inl refl
+decided false = inr refl
 
 -- which parser was run
 pub picked : {A : Type 0} {z : Outcome A} (b : Bool) (f g : Parser A) (ts : Tokens) → cond b f g ts ≡ z → ((b ≡ true) × (f ts ≡ z)) ⊎ ((b ≡ false) × (g ts ≡ z))

@@ -4,7 +4,12 @@ pub mod Trees
 pub mod Expecting
 pub mod Accepting
 pub mod Listing
+pub mod Apart
+pub mod Repeated
+pub mod Closing
+pub mod AttributeSound
+pub mod AttributeAgain
 pub mod Sound
 pub mod Again
-pub mod Apart
 pub mod Whole
+pub mod Making

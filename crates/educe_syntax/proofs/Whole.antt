@@ -15,6 +15,7 @@ pub whole_found : (tokens left : Tokens) (definition : DeriveInput) → read_def
 whole_found tokens [] definition h e =
     let took = definition_sound tokens tokens [] definition h in record {
       front = took.front;
+      listed = took.listed;
       back = took.back;
       is = took.whole ∙ ap (λ us. took.front ++ us) (append-nil took.back);
       attributes = took.attributes;

@@ -36,6 +36,26 @@ pub chars_partial_eq : chars (codes "PartialEq") ≡ codes "PartialEq"
 unfolding chars
 chars_partial_eq = refl
 
+-- the characters of `PartialOrd`
+pub chars_partial_ord : chars (codes "PartialOrd") ≡ codes "PartialOrd"
+unfolding chars
+chars_partial_ord = refl
+
+-- the characters of `Ord`
+pub chars_ord : chars (codes "Ord") ≡ codes "Ord"
+unfolding chars
+chars_ord = refl
+
+-- the characters of `ignore`
+pub chars_ignore : chars (codes "ignore") ≡ codes "ignore"
+unfolding chars
+chars_ignore = refl
+
+-- the characters of `rank`
+pub chars_rank : chars (codes "rank") ≡ codes "rank"
+unfolding chars
+chars_rank = refl
+
 -- a test of the keywords goes by the table
 pub list_any-KEYWORDS : (text : List ℕ) → list_any (λ k. bytes_eq (chars k.now) text) KEYWORDS ≡ is_keyword text
 unfolding chars is_keyword

@@ -1,10 +1,11 @@
 -- The form that is built so far, on the definition that was read.
-use Rattle.std.specs.Prelude.{◌≡◌, ◌≢◌, ℕ, List, [], ◌∷◌, map, Some, None, Result, Ok, Err, codes}
+use Rattle.std.specs.Prelude.{◌≡◌, ◌≢◌, ℕ, List, [], ◌∷◌, ◌++◌, Some, None, IsSome, Result, Ok, Err, codes}
 use Rattle.std.specs.List.{AllByRecursion}
 use Rattle.educe_tokens.specs.declared.token.Token.{Token}
 use Rattle.educe_tokens.specs.declared.error.EduceError.{EduceError}
 use Rattle.educe_tokens.specs.declared.error.Kind.TheVariants.{Alloc}
 use Rattle.educe_syntax.specs.declared.data.Field.{Field}
+use Rattle.educe_syntax.specs.declared.ident.Ident.{Ident}
 use Rattle.educe_syntax.specs.declared.derive.DeriveInput.{DeriveInput}
 use Rattle.educe_syntax.specs.declared.derive.Shape.{Shape}
 use Rattle.educe_syntax.specs.declared.derive.Shape.TheVariants.{Struct}
@@ -20,6 +21,10 @@ fields_of definition = shape_fields definition.shape
 abbrev pub name_of : Field → List ℕ
 name_of field = elim field.ident [ None ↦ [] | Some ident ↦ ident.text ]
 
+-- the field has a name
+abbrev pub IsNamed : Field → Type 0
+IsNamed field = IsSome field.ident
+
 -- each differs from all that follow it
 abbrev pub AreApart : List (List ℕ) → Type 0
 AreApart [] = Unit {0}
@@ -29,10 +34,20 @@ AreApart (name ∷ names) = AllByRecursion (λ other. name ≢ other) names × A
 abbrev pub HasNoOther : List Token → Type 0
 HasNoOther tokens = AllByRecursion (λ (t : Token). t.spelling ≢ codes "other") tokens
 
--- no token is the word `other`, and no two fields have one name
+-- no token is the word `other`
 pub record IsBuilt (definition : DeriveInput) : Type 0 where
   pub no_other : HasNoOther definition.tokens
-  pub names_apart : AreApart (map name_of (fields_of definition))
+
+-- two fields have one name, and this is the later one's
+pub record IsRepeated (ident : Ident) (fields : List Field) : Type 0 where
+  pub before : List Field
+  pub first : Field
+  pub between : List Field
+  pub later : Field
+  pub after : List Field
+  pub is : fields ≡ before ++ first ∷ (between ++ later ∷ after)
+  pub named : later.ident ≡ Some ident
+  pub same : name_of first ≡ ident.text
 
 -- the definition, unless memory fails
 abbrev pub IsDefinition : DeriveInput → Result DeriveInput EduceError → Type 0

@@ -1,8 +1,13 @@
 pub mod Names
+pub mod Traits
+pub mod Params
+pub mod Rank
 pub mod Terminals
 pub mod Reading
+pub mod Settings
 pub mod Steps
 pub mod TokenLaws
+pub mod AttributeParsing
 pub mod Parsing
 pub mod Built
 pub mod Refusal

@@ -1,13 +1,11 @@
 -- The steps that each reading function is made of.
-use Rattle.std.specs.Prelude.{◌≡◌, ◌≢◌, ℕ, zero, suc, ◌-◌, Bool, true, false, if◌then◌else◌, List, [], ◌∷◌, ◌++◌, length, take, refl, IsTrue, Option, Some, slice_get, Result, Ok, Err}
+use Rattle.std.specs.Prelude.{◌≡◌, ◌≢◌, ℕ, zero, suc, ◌-◌, Bool, true, false, if◌then◌else◌, List, [], ◌∷◌, ◌++◌, length, take, refl, IsTrue, Result, Ok, Err}
 use denote.Ref.{Bor, MutBor}
-use Rattle.educe_tokens.specs.declared.span.Span.{Span}
 use Rattle.educe_tokens.specs.declared.token.Token.{Token}
 use Rattle.educe_syntax.specs.declared.parse_error.ParseError.{ParseError}
 use Rattle.educe_syntax.specs.declared.parse_error.ParseError.TheVariants.{Unbuilt, Memory}
 use Rattle.educe_syntax.specs.declared.terminal.Terminal.TheVariants as terminal
 use Rattle.educe_syntax.specs.Terminals.{accepts}
-use Rattle.educe_syntax.specs.Reading.{through}
 
 abbrev pub Tokens : Type 0
 Tokens = List Token
@@ -36,6 +34,14 @@ pure a = λ ts. Ok (a, ts)
 
 abbrev pub refuse : {A : Type 0} → Parser A
 refuse = λ ts. Err Unbuilt
+
+-- goes on only where the test holds
+abbrev pub check : Bool → Parser (Unit {0})
+check holds = λ ts. if holds then Ok (tt, ts) else Err Unbuilt
+
+-- the tokens that are left
+abbrev pub here : Parser Tokens
+here = λ ts. Ok (ts, ts)
 
 -- such a token comes next
 unfoldable pub sees : (Token → Bool) → Tokens → Bool
@@ -68,15 +74,6 @@ expect test (t ∷ ts) = found_if test t ts (test t) refl
 -- what was read since there were these tokens
 unfoldable pub since : Tokens → Tokens → Tokens
 since start rest = take (length start - length rest) start
-
--- from the one token to the other, if both are there
-abbrev pub between : Option Token → Option Token → Span
-between (Some first) (Some last) = through first last
-between _ _ = record { start = 0; end = 0 }
-
--- from the first of the tokens to the last
-unfoldable pub span_of : Tokens → Span
-span_of tokens = between (slice_get tokens 0) (slice_get tokens (length tokens - 1))
 
 -- The items up to the closing token, which is taken. The number bounds the turns: each takes a token.
 unfoldable pub items_from : {A : Type 0} → Parser A → (Token → Bool) → ℕ → List A → Parser (List A)

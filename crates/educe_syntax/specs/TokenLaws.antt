@@ -1,5 +1,5 @@
 -- What the tests of the grammar say of a token's kind.
-use Rattle.std.proofs.Common.{◌≡◌, ℕ, Bool, true, false, List, [], ◌∷◌, refl, ap, subst, ◌∙◌, IsTrue}
+use Rattle.std.proofs.Common.{◌≡◌, ℕ, Bool, true, false, List, [], ◌∷◌, refl, ap, subst, IsTrue}
 use Rattle.std.proofs.lemmas.Bool.{eqb-true}
 use Rattle.std.specs.Bool.{passes}
 use Rattle.educe_tokens.specs.declared.token.Token.{Token}
@@ -118,19 +118,3 @@ name_written t h = ident_written t.kind t.spelling (name_kind t h)
 -- a word alone is written
 pub word_written : (w : Keyword) (t : Token) → IsTrue (accepts (terminal.Word w) t) → IsTrue (is_written (lexemes (t ∷ [])))
 word_written w t h = ident_written t.kind t.spelling (word_kind w t h)
-
-abbrev is_word_list : TokenKind → TokenKind → TokenKind → List ℕ → List ℕ → List ℕ → Bool
-is_word_list a b c x y z =
-    is_written (record { kind = a; spelling = x } ∷ record { kind = b; spelling = y } ∷ record { kind = c; spelling = z } ∷ [])
-
-word_list_written : (a b c : TokenKind) (x y z : List ℕ) → a ≡ kind.Start Round → b ≡ kind.Ident → c ≡ kind.Stop Round → is_word_list a b c x y z ≡ true
-word_list_written a b c x y z start word stop =
-    ap (λ a. is_word_list a b c x y z) start ∙ ap (λ b. is_word_list (kind.Start Round) b c x y z) word
-    ∙ ap (λ c. is_word_list (kind.Start Round) kind.Ident c x y z) stop
-
--- a word in round brackets is written
-pub list_written : (w : Keyword) (first word last : Token) → IsTrue (accepts (terminal.Open Round) first) → IsTrue (accepts (terminal.Word w) word)
-    → IsTrue (accepts (terminal.Close Round) last) → IsTrue (is_written (lexemes (first ∷ word ∷ last ∷ [])))
-list_written w first word last is_first is_word is_last =
-    word_list_written first.kind word.kind last.kind first.spelling word.spelling last.spelling
-    (open_kind Round first is_first) (word_kind w word is_word) (close_kind Round last is_last)

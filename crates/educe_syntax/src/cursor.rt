@@ -1,5 +1,7 @@
 //! A cursor over a list of tokens, which contracts see as the tokens that are left.
-ghost use Rattle.std.specs.Prelude.{◌≡◌, length};
+ghost use Rattle.std.specs.Prelude.{◌≡◌, ◌∷◌, length};
+ghost use Rattle.educe_syntax.specs.Reading as reading;
+ghost use Rattle.educe_syntax.specs.Reading.{span_of};
 ghost use Rattle.educe_syntax.specs.Steps as spec;
 ghost use Rattle.educe_syntax.specs.Steps.{Lends};
 ghost use Rattle.educe_syntax.specs.Terminals.{accepts};
@@ -8,6 +10,24 @@ use crate::parse_error::ParseError;
 use crate::terminal::Terminal;
 use educe_tokens::{Span, Token};
 use std::marker::Model;
+
+/// From the start of one token to the end of another.
+pub fn through(first: &Token, last: &Token) -> Span
+    ensures { result ≡ reading.through first.now last.now }
+{
+    Span {
+        start: first.span.start,
+        end: last.span.end,
+    }
+}
+
+/// From the start of a token to the end of the tokens behind it.
+#[tactic(auto, unfolding(crate::specs::Reading::span_of))]
+pub fn span_from(first: &Token, behind: &[Token]) -> Span
+    ensures { result ≡ span_of (first.now ∷ behind.now) }
+{
+    through(first, behind.last().unwrap_or(first))
+}
 
 /// The tokens that are left to read.
 #[derive(Drop)]
@@ -85,17 +105,22 @@ impl<'a> Cursor<'a> {
         self.rest
     }
 
-    /// The span of what was read since these tokens were left.
-    #[tactic(auto, unfolding(crate::specs::Steps::since, crate::specs::Steps::span_of))]
-    pub fn span_since(&self, start: &[Token]) -> Span
-        ensures { result ≡ spec.span_of (spec.since start.now self.now) }
+    /// What was read since these tokens were left.
+    #[tactic(auto, unfolding(crate::specs::Steps::since))]
+    pub fn since<'b>(&self, start: &'b [Token]) -> &'b [Token]
+        ensures { result.now ≡ spec.since start.now self.now }
     {
-        let read = &start[..start.len().saturating_sub(self.rest.len())];
+        &start[..start.len().saturating_sub(self.rest.len())]
+    }
+
+    /// The span of what was read since these tokens were left.
+    #[tactic(auto, unfolding(crate::specs::Reading::span_of))]
+    pub fn span_since(&self, start: &[Token]) -> Span
+        ensures { result ≡ span_of (spec.since start.now self.now) }
+    {
+        let read = self.since(start);
         match (read.first(), read.last()) {
-            (Some(first), Some(last)) => Span {
-                start: first.span.start,
-                end: last.span.end,
-            },
+            (Some(first), Some(last)) => through(first, last),
             _ => Span::NONE,
         }
     }

@@ -1,26 +1,26 @@
 //! The parser of definitions.
-ghost use Rattle.std.specs.Prelude.{◌≡◌, [], ◌∷◌, IsTrue, IfOk, IfErr};
-ghost use Rattle.educe_tokens.specs.declared.token.Bracket.TheVariants.{Round};
+ghost use Rattle.std.specs.Prelude.{◌≡◌, ◌≢◌, ◌⊎◌, IsTrue, IfOk, IfErr, map};
 ghost use Rattle.educe_syntax.specs.Reading as reading;
-ghost use Rattle.educe_tokens.specs.Built.{IsUnbuiltOrAlloc};
-ghost use Rattle.educe_syntax.specs.Built.{IsBuilt, IsDefinition};
-ghost use Rattle.educe_syntax.specs.Refusal.{refusal_of};
+ghost use Rattle.educe_tokens.specs.Built.{placeless};
+ghost use Rattle.educe_syntax.specs.Built.{IsBuilt, IsDefinition, AreApart, name_of, fields_of};
+ghost use Rattle.educe_syntax.specs.Refusal.{refusal_of, duplicate_of, IsRefusalOf};
 ghost use Rattle.educe_syntax.specs.Steps.{Gives, IsTree};
 ghost use Rattle.educe_syntax.specs.Terminals.{accepts};
 ghost use Rattle.educe_syntax.specs.Parsing as spec;
 ghost use Rattle.educe_syntax.specs.declared.derive.DeriveInput.{DeriveInput};
 ghost use Rattle.educe_syntax.specs.declared.terminal.Terminal.TheVariants as terminal;
 
-use crate::attr::{Attribute, Attributes, Meta, MetaPath};
-use crate::built::{are_names_apart, has_no_other};
+use crate::built::{has_no_other, repeated_name};
 use crate::cursor::Cursor;
 use crate::data::{Field, FieldForm, FieldShape, Fields};
 use crate::derive::{DeriveInput, Shape};
 use crate::ident::Ident;
 use crate::list::items_up_to;
+use crate::parse_attr::{Place, attributes, one_token};
 use crate::parse_error::ParseError;
 use crate::path::{Args, Path, Segment};
 use crate::terminal::{Keyword, Terminal};
+use crate::traits::{Trait, all_listed};
 use crate::ty::{Ty, TypeForm};
 use educe_tokens::{Bracket, EduceError, Kind, Seq, Span, Token, TokenStream, Written};
 use std::alloc::{AllocError, Global};
@@ -35,15 +35,6 @@ fn ident_of(alloc: Global, token: &Token) -> Result<Ident, AllocError>
         text,
         span: token.span,
     })
-}
-
-/// The list of this one token.
-fn one_token(alloc: Global, token: &Token) -> Result<TokenStream, AllocError>
-    ensures { IfOk result (λ tokens. tokens ≡ token.now ∷ []) }
-{
-    let mut tokens = Seq::new(alloc);
-    tokens.push(token.duplicate(alloc)?)?;
-    Ok(tokens)
 }
 
 /// The type that the name is.
@@ -84,15 +75,19 @@ fn named_type(alloc: Global, cursor: &mut Cursor<'_>) -> Result<Ty, ParseError>
 }
 
 #[tactic(auto, unfolding(crate::specs::Parsing::read_field))]
-fn field(alloc: Global, cursor: &mut Cursor<'_>) -> Result<Field, ParseError>
-    ensures { Gives (spec.read_field cursor.old) result cursor.new }
+fn field(alloc: Global, cursor: &mut Cursor<'_>, listed: &[Trait]) -> Result<Field, ParseError>
+    ensures { Gives (spec.read_field listed.now cursor.old) result cursor.new }
 {
     let start = cursor.rest();
+    let (attrs, names) = attributes(alloc, cursor, Place::Field)?;
+    if !all_listed(listed, names.as_slice()) {
+        return Err(ParseError::Unbuilt);
+    }
     let name = ident(alloc, cursor)?;
     cursor.expect(Terminal::Sign(':'))?;
     let ty = named_type(alloc, cursor)?;
     Ok(Field {
-        attrs: Seq::new(alloc),
+        attrs,
         ident: Some(name),
         ty,
         span: cursor.span_since(start),
@@ -100,8 +95,8 @@ fn field(alloc: Global, cursor: &mut Cursor<'_>) -> Result<Field, ParseError>
 }
 
 #[tactic(auto, unfolding(crate::specs::Parsing::read_fields))]
-fn fields(alloc: Global, cursor: &mut Cursor<'_>) -> Result<Fields, ParseError>
-    ensures { Gives (spec.read_fields cursor.old) result cursor.new }
+fn fields(alloc: Global, cursor: &mut Cursor<'_>, listed: &[Trait]) -> Result<Fields, ParseError>
+    ensures { Gives (spec.read_fields listed.now cursor.old) result cursor.new }
 {
     cursor.expect(Terminal::Open(Bracket::Curly))?;
     let close = Terminal::Close(Bracket::Curly);
@@ -109,67 +104,8 @@ fn fields(alloc: Global, cursor: &mut Cursor<'_>) -> Result<Fields, ParseError>
         cursor,
         close,
         Seq::new(alloc),
-        |cursor| field(alloc, cursor),
+        |cursor| field(alloc, cursor, listed),
     )
-}
-
-/// From the start of one token to the end of another.
-fn through(first: &Token, last: &Token) -> Span
-    ensures { result ≡ reading.through first.now last.now }
-{
-    Span {
-        start: first.span.start,
-        end: last.span.end,
-    }
-}
-
-/// The attribute with one word in round brackets.
-fn attribute_of(
-    alloc: Global,
-    path: &Token,
-    opening: &Token,
-    word: &Token,
-    closing: &Token,
-) -> Result<Attribute, AllocError>
-    requires path_is { IsTrue (accepts (terminal.Word Keyword.Educe) path.now) }
-    requires open_is { IsTrue (accepts (terminal.Open Round) opening.now) }
-    requires word_is { IsTrue (accepts (terminal.Word Keyword.PartialEq) word.now) }
-    requires close_is { IsTrue (accepts (terminal.Close Round) closing.now) }
-    ensures { IfOk result (spec.IsAttributeOf path.now opening.now word.now closing.now) }
-{
-    let written = Written::new(one_token(alloc, path)?);
-    let mut tokens = one_token(alloc, opening)?;
-    tokens.push(word.duplicate(alloc)?)?;
-    tokens.push(closing.duplicate(alloc)?)?;
-    let span = through(path, closing);
-    Ok(Attribute {
-        meta: Meta::List(MetaPath { written }, Written::new(tokens), span),
-    })
-}
-
-#[tactic(auto, unfolding(crate::specs::Parsing::read_attribute))]
-fn attribute(alloc: Global, cursor: &mut Cursor<'_>) -> Result<Attribute, ParseError>
-    ensures { Gives (spec.read_attribute cursor.old) result cursor.new }
-{
-    cursor.expect(Terminal::Sign('#'))?;
-    cursor.expect(Terminal::Open(Bracket::Square))?;
-    let path = cursor.expect(Terminal::Word(Keyword::Educe))?;
-    let opening = cursor.expect(Terminal::Open(Bracket::Round))?;
-    let word = cursor.expect(Terminal::Word(Keyword::PartialEq))?;
-    let closing = cursor.expect(Terminal::Close(Bracket::Round))?;
-    cursor.expect(Terminal::Close(Bracket::Square))?;
-    Ok(attribute_of(alloc, path, opening, word, closing)?)
-}
-
-#[tactic(auto, unfolding(crate::specs::Parsing::read_attributes))]
-fn attributes(alloc: Global, cursor: &mut Cursor<'_>) -> Result<Attributes, ParseError>
-    ensures { Gives (spec.read_attributes cursor.old) result cursor.new }
-{
-    let mut attrs = Seq::new(alloc);
-    if cursor.sees(Terminal::Sign('#')) {
-        attrs.push(attribute(alloc, cursor)?)?;
-    }
-    Ok(attrs)
 }
 
 #[tactic(auto, unfolding(crate::specs::Parsing::read_definition))]
@@ -180,10 +116,10 @@ fn definition(
 ) -> Result<DeriveInput, ParseError>
     ensures { Gives (spec.read_definition tokens.now cursor.old) result cursor.new }
 {
-    let attrs = attributes(alloc, cursor)?;
+    let (attrs, listed) = attributes(alloc, cursor, Place::Definition)?;
     cursor.expect(Terminal::Word(Keyword::Struct))?;
     let ident = ident(alloc, cursor)?;
-    let fields = fields(alloc, cursor)?;
+    let fields = fields(alloc, cursor, listed.as_slice())?;
     Ok(DeriveInput {
         attrs,
         ident,
@@ -222,9 +158,6 @@ fn built(alloc: Global, tokens: &TokenStream) -> Result<DeriveInput, ParseError>
     if !has_no_other(tokens.as_slice()) {
         return Err(ParseError::Unbuilt);
     }
-    if !are_names_apart(alloc, definition.fields())? {
-        return Err(ParseError::Unbuilt);
-    }
     Ok(definition)
 }
 
@@ -238,19 +171,41 @@ fn refusal(alloc: Global, error: ParseError) -> EduceError
     }
 }
 
+/// The refusal of a name that is given twice.
+fn duplicate_name(alloc: Global, ident: &Ident) -> EduceError
+    ensures { (result ≡ placeless Kind.Alloc) ⊎ (result ≡ duplicate_of ident.now) }
+{
+    let Ok(word) = ident.text.duplicate(alloc) else {
+        return EduceError::alloc(alloc);
+    };
+    match EduceError::with_word(alloc, Kind::DuplicateName, ident.span, word) {
+        Ok(error) => error,
+        Err(_) => EduceError::alloc(alloc),
+    }
+}
+
 /// The definition that the tokens are (Rust Reference, Structs). It is refused where the tokens are
-/// none of the form that is built so far, or where memory fails.
+/// none of the form that is built so far, where two fields have one name, or where memory fails.
 pub fn parse_derive_input(alloc: Global, tokens: &TokenStream) -> Result<DeriveInput, EduceError>
     ensures found { IfOk result (λ definition. reading.Reads tokens.now definition) }
     ensures built { IfOk result (λ definition. IsBuilt definition) }
-    ensures err { IfErr result (λ e. IsUnbuiltOrAlloc e) }
+    ensures apart { IfOk result (λ definition. AreApart (map name_of (fields_of definition))) }
+    ensures err { IfErr result (λ e. IsRefusalOf tokens.now e) }
 
-    // Where the tokens are such a definition it is answered, unless memory fails: there is no
-    // other reading, and no other refusal.
-    ensures only { (definition : DeriveInput) → reading.Reads tokens.now definition → IsBuilt definition → IsDefinition definition result }
+    // Where the tokens are such a definition it is answered, unless two fields have one name or
+    // memory fails: there is no other reading, and no other refusal.
+    ensures only { (definition : DeriveInput) → reading.Reads tokens.now definition → IsBuilt definition
+        → AreApart (map name_of (fields_of definition)) → IsDefinition definition result }
+    ensures met { (definition : DeriveInput) → reading.Reads tokens.now definition → IsBuilt definition
+        → IfErr result (λ e. e.kind ≢ Kind.NotBuilt) }
 {
-    match built(alloc, tokens) {
-        Ok(definition) => Ok(definition),
-        Err(error) => Err(refusal(alloc, error)),
+    let definition = match built(alloc, tokens) {
+        Ok(definition) => definition,
+        Err(error) => return Err(refusal(alloc, error)),
+    };
+    match repeated_name(alloc, definition.fields()) {
+        Ok(None) => Ok(definition),
+        Ok(Some(ident)) => Err(duplicate_name(alloc, ident)),
+        Err(_) => Err(EduceError::alloc(alloc)),
     }
 }

@@ -4,6 +4,8 @@ ghost use Rattle.educe_tokens.specs.Brackets as brackets;
 ghost use Rattle.educe_syntax.specs.Terminals as spec;
 
 use crate::names::is_name;
+use crate::rank::rank_value;
+use crate::traits::Trait;
 use educe_tokens::{Bracket, Token, TokenKind};
 
 /// A word that the grammar spells out.
@@ -11,19 +13,23 @@ use educe_tokens::{Bracket, Token, TokenKind};
 pub enum Keyword {
     Struct,
     Educe,
-    PartialEq,
+    Ignore,
+    Rank,
+    Trait(Trait),
 }
 
 impl Keyword {
     /// How the word is spelled.
-    #[tactic(auto, using(crate::proofs::Words::chars_struct, crate::proofs::Words::chars_educe, crate::proofs::Words::chars_partial_eq))]
+    #[tactic(auto, using(crate::proofs::Words::chars_struct, crate::proofs::Words::chars_educe, crate::proofs::Words::chars_ignore, crate::proofs::Words::chars_rank))]
     pub fn text(self) -> &'static str
         ensures { chars result.now ≡ spec.text_of self }
     {
         match self {
             Keyword::Struct => "struct",
             Keyword::Educe => "educe",
-            Keyword::PartialEq => "PartialEq",
+            Keyword::Ignore => "ignore",
+            Keyword::Rank => "rank",
+            Keyword::Trait(which) => which.name(),
         }
     }
 }
@@ -39,6 +45,8 @@ pub enum Terminal {
     Close(Bracket),
     /// An identifier that is neither `_` nor a keyword.
     Name,
+    /// An integer that is a rank, with `-` before it or not.
+    Rank(bool),
 }
 
 fn same_bracket(a: Bracket, b: Bracket) -> bool
@@ -64,6 +72,7 @@ impl Terminal {
             (Terminal::Open(a), TokenKind::Start(b)) => same_bracket(a, b),
             (Terminal::Close(a), TokenKind::Stop(b)) => same_bracket(a, b),
             (Terminal::Name, _) => is_name(token),
+            (Terminal::Rank(negated), _) => rank_value(negated, token).is_some(),
             _ => false,
         }
     }

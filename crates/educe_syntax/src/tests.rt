@@ -3,6 +3,8 @@ ghost use Rattle.std.specs.Prelude.{◌≤◌, length};
 use crate::attr::Meta;
 use crate::derive::DeriveInput;
 use crate::parse::parse_derive_input;
+use crate::settings::{ignores, params_of, rank_in, rank_span_in};
+use crate::traits::Trait;
 use educe_tokens::{EduceError, Kind, Span, lex};
 use std::alloc::Global;
 use std::test::Fail;
@@ -66,10 +68,113 @@ fn refuses_other_forms(rt: HostRuntime) -> Result<(), Fail> {
     assert!(rt; is_refused(alloc, "enum S {}"));
     assert!(rt; is_refused(alloc, "struct S { a u8 }"));
     assert!(rt; is_refused(alloc, "struct S { other: u8 }"));
-    assert!(rt; is_refused(alloc, "struct S { a: u8, a: u8 }"));
     assert!(rt; is_refused(alloc, "struct fn { a: u8 }"));
     assert!(rt; is_refused(alloc, "struct S { a: u8,, }"));
     Ok(())
+}
+
+#[test]
+fn reads_own_settings(rt: HostRuntime) -> Result<(), Fail> {
+    let text = "#[educe(Ord)] struct S { #[educe(Ord(rank = 1, ignore))] a: u8, b: u8, }";
+    let definition = read(rt.alloc(), text).or(Err("refused"))?;
+    let first = definition.fields().get(0).ok_or("no field")?;
+    assert_eq!(rt; first.span, Span { start: 25, end: 62 });
+    let attribute = first.attrs.get(0).ok_or("no attribute")?;
+    let Meta::List(_, written, span) = &attribute.meta;
+    assert_eq!(rt; *span, Span { start: 27, end: 55 });
+    let tokens = written.tokens().as_slice();
+    assert_eq!(rt; tokens.len(), 10);
+    assert!(rt; params_of(Trait::PartialEq, tokens).is_none());
+    let params = params_of(Trait::Ord, tokens).ok_or("no params")?;
+    assert_eq!(rt; params.len(), 5);
+    assert!(rt; ignores(params));
+    assert_eq!(rt; rank_in(params), Some(1));
+    assert_eq!(rt; rank_span_in(params), Some(Span { start: 37, end: 45 }));
+    let second = definition.fields().get(1).ok_or("no second field")?;
+    assert_eq!(rt; second.attrs.len(), 0);
+    Ok(())
+}
+
+#[test]
+fn reads_ranks(rt: HostRuntime) -> Result<(), Fail> {
+    let alloc = rt.alloc();
+    let text = "#[educe(Ord)] struct S { #[educe(Ord(rank = - 9223372036854775808))] a: u8 }";
+    let definition = read(alloc, text).or(Err("refused"))?;
+    let field = definition.fields().get(0).ok_or("no field")?;
+    let attribute = field.attrs.get(0).ok_or("no attribute")?;
+    let Meta::List(_, written, _) = &attribute.meta;
+    let params = params_of(Trait::Ord, written.tokens().as_slice()).ok_or("no params")?;
+    assert_eq!(rt; rank_in(params), Some(i64::MIN));
+    assert!(rt; !ignores(params));
+    assert!(rt;
+        read(
+            alloc,
+            "#[educe(Ord)] struct S { #[educe(Ord(rank =-1))] a: u8 }"
+        )
+        .is_ok()
+    );
+    assert!(rt; read(alloc, "#[educe()] struct S { a: u8 }").is_ok());
+    assert!(rt;
+        read(
+            alloc,
+            "#[educe(PartialEq)] struct S { #[educe(PartialEq(ignore),)] a: u8 }"
+        )
+        .is_ok()
+    );
+    Ok(())
+}
+
+#[test]
+fn refuses_other_attributes(rt: HostRuntime) -> Result<(), Fail> {
+    let alloc = rt.alloc();
+    assert!(rt; is_refused(alloc, "#[educe(Ord, Ord)] struct S { a: u8 }"));
+    assert!(rt; is_refused(alloc, "#[educe(Hash)] struct S { a: u8 }"));
+    assert!(rt;
+        is_refused(
+            alloc,
+            "#[educe(Ord)] struct S { #[educe(PartialEq(ignore))] a: u8 }"
+        )
+    );
+    assert!(rt; is_refused(alloc, "#[educe(Ord)] struct S { #[educe(Ord())] a: u8 }"));
+    assert!(rt;
+        is_refused(
+            alloc,
+            "#[educe(Ord)] struct S { #[educe(Ord(rank = 1, rank = 2))] a: u8 }"
+        )
+    );
+    assert!(rt;
+        is_refused(
+            alloc,
+            "#[educe(Ord)] struct S { #[educe(Ord(rank = 9223372036854775808))] a: u8 }"
+        )
+    );
+    assert!(rt;
+        is_refused(
+            alloc,
+            "#[educe(Ord)] struct S { #[educe(Ord(rank = - 9223372036854775809))] a: u8 }"
+        )
+    );
+    assert!(rt;
+        is_refused(
+            alloc,
+            "#[educe(PartialEq)] struct S { #[educe(PartialEq(ignore,))] a: u8 }"
+        )
+    );
+    Ok(())
+}
+
+#[test]
+fn refuses_a_repeated_name(rt: HostRuntime) -> Result<(), Fail> {
+    match read(rt.alloc(), "struct S { a: u8, a: u8 }") {
+        Err(error) => {
+            assert_eq!(rt; error.kind, Kind::DuplicateName);
+            assert_eq!(rt; error.span, Span { start: 18, end: 19 });
+            assert_eq!(rt; error.words.len(), 1);
+            assert!(rt; error.words.get(0).ok_or("no word")?.is("a"));
+            Ok(())
+        }
+        Ok(_) => Err(Fail::from("accepted")),
+    }
 }
 
 #[test]
