@@ -1,20 +1,21 @@
 -- The tokens of forms that hold forms, as equations on the lists and the boxed forms that they were made of.
 use denote.Hole.Carrier.{hidden}
 use mathlib.Core.Former.{Count}
-use Rattle.std.proofs.Common.{◌≡◌, ℕ, suc, ◌+◌, ◌<◌, List, [], ◌∷◌, ◌++◌, map, take, get_or, length, refl, sym, ap, ◌∙◌, arith, codes, append_assoc, append-nil}
+use Rattle.std.proofs.Common.{◌≡◌, Bool, ℕ, suc, ◌+◌, ◌<◌, List, [], ◌∷◌, ◌++◌, map, take, get_or, length, refl, sym, ap, ◌∙◌, arith, codes, append_assoc, append-nil}
 use Rattle.std.specs.Prelude.{◌==◌}
 use Rattle.std.specs.List.{flat_map}
 use Rattle.std.proofs.lemmas.Bool.{cond-false}
 use Rattle.std.proofs.lemmas.Bool.Decides.{nat_tests}
 use Rattle.std.proofs.lemmas.Grind.{flat_map-append}
 use Rattle.std.proofs.lemmas.List.{length-map, length-take-le, map-append, take_more}
+use Rattle.std.specs.declared.cmp.Ordering.{Ordering}
 use Rattle.educe_tokens.specs.Lexes.{Lexeme, lexemes}
 use Rattle.educe_tokens.specs.Quote.{quoted}
 use Rattle.educe_syntax.specs.declared.path.ExprPath.{ExprPath}
-use Rattle.educe_body.specs.declared.form.Form.{Form, Call, Call', IfReturn, Return, Block, Block', Row_of-Form, end_of-Form, more_of-Form, items-the_row-Form, items_hidden-the_row-Form-0}
+use Rattle.educe_body.specs.declared.form.Form.{Form, Call, Call', IfReturn, Return, SomeOf, MatchOrdering, Block, Block', Row_of-Form, end_of-Form, more_of-Form, items-the_row-Form, items_hidden-the_row-Form-0}
 use Rattle.educe_body.specs.declared.form.Form.TheBlock.{hidden-the_row-Form-1}
 use Rattle.educe_body.specs.Printing.{comma_before, separated}
-use Rattle.educe_body.specs.Tokens.{in_round, in_curly, form_lexemes, row_lexemes, argument_lexemes, behind_comma}
+use Rattle.educe_body.specs.Tokens.{in_round, in_curly, in_some, step_arms, form_lexemes, row_lexemes, argument_lexemes, behind_comma}
 
 -- the forms that a call or a block holds
 abbrev row_of : Form → (n : Count) × Row_of-Form n
@@ -52,6 +53,16 @@ form_lexemes-IfReturn test = ap (λ found. quoted (codes "if") ++ found ++ quote
 pub form_lexemes-Return : (inner : Form) → form_lexemes (Return inner) ≡ quoted (codes "return") ++ form_lexemes inner ++ quoted (codes ";")
 unfolding hidden-the_row-Form-1 hidden
 form_lexemes-Return inner = ap (λ found. quoted (codes "return") ++ found ++ quoted (codes ";")) (append-nil (form_lexemes inner))
+
+-- what stands in `Some`, by its tokens
+pub form_lexemes-SomeOf : (inner : Form) → form_lexemes (SomeOf inner) ≡ in_some (form_lexemes inner)
+unfolding hidden-the_row-Form-1 hidden
+form_lexemes-SomeOf inner = ap in_some (append-nil (form_lexemes inner))
+
+-- a match on an order, by the tokens of what is matched
+pub form_lexemes-MatchOrdering : (matched : Form) (partial : Bool) (greater less : Ordering) → form_lexemes (MatchOrdering matched partial greater less) ≡ quoted (codes "match") ++ form_lexemes matched ++ in_curly (step_arms partial greater less)
+unfolding hidden-the_row-Form-1 hidden
+form_lexemes-MatchOrdering matched partial greater less = ap (λ found. quoted (codes "match") ++ found ++ in_curly (step_arms partial greater less)) (append-nil (form_lexemes matched))
 
 -- a block, by the tokens of its forms
 pub form_lexemes-Block : (forms : List Form) → form_lexemes (Block forms) ≡ in_curly (flat_map form_lexemes forms)

@@ -1,16 +1,17 @@
 -- The values of forms that hold forms, as equations on the lists and the boxed forms that they were made of.
 use denote.Hole.Carrier.{hidden}
 use mathlib.Core.Former.{Count}
-use Rattle.std.proofs.Common.{◌≡◌, List, [], ◌∷◌, ◌++◌, map, refl, ap, ◌∙◌}
+use Rattle.std.proofs.Common.{◌≡◌, Bool, List, [], ◌∷◌, ◌++◌, map, refl, ap, ◌∙◌}
+use Rattle.std.specs.declared.cmp.Ordering.{Ordering}
 use Rattle.educe_syntax.specs.declared.path.ExprPath.{ExprPath}
-use Rattle.educe_body.specs.declared.form.Form.{Form, Call, Call', IfReturn, Return, Block, Block', Row_of-Form, end_of-Form, more_of-Form, items-the_row-Form, items_hidden-the_row-Form-0}
+use Rattle.educe_body.specs.declared.form.Form.{Form, Call, Call', IfReturn, Return, SomeOf, MatchOrdering, Block, Block', Row_of-Form, end_of-Form, more_of-Form, items-the_row-Form, items_hidden-the_row-Form-0}
 use Rattle.educe_body.specs.declared.form.Form.TheBlock.{hidden-the_row-Form-1}
 use Rattle.educe_body.specs.declared.evaluator.Binding.{Binding}
 use Rattle.educe_body.specs.declared.evaluator.Thing.{Thing}
 use Rattle.educe_body.specs.declared.evaluator.Thing.TheVariants.{Nothing}
 use Rattle.educe_body.specs.declared.evaluator.Flow.{Flow}
 use Rattle.educe_body.specs.declared.evaluator.Flow.TheVariants.{Gives, Returns, Stuck}
-use Rattle.educe_body.specs.Meaning.{Scene, form_value, row_value, row_values, list_value, call_value, if_return, return_of, go_on}
+use Rattle.educe_body.specs.Meaning.{Scene, form_value, row_value, row_values, list_value, call_value, if_return, return_of, some_of, match_ordering, go_on}
 
 -- blocks that go on alike have one value
 pub go_on-alike : (flow : Flow) (next other : Thing → Flow) → ((thing : Thing) → next thing ≡ other thing) → go_on flow next ≡ go_on flow other
@@ -61,6 +62,14 @@ module _ (scene : Scene) (names : List Binding) where
   pub form_value-Return : (inner : Form) → form_value scene names (Return inner) ≡ return_of (form_value scene names inner)
   unfolding hidden-the_row-Form-1 hidden
   form_value-Return inner = refl
+
+  pub form_value-SomeOf : (inner : Form) → form_value scene names (SomeOf inner) ≡ some_of (form_value scene names inner)
+  unfolding hidden-the_row-Form-1 hidden
+  form_value-SomeOf inner = refl
+
+  pub form_value-MatchOrdering : (matched : Form) (partial : Bool) (greater less : Ordering) → form_value scene names (MatchOrdering matched partial greater less) ≡ match_ordering partial greater less (form_value scene names matched)
+  unfolding hidden-the_row-Form-1 hidden
+  form_value-MatchOrdering matched partial above below = refl
 
   -- a block, by the values of its forms in order
   pub form_value-Block : (forms : List Form) → form_value scene names (Block forms) ≡ list_value scene names Nothing forms

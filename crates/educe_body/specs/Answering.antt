@@ -1,11 +1,11 @@
 -- What a call answers.
 use Rattle.std.specs.Prelude.{Bool, true, false, not, ◌&&◌, ◌==◌, List, [], ◌∷◌, Option, Some, None, if◌then◌else◌}
-use Rattle.std.specs.Ordering.{int_eq}
+use Rattle.std.specs.Ordering.{int_eq, int_cmp}
 use Rattle.educe_body.specs.declared.value.FieldValue.{FieldValue}
 use Rattle.educe_body.specs.declared.answers.Callee.{Callee}
-use Rattle.educe_body.specs.declared.answers.Callee.TheVariants.{Ne}
+use Rattle.educe_body.specs.declared.answers.Callee.TheVariants.{Ne, Cmp, PartialCmp}
 use Rattle.educe_body.specs.declared.answers.Answer.{Answer}
-use Rattle.educe_body.specs.declared.answers.Answer.TheVariants.{Truth}
+use Rattle.educe_body.specs.declared.answers.Answer.TheVariants.{Truth, Order, PartialOrder}
 use Rattle.educe_body.specs.declared.answers.Row.{Row}
 use Rattle.educe_body.specs.declared.answers.Answers.{Answers}
 
@@ -19,7 +19,9 @@ same_argument None (Some y) = false
 same_argument (Some x) None = false
 
 abbrev pub same_callee : Callee → Callee → Bool
-same_callee Ne Ne = true
+same_callee Ne callee = elim callee [ Ne ↦ true | Cmp ↦ false | PartialCmp ↦ false ]
+same_callee Cmp callee = elim callee [ Ne ↦ false | Cmp ↦ true | PartialCmp ↦ false ]
+same_callee PartialCmp callee = elim callee [ Ne ↦ false | Cmp ↦ false | PartialCmp ↦ true ]
 
 abbrev pub row_fits : Row → Callee → Option FieldValue → Option FieldValue → Bool
 row_fits row callee x y = same_callee row.callee callee && same_argument row.first x && same_argument row.second y
@@ -31,6 +33,8 @@ first_row (row ∷ rows) callee x y = if row_fits row callee x y then Some row.a
 
 abbrev pub compared_numbers : Callee → FieldValue → FieldValue → Option Answer
 compared_numbers Ne x y = Some (Truth (not (int_eq x.number y.number)))
+compared_numbers Cmp x y = Some (Order (int_cmp x.number y.number))
+compared_numbers PartialCmp x y = Some (PartialOrder (Some (int_cmp x.number y.number)))
 
 -- the comparison of the numbers of two values of one type
 abbrev pub by_number_answer : Callee → Option FieldValue → Option FieldValue → Option Answer

@@ -6,7 +6,7 @@ use Rattle.std.specs.Cmp.Lexicographic.{pointwise}
 use Rattle.educe_tokens.specs.declared.token.Token.{Token}
 use Rattle.educe_syntax.specs.declared.path.ExprPath.{ExprPath}
 use Rattle.educe_body.specs.declared.answers.Callee.{Callee}
-use Rattle.educe_body.specs.declared.answers.Callee.TheVariants.{Ne}
+use Rattle.educe_body.specs.declared.answers.Callee.TheVariants.{Ne, Cmp, PartialCmp}
 
 -- the spellings of tokens; two lists are the same tokens, jointness and spans aside, where these agree
 abbrev pub spellings : List Token → List (List ℕ)
@@ -21,9 +21,21 @@ path_of (word ∷ words) = codes ":" ∷ codes ":" ∷ word ∷ path_of words
 abbrev pub ne_path : List (List ℕ)
 ne_path = path_of (codes "core" ∷ codes "cmp" ∷ codes "PartialEq" ∷ codes "ne" ∷ [])
 
+-- `:: core :: cmp :: Ord :: cmp`
+abbrev pub cmp_path : List (List ℕ)
+cmp_path = path_of (codes "core" ∷ codes "cmp" ∷ codes "Ord" ∷ codes "cmp" ∷ [])
+
+-- `:: core :: cmp :: PartialOrd :: partial_cmp`
+abbrev pub partial_cmp_path : List (List ℕ)
+partial_cmp_path = path_of (codes "core" ∷ codes "cmp" ∷ codes "PartialOrd" ∷ codes "partial_cmp" ∷ [])
+
 -- the function that a path of these spellings names, if it is built in
 unfoldable pub callee_named : List (List ℕ) → Option Callee
-callee_named path = if pointwise bytes_eq path ne_path then Some Ne else None
+callee_named path =
+    if pointwise bytes_eq path ne_path then Some Ne
+    else if pointwise bytes_eq path cmp_path then Some Cmp
+    else if pointwise bytes_eq path partial_cmp_path then Some PartialCmp
+    else None
 
 abbrev pub callee_of : ExprPath → Option Callee
 callee_of path = callee_named (spellings path.written.tokens)

@@ -1,7 +1,9 @@
 -- What a body evaluates to, over an environment from names to values: a value, a return, or nothing.
-use Rattle.std.specs.Prelude.{ℕ, ◌-◌, ◌^◌, pos, true, false, List, [], ◌∷◌, Option, Some, None, if◌then◌else◌, codes}
+use Rattle.std.specs.Prelude.{ℕ, ◌-◌, ◌^◌, pos, Bool, true, false, List, [], ◌∷◌, Option, Some, None, if◌then◌else◌, codes}
 use Rattle.std.specs.Option.{option_copied}
 use Rattle.std.specs.Str.{bytes_eq}
+use Rattle.std.specs.declared.cmp.Ordering.{Ordering}
+use Rattle.std.specs.declared.cmp.Ordering.TheVariants.{Less, Equal, Greater}
 use Rattle.educe_syntax.specs.declared.data.Field.{Field}
 use Rattle.educe_syntax.specs.declared.derive.DeriveInput.{DeriveInput}
 use Rattle.educe_syntax.specs.declared.path.ExprPath.{ExprPath}
@@ -11,11 +13,11 @@ use Rattle.educe_body.specs.declared.value.FieldValue.{FieldValue}
 use Rattle.educe_body.specs.declared.value.Value.{Value}
 use Rattle.educe_body.specs.declared.answers.Callee.{Callee}
 use Rattle.educe_body.specs.declared.answers.Answer.{Answer}
-use Rattle.educe_body.specs.declared.answers.Answer.TheVariants.{Truth as AnswerTruth}
+use Rattle.educe_body.specs.declared.answers.Answer.TheVariants.{Truth as AnswerTruth, Order as AnswerOrder, PartialOrder as AnswerPartialOrder}
 use Rattle.educe_body.specs.declared.answers.Answers.{Answers}
 use Rattle.educe_body.specs.declared.form.Known.{Known}
-use Rattle.educe_body.specs.declared.form.Known.TheVariants.{Truth as KnownTruth}
-use Rattle.educe_body.specs.declared.form.Form.{Form, Local, Reference, Call', IfReturn', Return', Block', Row_of-Form, end_of-Form, more_of-Form}
+use Rattle.educe_body.specs.declared.form.Known.TheVariants.{Truth as KnownTruth, Order as KnownOrder, PartialOrder as KnownPartialOrder}
+use Rattle.educe_body.specs.declared.form.Form.{Form, Local, Reference, Call', IfReturn', Return', SomeOf', MatchOrdering', Block', Row_of-Form, end_of-Form, more_of-Form}
 use Rattle.educe_body.specs.declared.form.Form as form
 use Rattle.educe_body.specs.declared.body.Body.{Body}
 use Rattle.educe_body.specs.declared.evaluator.Scope.{Scope}
@@ -23,11 +25,11 @@ use Rattle.educe_body.specs.declared.evaluator.Referent.{Referent}
 use Rattle.educe_body.specs.declared.evaluator.Referent.TheVariants.{This, Other}
 use Rattle.educe_body.specs.declared.evaluator.Binding.{Binding}
 use Rattle.educe_body.specs.declared.evaluator.Thing.{Thing}
-use Rattle.educe_body.specs.declared.evaluator.Thing.TheVariants.{Nothing, Truth, Part}
+use Rattle.educe_body.specs.declared.evaluator.Thing.TheVariants.{Nothing, Truth, Order, PartialOrder, Part}
 use Rattle.educe_body.specs.declared.evaluator.Flow.{Flow}
 use Rattle.educe_body.specs.declared.evaluator.Flow.TheVariants.{Gives, Returns, Stuck}
 use Rattle.educe_body.specs.declared.evaluator.Outcome.{Outcome}
-use Rattle.educe_body.specs.declared.evaluator.Outcome.TheVariants.{Truth as OutcomeTruth, Stuck as OutcomeStuck}
+use Rattle.educe_body.specs.declared.evaluator.Outcome.TheVariants.{Truth as OutcomeTruth, Order as OutcomeOrder, PartialOrder as OutcomePartialOrder, Stuck as OutcomeStuck}
 use Rattle.educe_body.specs.Answering.{answer_of}
 use Rattle.educe_body.specs.Callees.{callee_of}
 
@@ -87,10 +89,14 @@ local_value scene (Some Other) = whole_value scene.other
 
 abbrev pub known_thing : Known → Thing
 known_thing (KnownTruth b) = Truth b
+known_thing (KnownOrder o) = Order o
+known_thing (KnownPartialOrder p) = PartialOrder p
 
 abbrev pub answer_flow : Option Answer → Flow
 answer_flow None = Stuck
 answer_flow (Some (AnswerTruth b)) = Gives (Truth b)
+answer_flow (Some (AnswerOrder o)) = Gives (Order o)
+answer_flow (Some (AnswerPartialOrder p)) = Gives (PartialOrder p)
 
 -- the first return ends what goes on
 abbrev pub go_on : Flow → (Thing → Flow) → Flow
@@ -102,6 +108,8 @@ abbrev pub if_part : (FieldValue → Flow) → Thing → Flow
 if_part next (Part x) = next x
 if_part next Nothing = Stuck
 if_part next (Truth b) = Stuck
+if_part next (Order o) = Stuck
+if_part next (PartialOrder p) = Stuck
 
 -- goes on with the field value that an argument gives
 abbrev pub with_part : Flow → (FieldValue → Flow) → Flow
@@ -128,6 +136,8 @@ abbrev pub unless_true : Thing → Flow
 unless_true (Truth true) = Returns (Truth false)
 unless_true (Truth false) = Gives Nothing
 unless_true Nothing = Stuck
+unless_true (Order o) = Stuck
+unless_true (PartialOrder p) = Stuck
 unless_true (Part x) = Stuck
 
 abbrev pub if_return : Flow → Flow
@@ -135,6 +145,43 @@ if_return test = go_on test unless_true
 
 abbrev pub return_of : Flow → Flow
 return_of inner = go_on inner Returns
+
+-- an order in `Some`
+abbrev pub if_order : Thing → Flow
+if_order (Order o) = Gives (PartialOrder (Some o))
+if_order Nothing = Stuck
+if_order (Truth b) = Stuck
+if_order (PartialOrder p) = Stuck
+if_order (Part x) = Stuck
+
+abbrev pub some_of : Flow → Flow
+some_of inner = go_on inner if_order
+
+-- the arm of an order: Equal goes on, Greater returns the one order and Less the other
+abbrev pub order_arm : Ordering → Ordering → Ordering → Flow
+order_arm above below Equal = Gives Nothing
+order_arm above below Greater = Returns (Order above)
+order_arm above below Less = Returns (Order below)
+
+-- the same in `Some`, and none is returned
+abbrev pub partial_arm : Ordering → Ordering → Option Ordering → Flow
+partial_arm above below None = Returns (PartialOrder None)
+partial_arm above below (Some Equal) = Gives Nothing
+partial_arm above below (Some Greater) = Returns (PartialOrder (Some above))
+partial_arm above below (Some Less) = Returns (PartialOrder (Some below))
+
+-- the arm of what is matched; with true that is a partial order
+abbrev pub arm_of : Bool → Ordering → Ordering → Thing → Flow
+arm_of false above below (Order o) = order_arm above below o
+arm_of true above below (PartialOrder p) = partial_arm above below p
+arm_of false above below (PartialOrder p) = Stuck
+arm_of true above below (Order o) = Stuck
+arm_of partial above below Nothing = Stuck
+arm_of partial above below (Truth b) = Stuck
+arm_of partial above below (Part x) = Stuck
+
+abbrev pub match_ordering : Bool → Ordering → Ordering → Flow → Flow
+match_ordering partial above below matched = go_on matched (arm_of partial above below)
 
 abbrev mutual
   -- the value of one form
@@ -145,6 +192,8 @@ abbrev mutual
   form_value scene names (Call' path shape arguments) = call_value scene path (row_values scene names arguments)
   form_value scene names (IfReturn' shape test) = if_return (inner_value scene names test)
   form_value scene names (Return' shape inner) = return_of (inner_value scene names inner)
+  form_value scene names (SomeOf' shape inner) = some_of (inner_value scene names inner)
+  form_value scene names (MatchOrdering' shape matched partial above below) = match_ordering partial above below (inner_value scene names matched)
   form_value scene names (Block' shape forms) = row_value scene names forms Nothing
 
   -- the value of the one form that a box holds
@@ -170,6 +219,8 @@ list_value scene names last (x ∷ rest) = go_on (form_value scene names x) (λ 
 -- what a body may evaluate to
 abbrev pub outcome_of_thing : Thing → Outcome
 outcome_of_thing (Truth b) = OutcomeTruth b
+outcome_of_thing (Order o) = OutcomeOrder o
+outcome_of_thing (PartialOrder p) = OutcomePartialOrder p
 outcome_of_thing Nothing = OutcomeStuck
 outcome_of_thing (Part x) = OutcomeStuck
 

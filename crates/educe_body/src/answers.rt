@@ -4,18 +4,25 @@ ghost use Rattle.educe_body.specs.Answering.{answer_of, row_fits, by_number_answ
 
 use crate::value::FieldValue;
 use educe_tokens::Seq;
+use std::cmp::Ordering;
 
 /// What is called.
 #[derive(Clone, Copy, Debug, PartialEq, Eq)]
 pub enum Callee {
     /// `PartialEq::ne`
     Ne,
+    /// `Ord::cmp`
+    Cmp,
+    /// `PartialOrd::partial_cmp`
+    PartialCmp,
 }
 
 /// What a call answers.
 #[derive(Clone, Copy, Debug, PartialEq, Eq)]
 pub enum Answer {
     Truth(bool),
+    Order(Ordering),
+    PartialOrder(Option<Ordering>),
 }
 
 /// What a call of these arguments answers.
@@ -81,6 +88,8 @@ fn by_number(
             }
             match callee {
                 Callee::Ne => Some(Answer::Truth(x.number != y.number)),
+                Callee::Cmp => Some(Answer::Order(x.number.cmp(&y.number))),
+                Callee::PartialCmp => Some(Answer::PartialOrder(Some(x.number.cmp(&y.number)))),
             }
         }
         _ => None,

@@ -1,7 +1,8 @@
 //! The paths of the functions that are built in.
 ghost use Rattle.std.specs.Prelude.{◌≡◌, IfOk, IsTrue, true, map, codes, [], ◌∷◌};
 ghost use Rattle.educe_tokens.specs.Lexes.{lexemes};
-ghost use Rattle.educe_tokens.specs.Quote.{is_ascii_name};
+ghost use Rattle.educe_tokens.specs.Quote.{is_ascii_name, is_template, quoted};
+ghost use Rattle.educe_tokens.specs.Text.{is_written};
 ghost use Rattle.educe_body.specs.BuiltIn.{path_lexemes, path_names};
 
 use crate::answers::Callee;
@@ -35,6 +36,33 @@ fn comparison_segments(alloc: Global, which: &str, function: &str) -> Result<Seg
     Ok(segments)
 }
 
+/// The path of a function of a comparison trait, as this template writes it.
+fn comparison_path(
+    alloc: Global,
+    which: &str,
+    function: &str,
+    text: &str,
+) -> Result<ExprPath, AllocError>
+    requires which { IsTrue (is_ascii_name which.now) }
+    requires function { IsTrue (is_ascii_name function.now) }
+    requires template { IsTrue (is_template text.now) }
+    requires written { IsTrue (is_written (quoted text.now)) }
+    ensures tokens { IfOk result (λ path. lexemes path.written.tokens ≡ quoted text.now) }
+    ensures leading { IfOk result (λ path. path.path.leading ≡ true) }
+    ensures names { IfOk result (λ path. map (λ s. s.ident.text) path.path.segments ≡ codes "core" ∷ codes "cmp" ∷ which.now ∷ function.now ∷ []) }
+{
+    let segments = comparison_segments(alloc, which, function)?;
+    let written = Written::from_template(alloc, text)?;
+    Ok(ExprPath {
+        self_type: None,
+        path: Path {
+            leading: true,
+            segments,
+        },
+        written,
+    })
+}
+
 /// The path by which generated code calls a function that is built in.
 #[tactic(auto, unfolding(educe_tokens::specs::Quote::quoted))]
 pub fn built_in_path(alloc: Global, callee: &Callee) -> Result<ExprPath, AllocError>
@@ -44,16 +72,19 @@ pub fn built_in_path(alloc: Global, callee: &Callee) -> Result<ExprPath, AllocEr
 {
     match callee {
         Callee::Ne => {
-            let segments = comparison_segments(alloc, "PartialEq", "ne")?;
-            let written = Written::from_template(alloc, ":: core :: cmp :: PartialEq :: ne")?;
-            Ok(ExprPath {
-                self_type: None,
-                path: Path {
-                    leading: true,
-                    segments,
-                },
-                written,
-            })
+            comparison_path(
+                alloc,
+                "PartialEq",
+                "ne",
+                ":: core :: cmp :: PartialEq :: ne",
+            )
         }
+        Callee::Cmp => comparison_path(alloc, "Ord", "cmp", ":: core :: cmp :: Ord :: cmp"),
+        Callee::PartialCmp => comparison_path(
+            alloc,
+            "PartialOrd",
+            "partial_cmp",
+            ":: core :: cmp :: PartialOrd :: partial_cmp",
+        ),
     }
 }

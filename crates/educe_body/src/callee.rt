@@ -10,7 +10,14 @@ use educe_syntax::ExprPath;
 use educe_tokens::Token;
 
 /// The built-in functions, each behind the words of its path, as in `::core::cmp::PartialEq::ne`.
-const BUILT_IN: [([&str; 4], Callee); 1] = [(["core", "cmp", "PartialEq", "ne"], Callee::Ne)];
+const BUILT_IN: [([&str; 4], Callee); 3] = [
+    (["core", "cmp", "PartialEq", "ne"], Callee::Ne),
+    (["core", "cmp", "Ord", "cmp"], Callee::Cmp),
+    (
+        ["core", "cmp", "PartialOrd", "partial_cmp"],
+        Callee::PartialCmp,
+    ),
+];
 
 /// The built-in function that a path names: the path has its tokens, jointness and spans aside.
 pub fn callee_of(path: &ExprPath) -> Option<Callee>

@@ -3,7 +3,7 @@ ghost use Rattle.std.specs.Prelude.{◌≡◌, map, IfOk};
 ghost use Rattle.std.specs.Option.{option_copied};
 ghost use Rattle.std.specs.Str.{bytes_eq};
 ghost use Rattle.educe_syntax.specs.Built.{name_of};
-ghost use Rattle.educe_body.specs.Meaning.{scene, value, outcome_of, bindings_of, look_up, list_value, form_value, call_value, answer_flow, with_part, if_return, return_of, reference_value, local_value, field_of, part_of, whole_value, known_thing};
+ghost use Rattle.educe_body.specs.Meaning.{scene, value, outcome_of, bindings_of, look_up, list_value, form_value, call_value, answer_flow, with_part, if_return, return_of, some_of, order_arm, partial_arm, match_ordering, reference_value, local_value, field_of, part_of, whole_value, known_thing};
 ghost use Rattle.educe_body.specs.Answering.{answer_of};
 
 use crate::answers::{Answer, Answers, Callee};
@@ -15,6 +15,7 @@ use crate::value::{FieldValue, Value};
 use educe_syntax::{DeriveInput, ExprPath, Field, Shape};
 use educe_tokens::{Seq, Spelling};
 use std::alloc::{AllocError, Global};
+use std::cmp::Ordering;
 
 /// What a body is evaluated over: the definition, and the values of `self` and of the parameter.
 #[derive(Drop)]
@@ -28,6 +29,8 @@ pub struct Scope<'a> {
 #[derive(Clone, Copy, Debug, PartialEq, Eq)]
 pub enum Outcome {
     Truth(bool),
+    Order(Ordering),
+    PartialOrder(Option<Ordering>),
     /// There is no value.
     Stuck,
 }
@@ -56,6 +59,8 @@ pub type Bindings = Seq<Binding>;
 pub enum Thing {
     Nothing,
     Truth(bool),
+    Order(Ordering),
+    PartialOrder(Option<Ordering>),
     Part(FieldValue),
 }
 
@@ -69,7 +74,7 @@ pub enum Flow {
 
 /// What a body evaluates to over a definition, two values and a table: what it returns, or the
 /// value of its last form; `Stuck` where a name stands for nothing, a value has no such field, a
-/// path names no built-in function or the table has no answer.
+/// path names no built-in function, the table has no answer or a form takes another kind of value.
 pub fn eval(
     alloc: Global,
     body: &Body,
@@ -106,6 +111,10 @@ fn ended(flow: Flow) -> Outcome
 {
     match flow {
         Flow::Gives(Thing::Truth(b)) | Flow::Returns(Thing::Truth(b)) => Outcome::Truth(b),
+        Flow::Gives(Thing::Order(o)) | Flow::Returns(Thing::Order(o)) => Outcome::Order(o),
+        Flow::Gives(Thing::PartialOrder(p)) | Flow::Returns(Thing::PartialOrder(p)) => {
+            Outcome::PartialOrder(p)
+        }
         _ => Outcome::Stuck,
     }
 }
@@ -135,6 +144,11 @@ fn run_form(form: &Form, names: &[Binding], scope: &Scope, answers: &Answers) ->
         Form::Call(path, args) => run_call(path, args, names, scope, answers),
         Form::IfReturn(test) => end_if(run_form(test.get(), names, scope, answers)),
         Form::Return(inner) => returned(run_form(inner.get(), names, scope, answers)),
+        Form::SomeOf(inner) => in_some(run_form(inner.get(), names, scope, answers)),
+        Form::MatchOrdering(matched, partial, greater, less) => {
+            let matched = run_form(matched.get(), names, scope, answers);
+            take_arm(*partial, *greater, *less, matched)
+        }
         Form::Block(forms) => run_block(forms, names, scope, answers),
     }
 }
@@ -200,6 +214,8 @@ fn answer(
 {
     match answers.answer(callee, first, second) {
         Some(Answer::Truth(b)) => Flow::Gives(Thing::Truth(b)),
+        Some(Answer::Order(o)) => Flow::Gives(Thing::Order(o)),
+        Some(Answer::PartialOrder(p)) => Flow::Gives(Thing::PartialOrder(p)),
         None => Flow::Stuck,
     }
 }
@@ -224,11 +240,59 @@ fn returned(inner: Flow) -> Flow
     }
 }
 
+/// An order in `Some`.
+fn in_some(inner: Flow) -> Flow
+    ensures { result ≡ some_of inner }
+{
+    match inner {
+        Flow::Gives(Thing::Order(o)) => Flow::Gives(Thing::PartialOrder(Some(o))),
+        Flow::Gives(_) => Flow::Stuck,
+        end => end,
+    }
+}
+
+/// The arm of an order: `Equal` goes on, the others return.
+fn order_arm(greater: Ordering, less: Ordering, order: Ordering) -> Flow
+    ensures { result ≡ order_arm greater less order }
+{
+    match order {
+        Ordering::Equal => Flow::Gives(Thing::Nothing),
+        Ordering::Greater => Flow::Returns(Thing::Order(greater)),
+        Ordering::Less => Flow::Returns(Thing::Order(less)),
+    }
+}
+
+/// The arm of a partial order: none is returned.
+fn partial_arm(greater: Ordering, less: Ordering, order: Option<Ordering>) -> Flow
+    ensures { result ≡ partial_arm greater less order }
+{
+    match order {
+        None => Flow::Returns(Thing::PartialOrder(None)),
+        Some(Ordering::Equal) => Flow::Gives(Thing::Nothing),
+        Some(Ordering::Greater) => Flow::Returns(Thing::PartialOrder(Some(greater))),
+        Some(Ordering::Less) => Flow::Returns(Thing::PartialOrder(Some(less))),
+    }
+}
+
+/// The arm of what is matched: with true that is a partial order.
+fn take_arm(partial: bool, greater: Ordering, less: Ordering, matched: Flow) -> Flow
+    ensures { result ≡ match_ordering partial greater less matched }
+{
+    match matched {
+        Flow::Gives(Thing::Order(o)) if !partial => order_arm(greater, less, o),
+        Flow::Gives(Thing::PartialOrder(p)) if partial => partial_arm(greater, less, p),
+        Flow::Gives(_) => Flow::Stuck,
+        end => end,
+    }
+}
+
 fn known_value(known: Known) -> Thing
     ensures { result ≡ known_thing known }
 {
     match known {
         Known::Truth(b) => Thing::Truth(b),
+        Known::Order(o) => Thing::Order(o),
+        Known::PartialOrder(p) => Thing::PartialOrder(p),
     }
 }
 

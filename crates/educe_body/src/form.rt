@@ -1,11 +1,14 @@
 //! The forms that bodies are made of.
 use educe_syntax::{ExprPath, Ident};
 use educe_tokens::{Boxed, Seq, Word};
+use std::cmp::Ordering;
 
 /// An answer that a body names itself.
 #[derive(Clone, Copy, Debug, PartialEq, Eq)]
 pub enum Known {
     Truth(bool),
+    Order(Ordering),
+    PartialOrder(Option<Ordering>),
 }
 
 /// One form of a body.
@@ -13,16 +16,22 @@ pub enum Known {
 pub enum Form {
     /// A name.
     Local(Ident),
-    /// `true` or `false`.
+    /// `true`, `::core::cmp::Ordering::Less`, `::core::option::Option::None` and the like.
     Known(Known),
     /// `&base.field`
     Reference(Ident, Word),
     /// The path of a function, and its arguments.
     Call(ExprPath, Forms),
+    /// `::core::option::Option::Some(x)`
+    SomeOf(Boxed<Form>),
     /// `if x { return false; }`
     IfReturn(Boxed<Form>),
     /// `return x;`
     Return(Boxed<Form>),
+    /// A `match` on an order, where `Equal` goes on and the other arms return: with true that of
+    /// `PartialOrd`, whose orders stand in `Some` and whose `None` is returned. The orders are what
+    /// the arms for `Greater` and `Less` return.
+    MatchOrdering(Boxed<Form>, bool, Ordering, Ordering),
     /// `{ forms }`
     Block(Forms),
 }

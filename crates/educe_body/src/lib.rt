@@ -9,6 +9,7 @@ mod evaluator;
 mod form;
 mod print;
 mod print_items;
+mod print_orders;
 mod speller;
 mod text;
 mod value;

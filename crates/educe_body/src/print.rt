@@ -3,15 +3,16 @@ ghost use Rattle.std.specs.Prelude.{◌≡◌, OnOk, map};
 ghost use Rattle.std.specs.List.{flat_map};
 ghost use Rattle.educe_tokens.specs.Appends.{Appends, HasPrefix};
 ghost use Rattle.educe_body.specs.Printing.{comma_before, separated};
-ghost use Rattle.educe_body.specs.Tokens.{in_curly, known_lexemes, form_lexemes};
+ghost use Rattle.educe_body.specs.Tokens.{in_curly, in_some, known_lexemes, form_lexemes};
 
 use crate::form::{Form, Forms, Known};
+use crate::print_orders::{push_arm_block, push_order, push_some_order};
 use educe_syntax::{ExprPath, Ident};
 use educe_tokens::{TokenStream, Word, append, push_word, quote};
 use std::alloc::{AllocError, Global};
 
 impl Known {
-    /// Appends `true` or `false`.
+    /// Appends the tokens of the answer.
     pub fn to_tokens(&self, alloc: Global, tokens: &mut TokenStream) -> Result<(), AllocError>
         ensures ok { OnOk result (Appends (known_lexemes self.now) tokens.old tokens.new) }
         ensures prefix { HasPrefix tokens.old tokens.new }
@@ -19,6 +20,13 @@ impl Known {
         match self {
             Known::Truth(true) => quote(alloc, tokens, "true"),
             Known::Truth(false) => quote(alloc, tokens, "false"),
+            Known::Order(order) => push_order(alloc, tokens, *order),
+            Known::PartialOrder(None) => quote(
+                alloc,
+                tokens,
+                ":: core :: option :: Option :: None",
+            ),
+            Known::PartialOrder(Some(order)) => push_some_order(alloc, tokens, *order),
         }
     }
 }
@@ -35,6 +43,7 @@ impl Form {
             Form::Known(known) => known.to_tokens(alloc, tokens),
             Form::Reference(base, field) => push_reference(alloc, tokens, base, field),
             Form::Call(path, arguments) => push_call(alloc, tokens, path, arguments),
+            Form::SomeOf(inner) => push_some(alloc, tokens, inner.get()),
             Form::IfReturn(test) => {
                 quote(alloc, tokens, "if")?;
                 test.get().to_tokens(alloc, tokens)?;
@@ -44,6 +53,11 @@ impl Form {
                 quote(alloc, tokens, "return")?;
                 inner.get().to_tokens(alloc, tokens)?;
                 quote(alloc, tokens, ";")
+            }
+            Form::MatchOrdering(matched, partial, greater, less) => {
+                quote(alloc, tokens, "match")?;
+                matched.get().to_tokens(alloc, tokens)?;
+                push_arm_block(alloc, tokens, *partial, *greater, *less)
             }
             Form::Block(forms) => push_block(alloc, tokens, forms),
         }
@@ -82,6 +96,18 @@ fn push_call(
     append(alloc, tokens, &path.written.tokens)?;
     quote(alloc, tokens, "(")?;
     push_arguments(alloc, tokens, arguments)?;
+    quote(alloc, tokens, ")")
+}
+
+/// Appends a form in `Some`.
+#[cycle(print)]
+fn push_some(alloc: Global, tokens: &mut TokenStream, inner: &Form) -> Result<(), AllocError>
+    ensures ok { OnOk result (Appends (in_some (form_lexemes inner.now)) tokens.old tokens.new) }
+    ensures prefix { HasPrefix tokens.old tokens.new }
+{
+    quote(alloc, tokens, ":: core :: option :: Option :: Some")?;
+    quote(alloc, tokens, "(")?;
+    inner.to_tokens(alloc, tokens)?;
     quote(alloc, tokens, ")")
 }
 

@@ -1,10 +1,10 @@
 //! The tokens of functions and items.
-ghost use Rattle.std.specs.Prelude.{◌≡◌, ◌++◌, OnOk, codes};
+ghost use Rattle.std.specs.Prelude.{◌≡◌, ◌++◌, IsTrue, OnOk, codes};
 ghost use Rattle.std.specs.List.{flat_map};
 ghost use Rattle.educe_tokens.specs.Lexes.{lexemes};
-ghost use Rattle.educe_tokens.specs.Quote.{quoted};
+ghost use Rattle.educe_tokens.specs.Quote.{is_template, quoted};
 ghost use Rattle.educe_tokens.specs.Appends.{Appends, HasPrefix};
-ghost use Rattle.educe_body.specs.Tokens.{in_round, name_lexemes, eq_head, other_head, function_head, function_lexemes, trait_path, impl_lexemes, item_lexemes};
+ghost use Rattle.educe_body.specs.Tokens.{in_round, name_lexemes, eq_head, partial_cmp_head, cmp_head, other_head, function_head, function_lexemes, trait_path, impl_lexemes, item_lexemes};
 
 use crate::body::{Function, Functions, ImplItem, Item, Names};
 use crate::print::push_block;
@@ -45,6 +45,20 @@ impl Function {
                     push_other_head(alloc, tokens, &self.name)
                 }
             }
+            Trait::PartialOrd => {
+                if self.name.text.is("partial_cmp") {
+                    push_partial_cmp_head(alloc, tokens, &self.body.params)
+                } else {
+                    push_other_head(alloc, tokens, &self.name)
+                }
+            }
+            Trait::Ord => {
+                if self.name.text.is("cmp") {
+                    push_cmp_head(alloc, tokens, &self.body.params)
+                } else {
+                    push_other_head(alloc, tokens, &self.name)
+                }
+            }
         }
     }
 }
@@ -55,25 +69,55 @@ fn push_eq_head(alloc: Global, tokens: &mut TokenStream, params: &Names) -> Resu
     ensures prefix { HasPrefix tokens.old tokens.new }
 {
     quote(alloc, tokens, "fn eq")?;
-    push_parameters(alloc, tokens, params)?;
+    push_parameters(alloc, tokens, params, ": & Self")?;
     quote(alloc, tokens, "-> :: core :: primitive :: bool")
 }
 
-/// Appends the parameters of `eq` in round brackets.
-fn push_parameters(
+/// Appends the head of `partial_cmp`.
+fn push_partial_cmp_head(
     alloc: Global,
     tokens: &mut TokenStream,
     params: &Names,
 ) -> Result<(), AllocError>
+    ensures ok { OnOk result (Appends (partial_cmp_head params.now) tokens.old tokens.new) }
+    ensures prefix { HasPrefix tokens.old tokens.new }
+{
+    quote(alloc, tokens, "fn partial_cmp")?;
+    push_parameters(alloc, tokens, params, ": & Self ,")?;
+    quote(
+        alloc,
+        tokens,
+        "-> :: core :: option :: Option < :: core :: cmp :: Ordering >",
+    )
+}
+
+/// Appends the head of `cmp`.
+fn push_cmp_head(alloc: Global, tokens: &mut TokenStream, params: &Names) -> Result<(), AllocError>
+    ensures ok { OnOk result (Appends (cmp_head params.now) tokens.old tokens.new) }
+    ensures prefix { HasPrefix tokens.old tokens.new }
+{
+    quote(alloc, tokens, "fn cmp")?;
+    push_parameters(alloc, tokens, params, ": & Self")?;
+    quote(alloc, tokens, "-> :: core :: cmp :: Ordering")
+}
+
+/// Appends parameters in round brackets: `self`, and another whose type this template writes.
+fn push_parameters(
+    alloc: Global,
+    tokens: &mut TokenStream,
+    params: &Names,
+    other: &str,
+) -> Result<(), AllocError>
+    requires { IsTrue (is_template other.now) }
     ensures ok { let name = name_lexemes params.now in
-        let inside = quoted (codes "& self ,") ++ name ++ quoted (codes ": & Self") in
+        let inside = quoted (codes "& self ,") ++ name ++ quoted other.now in
         OnOk result (Appends (in_round inside) tokens.old tokens.new) }
     ensures prefix { HasPrefix tokens.old tokens.new }
 {
     quote(alloc, tokens, "(")?;
     quote(alloc, tokens, "& self ,")?;
     push_first(alloc, tokens, params)?;
-    quote(alloc, tokens, ": & Self")?;
+    quote(alloc, tokens, other)?;
     quote(alloc, tokens, ")")
 }
 
@@ -105,6 +149,8 @@ fn push_trait(alloc: Global, tokens: &mut TokenStream, which: Trait) -> Result<(
 {
     match which {
         Trait::PartialEq => quote(alloc, tokens, ":: core :: cmp :: PartialEq"),
+        Trait::PartialOrd => quote(alloc, tokens, ":: core :: cmp :: PartialOrd"),
+        Trait::Ord => quote(alloc, tokens, ":: core :: cmp :: Ord"),
     }
 }
 

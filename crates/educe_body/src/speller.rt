@@ -39,10 +39,13 @@ pub fn spell(alloc: Global, items: &Items) -> Result<String, AllocError>
 #[cfg(test)]
 mod tests {
     use super::*;
+    use crate::answers::Callee;
     use crate::body::{Body, Function, ImplItem};
+    use crate::built_in::built_in_path;
     use crate::form::{Form, Forms, Known};
     use educe_syntax::{ExprPath, Ident, Path, Trait};
     use educe_tokens::{Boxed, Seq, Span, TokenKind, Word, Written, quote};
+    use std::cmp::Ordering;
     use std::test::Fail;
 
     fn name(alloc: Global, text: &str) -> Result<Ident, Fail>
@@ -107,21 +110,77 @@ mod tests {
     }
 
     #[tactic(auto, unfolding(educe_tokens::specs::Quote::quoted))]
-    #[test]
-    fn spells_an_implementation(rt: HostRuntime) -> Result<(), Fail> {
-        let alloc = rt.alloc();
+    fn implementation(alloc: Global, which: Trait, function: Function) -> Result<Items, Fail> {
         let mut functions = Seq::new(alloc);
-        functions.push(eq_function(alloc)?)?;
+        functions.push(function)?;
         let mut items = Items::new(alloc);
         items.push(Item::Impl(ImplItem {
-            which: Trait::PartialEq,
+            which,
             attributes: written(alloc, "# [ automatically_derived ]")?,
             ident: name(alloc, "S")?,
             functions,
         }))?;
+        Ok(items)
+    }
+
+    #[test]
+    fn spells_an_implementation(rt: HostRuntime) -> Result<(), Fail> {
+        let alloc = rt.alloc();
+        let items = implementation(alloc, Trait::PartialEq, eq_function(alloc)?)?;
         assert_eq!(rt;
             spell(alloc, &items)?.as_str(),
             "# [ automatically_derived ] impl :: core :: cmp :: PartialEq for S { fn eq ( & self , other : & Self ) -> :: core :: primitive :: bool { if :: core :: cmp :: PartialEq :: ne ( & self . a , & other . a ) { return false ; } true } }\n"
+        );
+        Ok(())
+    }
+
+    fn call(alloc: Global, callee: Callee) -> Result<Form, Fail> {
+        let path = built_in_path(alloc, &callee)?;
+        let mut arguments = Forms::new(alloc);
+        arguments.push(Form::Local(name(alloc, "self")?))?;
+        arguments.push(Form::Local(name(alloc, "other")?))?;
+        Ok(Form::Call(path, arguments))
+    }
+
+    #[test]
+    fn spells_a_step_of_cmp(rt: HostRuntime) -> Result<(), Fail> {
+        let alloc = rt.alloc();
+        let mut params = Seq::new(alloc);
+        params.push(word(alloc, "other")?)?;
+        let matched = Boxed::new(alloc, call(alloc, Callee::Cmp)?)?;
+        let mut block = Forms::new(alloc);
+        block.push(Form::MatchOrdering(matched, false, Ordering::Greater, Ordering::Less))?;
+        block.push(Form::Known(Known::Order(Ordering::Equal)))?;
+        let function = Function {
+            name: word(alloc, "cmp")?,
+            body: Body { params, block },
+        };
+        let items = implementation(alloc, Trait::Ord, function)?;
+        assert_eq!(rt;
+            spell(alloc, &items)?.as_str(),
+            "# [ automatically_derived ] impl :: core :: cmp :: Ord for S { fn cmp ( & self , other : & Self ) -> :: core :: cmp :: Ordering { match :: core :: cmp :: Ord :: cmp ( self , other ) { :: core :: cmp :: Ordering :: Equal => ( ) , :: core :: cmp :: Ordering :: Greater => return :: core :: cmp :: Ordering :: Greater , :: core :: cmp :: Ordering :: Less => return :: core :: cmp :: Ordering :: Less , } :: core :: cmp :: Ordering :: Equal } }\n"
+        );
+        Ok(())
+    }
+
+    #[test]
+    fn spells_a_step_of_partial_cmp(rt: HostRuntime) -> Result<(), Fail> {
+        let alloc = rt.alloc();
+        let mut params = Seq::new(alloc);
+        params.push(word(alloc, "other")?)?;
+        let matched = Boxed::new(alloc, call(alloc, Callee::PartialCmp)?)?;
+        let mut block = Forms::new(alloc);
+        block.push(Form::MatchOrdering(matched, true, Ordering::Greater, Ordering::Less))?;
+        let some = Boxed::new(alloc, call(alloc, Callee::Cmp)?)?;
+        block.push(Form::SomeOf(some))?;
+        let function = Function {
+            name: word(alloc, "partial_cmp")?,
+            body: Body { params, block },
+        };
+        let items = implementation(alloc, Trait::PartialOrd, function)?;
+        assert_eq!(rt;
+            spell(alloc, &items)?.as_str(),
+            "# [ automatically_derived ] impl :: core :: cmp :: PartialOrd for S { fn partial_cmp ( & self , other : & Self , ) -> :: core :: option :: Option < :: core :: cmp :: Ordering > { match :: core :: cmp :: PartialOrd :: partial_cmp ( self , other ) { :: core :: option :: Option :: Some ( :: core :: cmp :: Ordering :: Equal ) => ( ) , :: core :: option :: Option :: Some ( :: core :: cmp :: Ordering :: Greater ) => return :: core :: option :: Option :: Some ( :: core :: cmp :: Ordering :: Greater ) , :: core :: option :: Option :: Some ( :: core :: cmp :: Ordering :: Less ) => return :: core :: option :: Option :: Some ( :: core :: cmp :: Ordering :: Less ) , :: core :: option :: Option :: None => return :: core :: option :: Option :: None , } :: core :: option :: Option :: Some ( :: core :: cmp :: Ord :: cmp ( self , other ) ) } }\n"
         );
         Ok(())
     }
