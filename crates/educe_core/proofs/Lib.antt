@@ -1,8 +1,15 @@
 pub mod Lists
-pub mod Equal
 pub mod Fronts
 pub mod Bytes
 pub mod Table
 pub mod Outcomes
+pub mod Elements
+pub mod Least
+pub mod Sorting
+pub mod Kept
+pub mod Repeats
+pub mod Handling
+pub mod Comparisons
 pub mod Evaluating
+pub mod Places
 pub mod Causes

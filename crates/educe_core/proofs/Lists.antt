@@ -1,5 +1,5 @@
 -- Lists that grow at their end, and lists that go side by side.
-use Rattle.std.proofs.Common.{◌≡◌, ℕ, ◌+◌, ◌<◌, List, [], ◌∷◌, ◌++◌, Option, Some, None, take, length, get_or, refl, ap, ◌∙◌, sym, append_assoc}
+use Rattle.std.proofs.Common.{◌≡◌, ℕ, ◌+◌, ◌<◌, List, [], ◌∷◌, ◌++◌, Option, Some, None, take, length, map, get_or, refl, ap, ◌∙◌, sym, append_assoc}
 use Rattle.std.specs.List.{AllZip, filter_map, cons_option}
 use Rattle.std.specs.Option.{option_to_list}
 use Rattle.std.proofs.lemmas.List.Elements.{filter_map-append}
@@ -39,3 +39,10 @@ filter_map_more h xs i d x first old new less item before pushed =
     let one = cons_option-nil (h (get_or xs i d)) ∙ ap (λ y. option_to_list (h y)) (sym item) in
     pushed ∙ ap (λ items. items ++ option_to_list (h x)) before ∙ append_assoc first (filter_map h (take i xs)) (option_to_list (h x))
     ∙ ap (λ items. first ++ items) (sym (more ∙ ap (λ items. filter_map h (take i xs) ++ items) one))
+
+-- side by side with what is made of each item
+pub zip_mapped : {A B C : Type 0} (R : B → C → Type 0) (f : A → B) (xs : List A) (ys : List C) → AllZip (λ x y. R (f x) y) xs ys → AllZip R (map f xs) ys
+zip_mapped R f [] [] zip = tt
+zip_mapped R f [] (y ∷ ys) zip = absurd zip
+zip_mapped R f (x ∷ xs) [] zip = absurd zip
+zip_mapped R f (x ∷ xs) (y ∷ ys) zip = (zip.0, zip_mapped R f xs ys zip.1)

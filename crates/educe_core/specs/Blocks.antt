@@ -1,6 +1,8 @@
 -- What the block of a derived trait holds.
-use Rattle.std.specs.Prelude.{ℕ, ◌≡◌, ◌≢◌, true, List, [], ◌∷◌, ◌++◌, Some, IsSome, codes}
+use Rattle.std.specs.Prelude.{ℕ, ℤ, IsTrue, ◌≡◌, ◌≢◌, true, false, List, [], ◌∷◌, ◌++◌, Some, IsSome, IsPermutation, codes}
 use Rattle.std.specs.List.{AllByRecursion, AllZip}
+use Rattle.std.specs.declared.cmp.Ordering.TheVariants.{Less, Equal, Greater}
+use Rattle.educe_tokens.specs.declared.span.Span.{Span}
 use Rattle.educe_tokens.specs.declared.token.Token.{Token}
 use Rattle.educe_tokens.specs.declared.word.Word.{Word}
 use Rattle.educe_tokens.specs.Quote.{quoted}
@@ -10,11 +12,13 @@ use Rattle.educe_syntax.specs.declared.path.ExprPath.{ExprPath}
 use Rattle.educe_syntax.specs.declared.data.Field.{Field}
 use Rattle.educe_syntax.specs.declared.derive.DeriveInput.{DeriveInput}
 use Rattle.educe_syntax.specs.declared.traits.Trait.{Trait}
-use Rattle.educe_syntax.specs.declared.traits.Trait.TheVariants.{PartialEq}
-use Rattle.educe_syntax.specs.Built.{fields_of, name_of}
-use Rattle.educe_body.specs.declared.form.Form.{Form, Reference, Call, IfReturn}
+use Rattle.educe_syntax.specs.declared.traits.Trait.TheVariants.{PartialEq, PartialOrd, Ord}
+use Rattle.educe_syntax.specs.Built.{name_of}
+use Rattle.educe_syntax.specs.Traits.{is_listed}
+use Rattle.educe_body.specs.declared.form.Form.{Form, Reference, Call, IfReturn, MatchOrdering}
 use Rattle.educe_body.specs.declared.form.Form as form
-use Rattle.educe_body.specs.declared.form.Known.TheVariants.{Truth}
+use Rattle.educe_body.specs.declared.form.Known.{Known}
+use Rattle.educe_body.specs.declared.form.Known.TheVariants.{Truth, Order, PartialOrder}
 use Rattle.educe_body.specs.declared.body.Body.{Body}
 use Rattle.educe_body.specs.declared.body.Function.{Function}
 use Rattle.educe_body.specs.declared.body.ImplItem.{ImplItem}
@@ -22,13 +26,14 @@ use Rattle.educe_body.specs.declared.body.Item.{Item}
 use Rattle.educe_body.specs.declared.body.Item.TheVariants.{Impl}
 use Rattle.educe_body.specs.declared.answers.Answers.{Answers}
 use Rattle.educe_body.specs.declared.value.Value.{Value}
+use Rattle.educe_body.specs.BuiltIn.{path_lexemes}
 use Rattle.educe_body.specs.Meaning.{Scene, value}
-use Rattle.educe_core.specs.Listed.{listed_in_order}
-use Rattle.educe_core.specs.Comparing.{Covers, meaning}
-
--- each field has a name
-abbrev pub HasNames : List Field → Type 0
-HasNames fields = AllByRecursion (λ (f : Field). IsSome f.ident) fields
+use Rattle.educe_core.specs.declared.handler_error.HandlerError.{HandlerError}
+use Rattle.educe_core.specs.declared.handler_error.HandlerError.TheVariants.{ReuseARank, Memory}
+use Rattle.educe_core.specs.Listed.{listed, listed_in_order}
+use Rattle.educe_core.specs.Ranks.{Rises}
+use Rattle.educe_core.specs.Settings.{Kept, kept_fields, RanksDiffer, ReusesARank}
+use Rattle.educe_core.specs.Comparing.{comparison, Covers, meaning}
 
 -- `& base . name` for the field of that name
 pub record IsReference (base : List ℕ) (field : Field) (x : Form) : Type 0 where
@@ -38,41 +43,113 @@ pub record IsReference (base : List ℕ) (field : Field) (x : Form) : Type 0 whe
   pub base_is : base_name.text ≡ base
   pub field_is : field_name.text ≡ name_of field
 
--- `if ne ( & self . name , & other . name ) { return false ; }`, on this field of both values and no other
-pub record IsTest (other : List ℕ) (field : Field) (x : Form) : Type 0 where
+-- `comparison ( & self . name , & other . name )`: the trait's comparison of this field of both values
+pub record IsComparison (which : Trait) (other : List ℕ) (field : Field) (x : Form) : Type 0 where
   pub path : ExprPath
   pub own : Form
   pub others : Form
-  pub is : x ≡ IfReturn (Call path (own ∷ others ∷ []))
-  pub path_is : lexemes path.written.tokens ≡ quoted (codes ":: core :: cmp :: PartialEq :: ne")
+  pub is : x ≡ Call path (own ∷ others ∷ [])
+  pub path_is : lexemes path.written.tokens ≡ path_lexemes (comparison which)
   pub own_is : IsReference (codes "self") field own
   pub others_is : IsReference other field others
 
--- one test for each field, in written order, and then `true`
-pub record HasTests (other : List ℕ) (fields : List Field) (block : List Form) : Type 0 where
-  pub tests : List Form
-  pub tests_are : AllZip (IsTest other) fields tests
-  pub block_is : block ≡ tests ++ form.Known (Truth true) ∷ []
+-- what a trait does with a comparison: `eq` returns false where they differ; an order goes on where it is Equal,
+-- and else returns it
+abbrev pub step_of : Trait → Form → Form
+step_of PartialEq comparison = IfReturn comparison
+step_of PartialOrd comparison = MatchOrdering comparison true Greater Less
+step_of Ord comparison = MatchOrdering comparison false Greater Less
 
--- the body of `eq`: its parameter is no word of the input, and its block has the tests
-pub record IsEqBody (definition : DeriveInput) (body : Body) : Type 0 where
+-- the step of a trait on this field of both values and no other
+pub record IsStep (which : Trait) (other : List ℕ) (field : Field) (x : Form) : Type 0 where
+  pub compares : Form
+  pub is : x ≡ step_of which compares
+  pub comparison_is : IsComparison which other field compares
+
+-- what is answered where no step returned
+abbrev pub last_of : Trait → Known
+last_of PartialEq = Truth true
+last_of PartialOrd = PartialOrder (Some Equal)
+last_of Ord = Order Equal
+
+-- the same fields, in the order of their ranks
+pub record IsByRank (kept sorted : List Kept) : Type 0 where
+  pub same : IsPermutation kept sorted
+  pub rises : Rises (λ (k : Kept). k.rank) sorted
+
+-- the order in which a trait goes over the fields: `eq` as they are written, the two orders by rank
+abbrev pub IsInOrder : Trait → List Kept → List Kept → Type 0
+IsInOrder PartialEq kept ordered = ordered ≡ kept
+IsInOrder PartialOrd kept ordered = IsByRank kept ordered
+IsInOrder Ord kept ordered = IsByRank kept ordered
+
+-- one step for each of these fields, and then what is answered where no step returned
+pub record HasSteps (which : Trait) (other : List ℕ) (ordered : List Kept) (block : List Form) : Type 0 where
+  pub steps : List Form
+  pub steps_are : AllZip (λ k step. IsStep which other k.field step) ordered steps
+  pub block_is : block ≡ steps ++ form.Known (last_of which) ∷ []
+
+-- the body of a comparison: its parameter is no word of the input, and its block has one step for each field that
+-- takes part, in the order of the trait
+pub record IsBody (which : Trait) (definition : DeriveInput) (body : Body) : Type 0 where
   pub param : Word
   pub params_are : body.params ≡ param ∷ []
   pub param_is : param.text ≡ codes "other"
   pub no_word : AllByRecursion (λ (t : Token). t.spelling ≢ param.text) definition.tokens
-  pub block_has : HasTests param.text (fields_of definition) body.block
+  pub ordered : List Kept
+  pub ordered_is : IsInOrder which (kept_fields which definition) ordered
+  pub block_has : HasSteps which param.text ordered body.block
 
--- the functions of an impl of `PartialEq`: `eq` alone
-pub record AreEqFunctions (definition : DeriveInput) (functions : List Function) : Type 0 where
+abbrev pub function_name : Trait → List ℕ
+function_name PartialEq = codes "eq"
+function_name PartialOrd = codes "partial_cmp"
+function_name Ord = codes "cmp"
+
+-- the functions of an impl of the trait: the one of its name
+pub record AreFunctions (which : Trait) (definition : DeriveInput) (functions : List Function) : Type 0 where
   pub name : Word
   pub body : Body
   pub are : functions ≡ record { name = name; body = body } ∷ []
-  pub name_is : name.text ≡ codes "eq"
-  pub body_is : IsEqBody definition body
+  pub name_is : name.text ≡ function_name which
+  pub body_is : IsBody which definition body
 
--- the functions of an impl of the trait
-abbrev pub AreFunctions : Trait → DeriveInput → List Function → Type 0
-AreFunctions PartialEq definition functions = AreEqFunctions definition functions
+-- no cause stands for which a listed trait is refused
+abbrev pub HasNoCause : Trait → DeriveInput → Type 0
+HasNoCause PartialEq definition = Unit {0}
+HasNoCause PartialOrd definition = RanksDiffer PartialOrd definition
+HasNoCause Ord definition = RanksDiffer Ord definition
+
+-- two fields that take part have one rank, or memory does not suffice
+abbrev pub IsRankCause : Trait → DeriveInput → HandlerError → Type 0
+IsRankCause which definition (ReuseARank rank place) = ReusesARank which definition rank place
+IsRankCause which definition Memory = Unit {0}
+
+-- memory does not suffice
+abbrev pub IsMemory : HandlerError → Type 0
+IsMemory (ReuseARank rank place) = ⊥
+IsMemory Memory = Unit {0}
+
+-- why a listed trait is refused
+abbrev pub IsTraitCause : Trait → DeriveInput → HandlerError → Type 0
+IsTraitCause PartialEq definition e = IsMemory e
+IsTraitCause PartialOrd definition e = IsRankCause PartialOrd definition e
+IsTraitCause Ord definition e = IsRankCause Ord definition e
+
+-- no cause stands for which a listed trait is refused
+abbrev pub HasNoCauses : DeriveInput → Type 0
+HasNoCauses definition = AllByRecursion (λ which. HasNoCause which definition) (listed_in_order definition)
+
+-- two fields that take part in a listed order have this rank, and this is the place of the later one's
+pub record ReusesListedRank (definition : DeriveInput) (rank : ℤ) (place : Span) : Type 0 where
+  pub which : Trait
+  pub is_order : which ≢ PartialEq
+  pub lists : IsTrue (is_listed (listed definition) which)
+  pub reuses : ReusesARank which definition rank place
+
+-- why the blocks of the listed traits are refused
+abbrev pub IsListedCause : DeriveInput → HandlerError → Type 0
+IsListedCause definition (ReuseARank rank place) = ReusesListedRank definition rank place
+IsListedCause definition Memory = Unit {0}
 
 -- the block of a trait: one impl of it for the defined type
 pub record IsImpl (which : Trait) (definition : DeriveInput) (item : ImplItem) : Type 0 where

@@ -1,20 +1,22 @@
 -- What a text is expanded to, and why a text is refused.
-use Rattle.std.specs.Prelude.{◌≡◌, ◌≢◌, ◌⊎◌, ℕ, ◌-◌, List, [], ◌∷◌, Option, Some, None, length, slice_get, chars, encode_utf8_all}
+use Rattle.std.specs.Prelude.{ℤ, ◌≡◌, ◌≢◌, ℕ, ◌-◌, List, [], ◌∷◌, map, Option, Some, None, length, slice_get, chars, encode_utf8_all}
 use Rattle.std.specs.List.{AllByRecursion}
 use Rattle.educe_tokens.specs.declared.span.Span.{Span}
 use Rattle.educe_tokens.specs.declared.token.Token.{Token}
 use Rattle.educe_tokens.specs.declared.error.EduceError.{EduceError}
-use Rattle.educe_tokens.specs.declared.error.Kind.TheVariants.{NotBuilt, DeriveAttributeNotSetUpYet, Alloc}
+use Rattle.educe_tokens.specs.declared.error.Kind.TheVariants.{NotBuilt, DeriveAttributeNotSetUpYet, ReuseARank, Alloc}
 use Rattle.educe_tokens.specs.Lexes.{Lexes, LexesAside, lexemes}
 use Rattle.educe_tokens.specs.Brackets.{IsBalanced, IsShallow}
 use Rattle.educe_tokens.specs.Built.{HasBuiltTokens, placeless}
 use Rattle.educe_syntax.specs.declared.derive.DeriveInput.{DeriveInput}
 use Rattle.educe_syntax.specs.Reading.{Reads}
-use Rattle.educe_syntax.specs.Built.{IsBuilt}
+use Rattle.educe_syntax.specs.declared.ident.Ident.{Ident}
+use Rattle.educe_syntax.specs.Built.{IsBuilt, IsRepeated, AreApart, fields_of, name_of}
+use Rattle.educe_syntax.specs.Refusal.{duplicate_of}
 use Rattle.educe_body.specs.declared.body.Item.{Item}
 use Rattle.educe_body.specs.Tokens.{tokens_of, spelling}
 use Rattle.educe_core.specs.Listed.{listed}
-use Rattle.educe_core.specs.Blocks.{OneEach, EachEvaluates}
+use Rattle.educe_core.specs.Blocks.{OneEach, EachEvaluates, HasNoCauses, ReusesListedRank}
 
 -- the definition that a text is, where it is of the form that is built so far
 pub record Defines (text : List ℕ) (definition : DeriveInput) : Type 0 where
@@ -33,40 +35,43 @@ end_of tokens = end_of_last (slice_get tokens (length tokens - 1))
     end_of_last None = 0
     end_of_last (Some t) = t.span.end
 
--- the text is a definition that lists a trait
+-- the text is a definition that lists a trait, the names of its fields are apart, and so are the ranks of those that
+-- take part in a listed order
 pub record IsValid (source : List ℕ) : Type 0 where
   pub definition : DeriveInput
   pub defines : Defines (chars source) definition
   pub lists : listed definition ≢ []
+  pub names_apart : AreApart (map name_of (fields_of definition))
+  pub ranks_apart : HasNoCauses definition
 
--- no place in a source
-abbrev pub nowhere : Span
-nowhere = record { start = 0; end = 0 }
+-- from the start of a source to the end of its last token
+abbrev pub whole_of : List Token → Span
+whole_of tokens = record { start = 0; end = end_of tokens }
 
--- the text is no definition of the form that is built so far
-pub record IsUnbuilt (text : List ℕ) (e : EduceError) : Type 0 where
-  pub none : (definition : DeriveInput) → Defines text definition → ⊥
-  pub place : e.span ≡ nowhere
+-- that no trait is listed
+abbrev pub not_set_up_of : DeriveInput → EduceError
+not_set_up_of definition = record { kind = DeriveAttributeNotSetUpYet; span = whole_of definition.tokens; words = [] }
 
--- the text is a definition that lists no trait
-pub record IsNotSetUp (text : List ℕ) (e : EduceError) : Type 0 where
-  pub definition : DeriveInput
-  pub defines : Defines text definition
-  pub lists_none : listed definition ≡ []
-  pub place : e.span ≡ record { start = 0; end = end_of definition.tokens }
+-- that a rank is used again
+abbrev pub reuse_of : ℤ → Span → EduceError
+reuse_of rank place = record { kind = ReuseARank rank; span = place; words = [] }
 
--- why the handler refuses a definition: it lists no trait, or memory does not suffice
-abbrev pub IsHandlerCause : DeriveInput → EduceError → Type 0
-IsHandlerCause definition e =
-    (e ≡ record { kind = DeriveAttributeNotSetUpYet; span = record { start = 0; end = end_of definition.tokens }; words = [] }) × (listed definition ≡ [])
-    ⊎ (e ≡ placeless Alloc)
+-- why the handler refuses a definition
+pub data IsHandlerCause (definition : DeriveInput) : EduceError → Type 0 where
+  not_set_up : listed definition ≡ [] → IsHandlerCause definition (not_set_up_of definition)
+  reuse : (rank : ℤ) (place : Span) → ReusesListedRank definition rank place → IsHandlerCause definition (reuse_of rank place)
+  memory : IsHandlerCause definition (placeless Alloc)
 
--- why a text is refused: the cause stands, at the place and with the words of the error; want of memory has none
-abbrev pub IsCauseByKind : List ℕ → EduceError → Type 0
-IsCauseByKind text e = elim e.kind [ NotBuilt ↦ IsUnbuilt text e | DeriveAttributeNotSetUpYet ↦ IsNotSetUp text e | Alloc ↦ e.span ≡ nowhere ]
-
-abbrev pub IsCause : List ℕ → EduceError → Type 0
-IsCause source e = IsCauseByKind (chars source) e × (e.words ≡ [])
+-- why a text is refused, for each kind of refusal with its place and words: it is no definition of the form that is
+-- built so far; it lists no trait; two fields have one name; two fields that take part in a listed order have one
+-- rank. Want of memory has no cause.
+pub data IsCause (source : List ℕ) : EduceError → Type 0 where
+  unbuilt : ((definition : DeriveInput) → Defines (chars source) definition → ⊥) → IsCause source (placeless NotBuilt)
+  not_set_up : (definition : DeriveInput) → Defines (chars source) definition → listed definition ≡ [] → IsCause source (not_set_up_of definition)
+  duplicate : (definition : DeriveInput) (ident : Ident) → Defines (chars source) definition → IsRepeated ident (fields_of definition) → IsCause source (duplicate_of ident)
+  reuse : (definition : DeriveInput) (rank : ℤ) (place : Span) → Defines (chars source) definition → ReusesListedRank definition rank place
+      → IsCause source (reuse_of rank place)
+  memory : IsCause source (placeless Alloc)
 
 -- A source is expanded to these items, written as these bytes: the bytes are the spelling of the items,
 -- which lexes to their tokens; the items hold one block for each listed trait of the definition, and

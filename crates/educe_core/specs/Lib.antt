@@ -1,3 +1,6 @@
+pub mod Ranks
+pub mod Settings
+pub mod Ranked
 pub mod Listed
 pub mod Comparing
 pub mod Blocks

@@ -1,6 +1,6 @@
 -- The traits that a definition lists.
-use Rattle.std.specs.Prelude.{ℕ, Bool, true, false, List, [], ◌∷◌, Option, Some, None, if◌then◌else◌, codes}
-use Rattle.std.specs.List.{filter, filter_map, flat_map, list_any}
+use Rattle.std.specs.Prelude.{ℕ, List, [], ◌∷◌, Option, Some, None, if◌then◌else◌, codes}
+use Rattle.std.specs.List.{filter, filter_map, flat_map}
 use Rattle.std.specs.Str.{bytes_eq}
 use Rattle.std.specs.Cmp.Lexicographic.{pointwise}
 use Rattle.educe_tokens.specs.declared.token.Token.{Token}
@@ -9,12 +9,17 @@ use Rattle.educe_syntax.specs.declared.attr.Meta.{Meta}
 use Rattle.educe_syntax.specs.declared.attr.Meta.TheVariants as meta
 use Rattle.educe_syntax.specs.declared.derive.DeriveInput.{DeriveInput}
 use Rattle.educe_syntax.specs.declared.traits.Trait.{Trait}
-use Rattle.educe_syntax.specs.declared.traits.Trait.TheVariants.{PartialEq}
+use Rattle.educe_syntax.specs.declared.traits.Trait.TheVariants.{PartialEq, PartialOrd, Ord}
+use Rattle.educe_syntax.specs.Traits.{is_listed}
 use Rattle.educe_body.specs.Callees.{spellings}
 
 -- the trait of this name
 abbrev pub trait_named : List ℕ → Option Trait
-trait_named name = if bytes_eq name (codes "PartialEq") then Some PartialEq else None
+trait_named name =
+    if bytes_eq name (codes "PartialEq") then Some PartialEq
+    else if bytes_eq name (codes "PartialOrd") then Some PartialOrd
+    else if bytes_eq name (codes "Ord") then Some Ord
+    else None
 
 -- the words in the brackets of an `educe` attribute that name a trait; in the form that is built so far these are its metas
 abbrev pub listed_in : Meta → List Trait
@@ -25,15 +30,9 @@ listed_in (meta.List path written span) =
 abbrev pub listed : DeriveInput → List Trait
 listed definition = flat_map (λ (a : Attribute). listed_in a.meta) definition.attrs
 
-abbrev pub same_trait : Trait → Trait → Bool
-same_trait PartialEq PartialEq = true
-
-abbrev pub is_listed : List Trait → Trait → Bool
-is_listed traits which = list_any (λ t. same_trait t which) traits
-
 -- the fixed order, in which items are written
 abbrev pub fixed_order : List Trait
-fixed_order = PartialEq ∷ []
+fixed_order = PartialEq ∷ PartialOrd ∷ Ord ∷ []
 
 -- the listed traits in the fixed order
 abbrev pub listed_in_order : DeriveInput → List Trait

@@ -1,8 +1,7 @@
 //! From the text of a definition to the text of its impls.
-ghost use Rattle.std.specs.Prelude.{◌≡◌, ◌≢◌, ◌≤◌, length, chars, IfOk, IfErr, IsCharBoundary};
-ghost use Rattle.educe_tokens.specs.Built.{IsUnbuiltOrAlloc};
+ghost use Rattle.std.specs.Prelude.{◌≡◌, ◌≢◌, ◌≤◌, length, map, chars, IfOk, IfErr, IsCharBoundary};
 ghost use Rattle.educe_syntax.specs.declared.derive.DeriveInput.{DeriveInput};
-ghost use Rattle.educe_syntax.specs.Built.{IsDefinition};
+ghost use Rattle.educe_syntax.specs.Built.{IsDefinition, AreApart, fields_of, name_of};
 ghost use Rattle.educe_tokens.specs.Message.{HasWords};
 ghost use Rattle.educe_core.specs.Headline.{Defines, IsExpansion, IsCause, IsValid};
 ghost use Rattle.educe_core.specs.Expansion.{text_of_expansion, items_of_expansion};
@@ -38,13 +37,18 @@ impl Expansion {
     }
 }
 
-/// The definition that a source is, where it is of the form that is built so far.
+/// The definition that a source is, where it is of the form that is built so far and its fields
+/// have names that are apart.
 fn read(alloc: Global, source: &str) -> Result<DeriveInput, EduceError>
     requires { length source.now ≤ SOURCE_LIMIT }
     ensures defines { IfOk result (Defines (chars source.now)) }
-    ensures err { IfErr result IsUnbuiltOrAlloc }
+    ensures apart { IfOk result (λ found. AreApart (map name_of (fields_of found))) }
+    ensures cause { IfErr result (IsCause source.now) }
+    // There is no other definition, and where the names are apart no other refusal.
+    ensures once { IfOk result (λ found. (definition : DeriveInput) →
+        Defines (chars source.now) definition → found ≡ definition) }
     ensures only { (definition : DeriveInput) → Defines (chars source.now) definition →
-        IsDefinition definition result }
+        AreApart (map name_of (fields_of definition)) → IsDefinition definition result }
 {
     match lex(alloc, source) {
         Ok(tokens) => parse_derive_input(alloc, &tokens),
@@ -52,12 +56,14 @@ fn read(alloc: Global, source: &str) -> Result<DeriveInput, EduceError>
     }
 }
 
-/// The expansion of a definition with `educe` attributes.
+/// The expansion of a definition with `educe` attributes. Refused where the source is none of the
+/// form that is built so far, lists no trait, gives two fields one name, or two fields that take
+/// part in an order one rank.
 pub fn expand(alloc: Global, source: &str) -> Result<Expansion, EduceError>
     requires { length source.now ≤ SOURCE_LIMIT }
     ensures done { IfOk result (λ e.
         IsExpansion source.now (items_of_expansion e) (text_of_expansion e)) }
-    ensures cause { IfErr result (λ e. IsCause source.now e) }
+    ensures cause { IfErr result (IsCause source.now) }
     // A valid text is expanded, or memory fails; a text with a cause is never expanded.
     ensures valid { IsValid source.now → IfErr result (λ e. e.kind ≡ Kind.Alloc) }
     ensures invalid { IfOk result (λ _. (e : EduceError) → e.kind ≢ Kind.Alloc →

@@ -1,15 +1,18 @@
 //! The derive compiler's top: what a definition is expanded to, and the command that runs it.
 #![tactic(auto)]
 
+mod comparing;
 mod devices;
 mod expansion;
 mod handler;
+mod handler_error;
 mod listed;
 mod memory;
-mod partial_eq;
 mod program;
+mod ranks;
 mod reading;
 mod refusing;
+mod settings;
 mod status;
 #[cfg(test)]
 mod tests;

@@ -5,7 +5,8 @@ ghost use Rattle.std.specs.Option.{option_to_list};
 ghost use Rattle.std.specs.Str.{bytes_eq};
 ghost use Rattle.std.specs.Cmp.Lexicographic.{pointwise};
 ghost use Rattle.educe_body.specs.Callees.{spellings};
-ghost use Rattle.educe_core.specs.Listed.{trait_named, listed_in, listed, is_listed};
+ghost use Rattle.educe_syntax.specs.Traits.{is_listed};
+ghost use Rattle.educe_core.specs.Listed.{trait_named, listed_in, listed};
 
 use educe_syntax::{Attribute, DeriveInput, Meta, MetaPath, Trait};
 use educe_tokens::{Seq, Spelling, Token};
@@ -20,6 +21,10 @@ fn trait_named(name: &Spelling) -> Option<Trait>
 {
     if name.spells("PartialEq") {
         Some(Trait::PartialEq)
+    } else if name.spells("PartialOrd") {
+        Some(Trait::PartialOrd)
+    } else if name.spells("Ord") {
+        Some(Trait::Ord)
     } else {
         None
     }
@@ -85,5 +90,5 @@ pub fn listed_traits(alloc: Global, ast: &DeriveInput) -> Result<Traits, AllocEr
 pub fn is_listed(traits: &Traits, which: Trait) -> bool
     ensures { result ≡ is_listed traits.now which }
 {
-    traits.as_slice().iter().any(|t| *t == which)
+    traits.as_slice().iter().any(|name| which == *name)
 }

@@ -1,9 +1,12 @@
 //! Runs over devices in memory, and bodies tried over tables.
+ghost use Rattle.std.specs.Prelude.{◌≤◌, length};
+
 use super::*;
 use educe_body::{Answer, Answers, Callee, FieldValue, Item, Outcome, Row, Scope, Value, eval};
 use educe_syntax::{DeriveInput, parse_derive_input};
-use educe_tokens::{Seq, lex};
+use educe_tokens::{SOURCE_LIMIT, Seq, lex};
 use std::alloc::Global;
+use std::cmp::Ordering;
 use std::process::Abort;
 use std::test::Fail;
 
@@ -65,16 +68,88 @@ fn refusals_have_a_line(rt: HostRuntime) -> Result<(), Fail> {
     let not_set_up =
         "1:1: you are using `Educe` in the `derive` attribute, but it has not been set up yet\n";
     let not_built = "1:1: not built yet\n";
-    let cases: [(&[u8], &str); 6] = [
+    let cases: [(&[u8], &str); 8] = [
         (b"struct S { f1: u8 }", not_set_up),
         (b"", not_built),
         (b"#[educe(PartialEq)] struct S { other: u8 }", not_built),
-        (b"#[educe(PartialEq)] struct S { a: u8, a: u8 }", not_built),
+        (b"#[educe()] struct S { a: u8 }", not_set_up),
+        (
+            b"#[educe(PartialEq)] struct S { a: u8, a: u8 }",
+            "1:39: the name `a` is defined more than once\n",
+        ),
+        (
+            b"#[educe(Ord)] struct S { #[educe(PartialEq(ignore))] a: u8 }",
+            not_built,
+        ),
         (b"#[educe(PartialEq)] enum S {}", not_built),
         (b"#[educe(PartialEq)] struct S { a: u8 } // a", not_built),
     ];
     for (input, notes) in cases {
         Case::of(input, 1, "", notes).check(&rt, rt.alloc())?;
+    }
+    Ok(())
+}
+
+/// The notes of a run of `expand`, which are empty exactly where it ends with 0.
+fn notes_of(rt: &impl Abort, alloc: Global, input: &[u8]) -> Result<MemorySink, Fail> {
+    let mut words = Vec::new(alloc);
+    words.push(String::from_str(alloc, "expand")?)?;
+    let mut source = MemorySource::new(alloc, input, 4096, &[])?;
+    let mut sink = MemorySink::new(alloc, 4096, &[])?;
+    let mut notes = MemorySink::new(alloc, 4096, &[])?;
+    let status = run(alloc, &words, &mut source, &mut sink, &mut notes);
+    assert_eq!(rt; status.code() == 0, notes.bytes().is_empty());
+    Ok(notes)
+}
+
+#[test]
+fn ranks_differ_among_the_fields_that_take_part(rt: HostRuntime) -> Result<(), Fail> {
+    let not_built = "1:1: not built yet\n";
+    let cases: [(&[u8], &str); 10] = [
+        (
+            b"#[educe(Ord)] struct S { #[educe(Ord(rank = 1))] a: u8, #[educe(Ord(rank = 1))] b: u8 }",
+            "1:69: the rank `1` is repeatedly used\n",
+        ),
+        (
+            b"#[educe(Ord)] struct S { #[educe(Ord(rank = 1))] a: u8, #[educe(Ord(rank = 1, ignore))] b: u8 }",
+            "",
+        ),
+        (
+            b"#[educe(Ord)] struct S { a: u8, #[educe(Ord(rank = -9223372036854775808))] b: u8 }",
+            "1:45: the rank `-9223372036854775808` is repeatedly used\n",
+        ),
+        (
+            b"#[educe(Ord)] struct S { #[educe(Ord(rank = -9223372036854775807))] a: u8, b: u8 }",
+            "1:76: the rank `-9223372036854775807` is repeatedly used\n",
+        ),
+        (
+            b"#[educe(Ord)] struct S { #[educe(Ord(rank = -9223372036854775808))] a: u8, b: u8 }",
+            "",
+        ),
+        (
+            b"#[educe(Ord)] struct S { #[educe(Ord(rank = 9223372036854775807))] a: u8, b: u8 }",
+            "",
+        ),
+        (
+            b"#[educe(Ord)] struct S { #[educe(Ord(rank = 9223372036854775808))] a: u8, b: u8 }",
+            not_built,
+        ),
+        (
+            b"#[educe(Ord)] struct S { #[educe(Ord(rank = -9223372036854775809))] a: u8, b: u8 }",
+            not_built,
+        ),
+        (
+            b"#[educe(PartialOrd, Ord)] struct S { #[educe(Ord(rank = 1))] a: u8, #[educe(Ord(rank = 2), PartialOrd(rank = 1))] b: u8 }",
+            "1:103: the rank `1` is repeatedly used\n",
+        ),
+        (
+            b"#[educe(PartialOrd, Ord)] struct S { #[educe(PartialOrd(rank = 1))] a: u8, #[educe(PartialOrd(rank = 2), Ord(rank = 1))] b: u8 }",
+            "1:110: the rank `1` is repeatedly used\n",
+        ),
+    ];
+    for (input, notes) in cases {
+        let found = notes_of(&rt, rt.alloc(), input)?;
+        assert_eq!(rt; found.bytes(), notes.as_bytes());
     }
     Ok(())
 }
@@ -140,16 +215,21 @@ fn scope<'a>(ast: &'a DeriveInput, this: &'a Value, other: &'a Value) -> Scope<'
     Scope { ast, this, other }
 }
 
-/// What the first function of the first item of a struct of two bytes evaluates to.
-fn equality(alloc: Global, a: &[i128], b: &[i128], answers: &Answers) -> Result<Outcome, Fail> {
-    let tokens = lex(alloc, "#[educe(PartialEq)] struct S { a: u8, b: u8 }")
-        .ok()
-        .ok_or("lex")?;
+/// What the function of one of the items of a struct evaluates to.
+fn evaluated(
+    alloc: Global,
+    source: &str,
+    index: usize,
+    a: &[i128],
+    b: &[i128],
+    answers: &Answers,
+) -> Result<Outcome, Fail>
+    requires { length source.now ≤ SOURCE_LIMIT }
+{
+    let tokens = lex(alloc, source).ok().ok_or("lex")?;
     let ast = parse_derive_input(alloc, &tokens).ok().ok_or("parse")?;
-    let expansion = expand(alloc, "#[educe(PartialEq)] struct S { a: u8, b: u8 }")
-        .ok()
-        .ok_or("expand")?;
-    let Some(Item::Impl(item)) = expansion.items().get(0) else {
+    let expansion = expand(alloc, source).ok().ok_or("expand")?;
+    let Some(Item::Impl(item)) = expansion.items().get(index) else {
         return Err(Fail::from("no item"));
     };
     let Some(function) = item.functions.get(0) else {
@@ -160,13 +240,58 @@ fn equality(alloc: Global, a: &[i128], b: &[i128], answers: &Answers) -> Result<
     Ok(eval(alloc, &function.body, &scope(&ast, &this, &other), answers)?)
 }
 
+/// What `eq` of a struct of two bytes evaluates to.
+fn equality(alloc: Global, a: &[i128], b: &[i128], answers: &Answers) -> Result<Outcome, Fail> {
+    let source = "#[educe(PartialEq)] struct S { a: u8, b: u8 }";
+    evaluated(alloc, source, 0, a, b, answers)
+}
+
+/// Fields compare as their numbers do.
+fn by_number(alloc: Global) -> Answers {
+    Answers {
+        rows: Seq::new(alloc),
+        by_number: true,
+    }
+}
+
+#[test]
+fn the_least_rank_decides(rt: HostRuntime) -> Result<(), Fail> {
+    let alloc = rt.alloc();
+    let source =
+        "#[educe(Ord)] struct S { #[educe(Ord(rank = 1))] f1: u8, #[educe(Ord(rank = 0))] f2: u8 }";
+    let outcome = evaluated(alloc, source, 0, &[1, 2], &[2, 1], &by_number(alloc))?;
+    assert_eq!(rt; outcome, Outcome::Order(Ordering::Greater));
+    Ok(())
+}
+
+#[test]
+fn each_order_takes_the_settings_of_the_other(rt: HostRuntime) -> Result<(), Fail> {
+    let alloc = rt.alloc();
+    let answers = by_number(alloc);
+    let by_cmp = "#[educe(PartialOrd, Ord)] struct S { #[educe(Ord(rank = 1))] a: u8, b: u8 }";
+    let partial_order = evaluated(alloc, by_cmp, 0, &[1, 2], &[2, 1], &answers)?;
+    let greater = Outcome::PartialOrder(Some(Ordering::Greater));
+    assert_eq!(rt; partial_order, greater);
+    let by_partial_cmp =
+        "#[educe(PartialOrd, Ord)] struct S { #[educe(PartialOrd(ignore))] a: u8, b: u8 }";
+    let order = evaluated(alloc, by_partial_cmp, 1, &[1, 2], &[2, 2], &answers)?;
+    assert_eq!(rt; order, Outcome::Order(Ordering::Equal));
+    Ok(())
+}
+
+#[test]
+fn eq_passes_over_ignored_fields(rt: HostRuntime) -> Result<(), Fail> {
+    let alloc = rt.alloc();
+    let source = "#[educe(PartialEq)] struct S { #[educe(PartialEq(ignore))] a: u8, b: u8 }";
+    let outcome = evaluated(alloc, source, 0, &[1, 2], &[3, 2], &by_number(alloc))?;
+    assert_eq!(rt; outcome, Outcome::Truth(true));
+    Ok(())
+}
+
 #[test]
 fn eq_compares_the_fields(rt: HostRuntime) -> Result<(), Fail> {
     let alloc = rt.alloc();
-    let by_number = Answers {
-        rows: Seq::new(alloc),
-        by_number: true,
-    };
+    let by_number = by_number(alloc);
     assert_eq!(rt;
         equality(alloc, &[1, 2], &[1, 2], &by_number)?,
         Outcome::Truth(true)

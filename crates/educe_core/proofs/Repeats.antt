@@ -1,0 +1,67 @@
+-- What sorting the fields by rank gives.
+use Rattle.std.proofs.Common.{◌≡◌, ℕ, zero, suc, ◌+◌, ◌<◌, ◌<ℤ◌, pos, List, [], ◌∷◌, map, length, get_or, refl, sym, ap, ◌∙◌, subst, arith, inl, inr}
+use Rattle.std.specs.Prelude.{IsPermutation}
+use Rattle.std.specs.List.{Contains, AllByRecursion}
+use Rattle.std.specs.List.Sorted.{IsStableByKey}
+use Rattle.std.specs.Ordering.{int_cmp}
+use Rattle.std.specs.Int.Signed.{<ℤ_irrefl}
+use Rattle.std.proofs.lemmas.Int.{ints}
+use Rattle.std.proofs.lemmas.List.Sorted.{IsPermutation-map, IsPermutation-sym}
+use Rattle.educe_syntax.specs.declared.derive.DeriveInput.{DeriveInput}
+use Rattle.educe_syntax.specs.declared.traits.Trait.{Trait}
+use Rattle.educe_syntax.specs.Built.{fields_of}
+use Rattle.educe_core.specs.declared.ranks.Ranked.{Ranked}
+use Rattle.educe_core.specs.Ranked.{kept_of}
+use Rattle.educe_core.specs.Ranks.{Rises, AreRanksApart, IsRepeatAt}
+use Rattle.educe_core.specs.Settings.{Kept, kept_fields, rank_place, RanksDiffer, ReusesARank}
+use Rattle.educe_core.specs.Blocks.{IsByRank}
+use Rattle.educe_core.proofs.Elements.{In, In-permutation, Contains-from_In, In-mapped, each_map, each_mapped}
+use Rattle.educe_core.proofs.Sorting.{apart_from_Rises, rises_among_ties}
+use Rattle.educe_core.proofs.Kept.{places_rise}
+
+pub Rises-mapped : {X Y : Type 0} (rank : Y → _) (f : X → Y) (xs : List X) → Rises (λ x. rank (f x)) xs → Rises rank (map f xs)
+Rises-mapped rank f [] rises = tt
+Rises-mapped rank f (x ∷ xs) rises = (each_mapped (λ y. rank (f x) <ℤ rank y) f xs rises.0, Rises-mapped rank f xs rises.1)
+
+pub Rises-map : {X Y : Type 0} (rank : Y → _) (f : X → Y) (xs : List X) → Rises rank (map f xs) → Rises (λ x. rank (f x)) xs
+Rises-map rank f [] rises = tt
+Rises-map rank f (x ∷ xs) rises = (each_map (λ y. rank (f x) <ℤ rank y) f xs rises.0, Rises-map rank f xs rises.1)
+
+In-get : {X : Type 0} (xs : List X) (k : ℕ) (d : X) → k < length xs → In (get_or xs k d) xs
+In-get [] k d less = absurd (omega arith)
+In-get (x ∷ xs) zero d less = inl refl
+In-get (x ∷ xs) (suc k) d less = inr (In-get xs k d (omega arith))
+
+module _ (which : Trait) (d : DeriveInput) (old new : List Ranked) (gathered : map kept_of old ≡ kept_fields which d) (moved : IsPermutation old new) where
+  -- the fields that take part, in another order
+  moved_fields : IsPermutation (kept_fields which d) (map kept_of new)
+  moved_fields = subst (λ (kept : List Kept). IsPermutation kept (map kept_of new)) gathered (IsPermutation-map kept_of old new moved)
+
+  pub IsByRank-from_sort : Rises (λ (r : Ranked). r.rank) new → IsByRank (kept_fields which d) (map kept_of new)
+  IsByRank-from_sort rises = record { same = moved_fields; rises = Rises-mapped (λ (k : Kept). k.rank) kept_of new rises }
+
+  pub RanksDiffer-from_sort : Rises (λ (r : Ranked). r.rank) new → RanksDiffer which d
+  RanksDiffer-from_sort rises = apart_from_Rises (λ (k : Kept). k.rank) (kept_fields which d) (map kept_of new) moved_fields (Rises-mapped (λ (k : Kept). k.rank) kept_of new rises)
+
+  takes_part : (r : Ranked) → In r new → Contains (kept_fields which d) (kept_of r)
+  takes_part r found =
+      Contains-from_In (kept_fields which d) (kept_of r) (In-permutation (map kept_of new) (kept_fields which d) (kept_of r) (IsPermutation-sym (kept_fields which d) (map kept_of new) moved_fields) (In-mapped kept_of new r found))
+
+  -- neighbours of one rank use it again, the second one later
+  pub ReusesARank-from_sort : (k : ℕ) (later : Ranked) → IsStableByKey (λ (r : Ranked). r.rank) int_cmp old new → IsRepeatAt (λ (r : Ranked). r.rank) new k → later ≡ get_or new (k + 1) later
+      → ReusesARank which d later.rank (rank_place which later.field.now)
+  ReusesARank-from_sort k later stable repeats is =
+      let first : Ranked = get_or new k later in
+      let places = Rises-map (λ (k : Kept). pos k.place) kept_of old (subst (Rises (λ (k : Kept). pos k.place)) (sym gathered) (places_rise which (fields_of d))) in
+      let rises = rises_among_ties (λ (r : Ranked). pos r.place) (λ (r : Ranked). r.rank) old new places moved stable k later repeats.within (repeats.same later) in
+      let here : pos first.place <ℤ pos later.place = subst (λ (r : Ranked). pos first.place <ℤ pos r.place) (sym is) rises in
+      record {
+        first = kept_of first;
+        later = kept_of later;
+        first_kept = takes_part first (In-get new k later (omega (arith, repeats.within)));
+        later_kept = takes_part later (subst (λ (r : Ranked). In r new) (sym is) (In-get new (k + 1) later repeats.within));
+        written = omega (arith, ints, here);
+        first_rank = subst (λ (r : Ranked). first.rank ≡ r.rank) (sym is) (repeats.same later);
+        later_rank = refl;
+        place_is = refl;
+      }

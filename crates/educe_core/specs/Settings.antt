@@ -1,0 +1,92 @@
+-- What the attributes of a field say of it to a trait.
+use Rattle.std.specs.Prelude.{ℕ, ℤ, pos, ◌-ℤ◌, ◌+◌, ◌^◌, ◌<◌, ◌≡◌, Bool, true, not, List, [], ◌∷◌, Option, Some, None, if◌then◌else◌, unwrap_or, option_and_then}
+use Rattle.std.specs.List.{Contains}
+use Rattle.educe_tokens.specs.declared.span.Span.{Span}
+use Rattle.educe_tokens.specs.declared.token.Token.{Token}
+use Rattle.educe_syntax.specs.declared.attr.Attribute.{Attribute}
+use Rattle.educe_syntax.specs.declared.attr.Meta.{Meta}
+use Rattle.educe_syntax.specs.declared.attr.Meta.TheVariants as meta
+use Rattle.educe_syntax.specs.declared.data.Field.{Field}
+use Rattle.educe_syntax.specs.declared.derive.DeriveInput.{DeriveInput}
+use Rattle.educe_syntax.specs.declared.traits.Trait.{Trait}
+use Rattle.educe_syntax.specs.declared.traits.Trait.TheVariants.{PartialEq, PartialOrd, Ord}
+use Rattle.educe_syntax.specs.Built.{fields_of}
+use Rattle.educe_syntax.specs.Settings.{params_of, ignores, rank_in, rank_span_in}
+use Rattle.educe_core.specs.Ranks.{AreRanksApart}
+
+-- the brackets of an attribute and what stands in them
+abbrev pub bracketed : Meta → List Token
+bracketed (meta.List path written span) = written.tokens
+
+-- the first, or else the second
+abbrev pub or_else : Option (List Token) → Option (List Token) → Option (List Token)
+or_else None second = second
+or_else (Some first) second = Some first
+
+-- the parameters behind the trait's name in the first attribute that has it
+abbrev pub own_params : Trait → List Attribute → Option (List Token)
+own_params which [] = None
+own_params which (a ∷ more) = or_else (params_of which (bracketed a.meta)) (own_params which more)
+
+-- where a field has no attribute of the trait: each of the two orders takes the settings of the other one
+abbrev pub other_params : Trait → List Attribute → Option (List Token)
+other_params PartialEq attributes = None
+other_params PartialOrd attributes = own_params Ord attributes
+other_params Ord attributes = own_params PartialOrd attributes
+
+-- the parameters by which a field is set for a trait
+unfoldable pub params_for : Trait → Field → Option (List Token)
+params_for which field = or_else (own_params which field.attrs) (other_params which field.attrs)
+
+-- the field takes part in the trait
+abbrev pub is_kept : Trait → Field → Bool
+is_kept which field = kept_by (params_for which field)
+  where
+    kept_by : Option (List Token) → Bool
+    kept_by None = true
+    kept_by (Some params) = not (ignores params)
+
+-- the rank at a place where none is set
+abbrev pub default_rank : ℕ → ℤ
+default_rank place = pos place -ℤ pos (2 ^ 63)
+
+-- the rank that is set, or else the default one
+abbrev pub rank_of : Trait → ℕ → Field → ℤ
+rank_of which place field = unwrap_or (option_and_then rank_in (params_for which field)) (default_rank place)
+
+-- where the rank stands: the parameter, or the field where it has none
+abbrev pub rank_place : Trait → Field → Span
+rank_place which field = unwrap_or (option_and_then rank_span_in (params_for which field)) field.span
+
+-- a field that takes part, its place among all fields, counted from 0, and its rank
+pub record Kept : Type 0 where
+  pub field : Field
+  pub place : ℕ
+  pub rank : ℤ
+
+abbrev pub kept_at : Trait → ℕ → Field → Kept
+kept_at which place field = record { field = field; place = place; rank = rank_of which place field }
+
+-- those that take part among fields of which the first has this place
+abbrev pub kept_from : Trait → ℕ → List Field → List Kept
+kept_from which place [] = []
+kept_from which place (f ∷ fs) = if is_kept which f then kept_at which place f ∷ kept_from which (place + 1) fs else kept_from which (place + 1) fs
+
+-- the fields that take part, in written order
+abbrev pub kept_fields : Trait → DeriveInput → List Kept
+kept_fields which definition = kept_from which 0 (fields_of definition)
+
+-- no two fields that take part have one rank
+abbrev pub RanksDiffer : Trait → DeriveInput → Type 0
+RanksDiffer which definition = AreRanksApart (λ k. k.rank) (kept_fields which definition)
+
+-- two fields that take part have this rank, and this is the place of the later one's
+pub record ReusesARank (which : Trait) (definition : DeriveInput) (rank : ℤ) (place : Span) : Type 0 where
+  pub first : Kept
+  pub later : Kept
+  pub first_kept : Contains (kept_fields which definition) first
+  pub later_kept : Contains (kept_fields which definition) later
+  pub written : first.place < later.place
+  pub first_rank : first.rank ≡ rank
+  pub later_rank : later.rank ≡ rank
+  pub place_is : place ≡ rank_place which later.field

@@ -1,0 +1,168 @@
+//! The blocks of the traits that compare two values.
+ghost use Rattle.std.specs.Prelude.{◌≡◌, [], ◌∷◌, IfOk, IsTrue, IsSome, All, codes, map};
+ghost use Rattle.educe_tokens.specs.Quote.{is_ascii_name};
+ghost use Rattle.educe_syntax.specs.Built.{fields_of, IsBuilt};
+ghost use Rattle.educe_core.specs.declared.ranks.Ranked.{Ranked};
+ghost use Rattle.educe_core.specs.Ranked.{kept_of};
+ghost use Rattle.educe_core.specs.Settings as settings;
+ghost use Rattle.educe_core.specs.Comparing as meaning;
+ghost use Rattle.educe_core.specs.Blocks as spec;
+
+use crate::ranks::Ranked;
+use educe_body::{
+    Body, Callee, Form, Forms, Function, Functions, ImplItem, Item, Known, built_in_path,
+};
+use educe_syntax::{DeriveInput, Field, Ident, Trait};
+use educe_tokens::{Boxed, Seq, Word, Written};
+use std::alloc::{AllocError, Global};
+use std::cmp::Ordering;
+
+/// The name that generated code gives the second value.
+const OTHER: &str = "other";
+
+/// The function by which a trait compares two values of a field.
+fn comparison(which: Trait) -> Callee
+    ensures { result ≡ meaning.comparison which }
+{
+    match which {
+        Trait::PartialEq => Callee::Ne,
+        Trait::PartialOrd => Callee::PartialCmp,
+        Trait::Ord => Callee::Cmp,
+    }
+}
+
+/// `&base.field`, of the field's own name.
+fn reference(alloc: Global, base: &str, field: &Field) -> Result<Form, AllocError>
+    requires base { IsTrue (is_ascii_name base.now) }
+    requires named { IsSome field.now.ident }
+    ensures { IfOk result (spec.IsReference base.now field.now) }
+{
+    let base = Ident::from_name(alloc, base)?;
+    let name = match &field.ident {
+        Some(ident) => Word::new(ident.text.duplicate(alloc)?),
+        None => unreachable!(),
+    };
+    Ok(Form::Reference(base, name))
+}
+
+/// `comparison(&self.field, &other.field)`
+fn compared(alloc: Global, which: Trait, field: &Field) -> Result<Form, AllocError>
+    requires { IsSome field.now.ident }
+    ensures { IfOk result (spec.IsComparison which (codes "other") field.now) }
+{
+    let path = built_in_path(alloc, &comparison(which))?;
+    let mut arguments = Seq::new(alloc);
+    arguments.push(reference(alloc, "self", field)?)?;
+    arguments.push(reference(alloc, OTHER, field)?)?;
+    Ok(Form::Call(path, arguments))
+}
+
+/// What a trait does with a comparison.
+fn step_of(which: Trait, comparison: Boxed<Form>) -> Form
+    ensures { result ≡ spec.step_of which comparison }
+{
+    match which {
+        Trait::PartialEq => Form::IfReturn(comparison),
+        Trait::PartialOrd => {
+            Form::MatchOrdering(comparison, true, Ordering::Greater, Ordering::Less)
+        }
+        Trait::Ord => Form::MatchOrdering(comparison, false, Ordering::Greater, Ordering::Less),
+    }
+}
+
+/// The step of a trait on a field.
+fn step(alloc: Global, which: Trait, field: &Field) -> Result<Form, AllocError>
+    requires { IsSome field.now.ident }
+    ensures { IfOk result (spec.IsStep which (codes "other") field.now) }
+{
+    let comparison = compared(alloc, which, field)?;
+    Ok(step_of(which, Boxed::new(alloc, comparison)?))
+}
+
+/// What is answered where no step returned.
+fn last_of(which: Trait) -> Known
+    ensures { result ≡ spec.last_of which }
+{
+    match which {
+        Trait::PartialEq => Known::Truth(true),
+        Trait::PartialOrd => Known::PartialOrder(Some(Ordering::Equal)),
+        Trait::Ord => Known::Order(Ordering::Equal),
+    }
+}
+
+/// A step for each field, and then what is answered where none returned.
+fn steps(alloc: Global, which: Trait, fields: &[Ranked<'_>]) -> Result<Forms, AllocError>
+    requires { All (λ (f : Ranked). IsSome f.field.now.ident) fields.now }
+    ensures { IfOk result (spec.HasSteps which (codes "other") (map kept_of fields.now)) }
+{
+    let mut block = Seq::new(alloc);
+    for ranked in fields {
+        block.push(step(alloc, which, ranked.field)?)?;
+    }
+    block.push(Form::Known(last_of(which)))?;
+    Ok(block)
+}
+
+/// The body of a comparison over the fields in the order of the trait.
+fn body(
+    alloc: Global,
+    which: Trait,
+    ast: &DeriveInput,
+    fields: &[Ranked<'_>],
+) -> Result<Body, AllocError>
+    requires built { IsBuilt ast.now }
+    requires named { All (λ (f : Ranked). IsSome f.field.now.ident) fields.now }
+    requires in_order { spec.IsInOrder which (settings.kept_fields which ast.now) (map kept_of fields.now) }
+    ensures { IfOk result (spec.IsBody which ast.now) }
+{
+    let mut params = Seq::new(alloc);
+    params.push(Word::from_name(alloc, OTHER)?)?;
+    let block = steps(alloc, which, fields)?;
+    Ok(Body { params, block })
+}
+
+/// The name of the function of a trait.
+fn function_name(alloc: Global, which: Trait) -> Result<Word, AllocError>
+    ensures { IfOk result (λ name. name.text ≡ spec.function_name which) }
+{
+    match which {
+        Trait::PartialEq => Word::from_name(alloc, "eq"),
+        Trait::PartialOrd => Word::from_name(alloc, "partial_cmp"),
+        Trait::Ord => Word::from_name(alloc, "cmp"),
+    }
+}
+
+/// The one function of an impl of a comparison.
+fn functions(alloc: Global, name: Word, body: Body) -> Result<Functions, AllocError>
+    ensures { IfOk result (λ functions. functions ≡ record { name = name; body = body } ∷ []) }
+{
+    let mut functions = Seq::new(alloc);
+    functions.push(Function { name, body })?;
+    Ok(functions)
+}
+
+/// The block of a comparison over the fields in the order of the trait.
+#[tactic(auto, unfolding(educe_tokens::specs::Quote::quoted))]
+pub fn comparison_block(
+    alloc: Global,
+    which: Trait,
+    ast: &DeriveInput,
+    fields: &[Ranked<'_>],
+) -> Result<Item, AllocError>
+    requires built { IsBuilt ast.now }
+    requires named { All (λ (f : Ranked). IsSome f.field.now.ident) fields.now }
+    requires in_order { spec.IsInOrder which (settings.kept_fields which ast.now) (map kept_of fields.now) }
+    ensures { IfOk result (spec.IsBlock which ast.now) }
+{
+    let attributes = Written::from_template(alloc, "# [ automatically_derived ]")?;
+    let ident = ast.ident.duplicate(alloc)?;
+    let name = function_name(alloc, which)?;
+    let body = body(alloc, which, ast, fields)?;
+    let functions = functions(alloc, name, body)?;
+    Ok(Item::Impl(ImplItem {
+        which,
+        attributes,
+        ident,
+        functions,
+    }))
+}

@@ -1,0 +1,97 @@
+//! The fields that take part in a trait, and their ranks.
+ghost use Rattle.std.specs.Prelude.{◌≡◌, ◌+◌, ◌<◌, ◌⊎◌, length, map, Some, IfOk, IfErr, IfSome, IfNone};
+ghost use Rattle.educe_core.specs.Ranks.{NeighboursDiffer, IsRepeatAt};
+ghost use Rattle.educe_core.specs.Settings as spec;
+ghost use Rattle.educe_core.specs.Ranked.{kept_of};
+ghost use Rattle.educe_core.specs.Blocks.{IsByRank, IsRankCause};
+ghost use Rattle.educe_core.specs.declared.ranks.Ranked.{Ranked};
+ghost use Rattle.educe_core.specs.declared.handler_error.HandlerError.TheVariants.{ReuseARank};
+
+use crate::handler_error::HandlerError;
+use crate::settings::{is_kept, rank_of, rank_place};
+use educe_syntax::{DeriveInput, Field, Trait};
+use std::alloc::{AllocError, Global};
+
+/// A field that takes part in a trait, its place among all fields, counted from 0, and its rank.
+#[derive(Clone, Copy)]
+pub struct Ranked<'a> {
+    pub field: &'a Field,
+    pub place: usize,
+    pub rank: i64,
+}
+
+/// The fields that take part in a trait, in written order.
+pub fn kept_fields<'a>(
+    alloc: Global,
+    which: Trait,
+    ast: &'a DeriveInput,
+) -> Result<Vec<Ranked<'a>>, AllocError>
+    ensures { IfOk result (λ kept. map kept_of kept.items ≡ spec.kept_fields which ast.now) }
+{
+    let fields = ast.fields().as_slice();
+    let mut kept = Vec::new(alloc);
+    for (place, field) in fields.iter().enumerate() {
+        if is_kept(which, field) {
+            let rank = rank_of(which, place, field);
+            kept.push(Ranked { field, place, rank })?;
+        }
+    }
+    Ok(kept)
+}
+
+/// Of two places, the one whose next field was written first.
+fn earlier(sorted: &[Ranked<'_>], found: Option<usize>, at: usize) -> usize
+    requires found { IfSome found (λ other. other + 1 < length sorted.now) }
+    requires at { at + 1 < length sorted.now }
+    ensures { (result ≡ at) ⊎ (found ≡ Some result) }
+{
+    match found {
+        Some(other) if sorted[other + 1].place < sorted[at + 1].place => other,
+        _ => at,
+    }
+}
+
+/// A place where a field and the next one have one rank; of such places the one whose next field
+/// was written first.
+fn repeat_at(sorted: &[Ranked<'_>]) -> Option<usize>
+    ensures none { IfNone result (NeighboursDiffer (λ (f : Ranked). f.rank) sorted.now) }
+    ensures some { IfSome result (IsRepeatAt (λ (f : Ranked). f.rank) sorted.now) }
+{
+    let mut found = None;
+    for i in 1..sorted.len() {
+        if sorted[i - 1].rank == sorted[i].rank {
+            found = Some(earlier(sorted, found, i - 1));
+        }
+    }
+    found
+}
+
+/// The refusal of a field that has the rank of an earlier one.
+fn reuse(which: Trait, later: &Ranked<'_>) -> HandlerError
+    ensures { result ≡ ReuseARank later.now.rank (spec.rank_place which later.now.field.now) }
+{
+    HandlerError::ReuseARank {
+        rank: later.rank,
+        place: rank_place(which, later.field),
+    }
+}
+
+/// The fields that take part in an order, the one of least rank first. Refused where two of them
+/// have one rank; of such fields the one that is written first behind another counts.
+pub fn by_rank<'a>(
+    alloc: Global,
+    which: Trait,
+    ast: &'a DeriveInput,
+) -> Result<Vec<Ranked<'a>>, HandlerError>
+    ensures sorted { IfOk result (λ sorted.
+        IsByRank (spec.kept_fields which ast.now) (map kept_of sorted.items)) }
+    ensures apart { IfOk result (λ _. spec.RanksDiffer which ast.now) }
+    ensures err { IfErr result (IsRankCause which ast.now) }
+{
+    let mut sorted = kept_fields(alloc, which, ast)?;
+    sorted.sort_by_key(|field| field.rank)?;
+    match repeat_at(&sorted) {
+        Some(at) => Err(reuse(which, &sorted[at + 1])),
+        None => Ok(sorted),
+    }
+}
