@@ -32,12 +32,33 @@ def fields(size):
 def long_names(size):
     return struct(size, lambda n: f"{'x' * 1000}{n}")
 
+def ranked(traits):
+    """Fields of which each has a rank, the last one the least."""
+    own = traits.split(",")[-1]
+    def make(size):
+        head, tail, parts, used = f"#[educe({traits})] struct S {{", "}", [], 0
+        while True:
+            part = f"#[educe({own}(rank=-{len(parts)}))]f{len(parts)}:u8,"
+            if len(head) + used + len(part) + len(tail) > size:
+                return head + "".join(parts) + tail
+            parts.append(part)
+            used += len(part)
+    return make
+
 def blanks(size):
     """A small struct behind blanks."""
     text = "#[educe(PartialEq)] struct S { a: u8 }"
     return " " * (size - len(text)) + text
 
-for name, make in [("fields", fields), ("long_names", long_names), ("blanks", blanks)]:
+shapes = [
+    ("fields", fields),
+    ("ord", ranked("Ord")),
+    ("partial_ord", ranked("PartialOrd")),
+    ("all", ranked("PartialEq,PartialOrd,Ord")),
+    ("long_names", long_names),
+    ("blanks", blanks),
+]
+for name, make in shapes:
     for kib in (16, 32, 64, 128):
         with open(f"{folder}/{name}.{kib}", "w") as out:
             out.write(make(kib * 1024))
@@ -48,7 +69,7 @@ ratio() {
 }
 
 printf '%-12s %7s %8s %7s %10s %7s %9s\n' shape bytes seconds ratio 'Minstr' ratio 'peak MB'
-for name in fields long_names blanks; do
+for name in fields ord partial_ord all long_names blanks; do
   seconds_before=0
   count_before=0
   for kib in 16 32 64 128; do
