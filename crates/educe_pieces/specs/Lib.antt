@@ -1,0 +1,17 @@
+pub mod Chars
+pub mod Words
+pub mod Integers
+pub mod Floats
+pub mod Quotes
+pub mod Machine
+pub mod Reachable
+pub mod RawStrings
+pub mod Comments
+pub mod CommentScan
+pub mod Pieces
+pub mod Numbers
+pub mod Joining
+pub mod Fits
+pub mod Reading
+pub mod Scan
+pub mod Spells

@@ -1,0 +1,109 @@
+-- Literals between quotes, character by character. What they are is said in `Quotes`; that both agree is proved.
+use Rattle.std.specs.Prelude.{ℕ, ◌+◌, ◌*◌, ◌==◌, Bool, false, cond, ◌&&◌, ◌||◌, not, Option, Some, None, List, [], ◌∷◌, ◌++◌, nat_lt, nat_le}
+use Rattle.std.specs.Char.{digit_value}
+use Rattle.educe_pieces.specs.declared.quotes.Quote.{Quote}
+use Rattle.educe_pieces.specs.declared.quotes.Quote.TheVariants.{Str, ByteStr, CStr, Char, Byte}
+use Rattle.educe_pieces.specs.declared.quotes.Within.{Within}
+use Rattle.educe_pieces.specs.declared.quotes.Within.TheVariants.{Open, Break, Escape, Return, High, Low, Brace, Code, Close}
+use Rattle.educe_pieces.specs.declared.quotes.Next.{Next}
+use Rattle.educe_pieces.specs.declared.quotes.Next.TheVariants.{Go, End, Stop}
+use Rattle.educe_pieces.specs.Chars.{is_empty}
+use Rattle.educe_pieces.specs.Quotes.{closing, is_single, is_bytes, top_digit, is_escape, escape_value, is_hex, is_scalar, is_plain}
+
+-- behind a part
+abbrev pub behind_part : Quote → Within
+behind_part q = cond (is_single q) (Close q) (Open q)
+
+-- space, tab, line feed and carriage return
+abbrev pub is_space_character : ℕ → Bool
+is_space_character c = (c == 32) || (c == 9) || (c == 10) || (c == 13)
+
+-- before a part or the mark at the end
+abbrev pub open_step : Quote → ℕ → Next
+open_step q c =
+    cond ((c == closing q) && not (is_single q)) End
+    (cond (c == 92) (Go (Escape q))
+    (cond (is_plain q c) (Go (behind_part q)) Stop))
+
+-- behind a `\`
+abbrev pub escape_step : Quote → ℕ → Next
+escape_step q c =
+    cond (is_escape c) (Go (behind_part q))
+    (cond (c == 120) (Go (High q))
+    (cond ((c == 117) && not (is_bytes q)) (Go (Brace q))
+    (cond ((c == 10) && not (is_single q)) (Go (Break q))
+    (cond ((c == 13) && not (is_single q)) (Go (Return q)) Stop))))
+
+-- behind `\u{` and digits
+abbrev pub code_step : Quote → ℕ → ℕ → ℕ → Next
+code_step q digits value c =
+    cond (c == 125) (cond (nat_lt 0 digits && is_scalar value) (Go (behind_part q)) Stop)
+    (cond (c == 95) (cond (nat_lt 0 digits) (Go (Code q digits value)) Stop)
+    (cond (is_hex c && nat_lt digits 6) (Go (Code q (digits + 1) (value * 16 + digit_value c))) Stop))
+
+abbrev pub step : Within → ℕ → Next
+step (Open q) c = open_step q c
+step (Break q) c = cond (is_space_character c) (Go (Break q)) (open_step q c)
+step (Escape q) c = escape_step q c
+step (Return q) c = cond (c == 10) (Go (Break q)) Stop
+step (High q) c = cond (is_hex c && nat_le (digit_value c) (top_digit q)) (Go (Low q (digit_value c))) Stop
+step (Low q high) c = cond (is_hex c) (Go (behind_part q)) Stop
+step (Brace q) c = cond (c == 123) (Go (Code q 0 0)) Stop
+step (Code q digits value) c = code_step q digits value c
+step (Close q) c = cond (c == closing q) End Stop
+
+-- the characters of the value that a character completes
+abbrev pub gives : Within → ℕ → List ℕ
+gives (Open q) c = cond ((c == closing q) || (c == 92)) [] (c ∷ [])
+gives (Break q) c = cond (is_space_character c || ((c == closing q) || (c == 92))) [] (c ∷ [])
+gives (Escape q) c = cond (is_escape c) (escape_value c ∷ []) []
+gives (Return q) c = []
+gives (High q) c = []
+gives (Low q high) c = (high * 16 + digit_value c) ∷ []
+gives (Brace q) c = []
+gives (Code q digits value) c = cond (c == 125) (value ∷ []) []
+gives (Close q) c = []
+
+-- the last of these characters is the first at which the literal ends
+abbrev pub ends : Within → List ℕ → Bool
+ends within [] = false
+ends within (c ∷ cs) = elim (step within c) [ Go more ↦ ends more cs | End ↦ is_empty cs | Stop ↦ false ]
+
+-- what they give together, up to the end
+abbrev pub given : Within → List ℕ → List ℕ
+given within [] = []
+given within (c ∷ cs) = elim (step within c) [ Go more ↦ gives within c ++ given more cs | End ↦ [] | Stop ↦ [] ]
+
+abbrev pub plus : ℕ → Option ℕ → Option ℕ
+plus k None = None
+plus k (Some n) = Some (k + n)
+
+-- how many characters it takes until the literal ends
+abbrev pub end_at : Within → List ℕ → Option ℕ
+end_at within [] = None
+end_at within (c ∷ cs) = elim (step within c) [ Go more ↦ plus 1 (end_at more cs) | End ↦ Some 1 | Stop ↦ None ]
+
+-- a quote, and the rest of the literal
+abbrev pub is_quoted : Quote → ℕ → List ℕ → Bool
+is_quoted q mark [] = false
+is_quoted q mark (c ∷ cs) = (c == mark) && ends (Open q) cs
+
+-- a `b` or `c`, a quote, and the rest of the literal
+abbrev pub is_prefixed : ℕ → Quote → ℕ → List ℕ → Bool
+is_prefixed letter q mark [] = false
+is_prefixed letter q mark (c ∷ cs) = (c == letter) && is_quoted q mark cs
+
+abbrev pub is_str : List ℕ → Bool
+is_str cs = is_quoted Str 34 cs
+
+abbrev pub is_byte_str : List ℕ → Bool
+is_byte_str cs = is_prefixed 98 ByteStr 34 cs
+
+abbrev pub is_c_str : List ℕ → Bool
+is_c_str cs = is_prefixed 99 CStr 34 cs
+
+abbrev pub is_char : List ℕ → Bool
+is_char cs = is_quoted Char 39 cs
+
+abbrev pub is_byte : List ℕ → Bool
+is_byte cs = is_prefixed 98 Byte 39 cs

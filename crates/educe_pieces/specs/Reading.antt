@@ -1,0 +1,25 @@
+-- The reading of a text as pieces (Rust Reference, Lexical structure).
+use Rattle.std.specs.Prelude.{◌≡◌, ℕ, ◌≤◌, ◌&&◌, IsTrue, List, [], ◌∷◌, ◌++◌, length}
+use Rattle.educe_pieces.specs.declared.kind.PieceKind.{PieceKind}
+use Rattle.educe_pieces.specs.Pieces.{is_piece, may_precede}
+
+pub record Piece : Type 0 where
+  pub kind : PieceKind
+  pub spelling : List ℕ
+
+-- the piece may stand before this rest
+abbrev pub IsPiece : Piece → List ℕ → Type 0
+IsPiece p rest = IsTrue (is_piece p.kind p.spelling && may_precede p.kind p.spelling rest)
+
+-- no longer front of the text is a piece
+abbrev pub IsLongest : Piece → List ℕ → Type 0
+IsLongest p text = (q : Piece) (rest : List ℕ) → text ≡ q.spelling ++ rest → IsPiece q rest → length q.spelling ≤ length p.spelling
+
+-- the text is these pieces, at each place the longest that fits, and then the rest
+abbrev pub Reads : List ℕ → List Piece → List ℕ → Type 0
+Reads text [] rest = text ≡ rest
+Reads text (p ∷ ps) rest = (more : List ℕ) × (text ≡ p.spelling ++ more) × IsPiece p more × IsLongest p text × Reads more ps rest
+
+-- no front of the text is a piece
+abbrev pub FitsNone : List ℕ → Type 0
+FitsNone text = (p : Piece) (rest : List ℕ) → text ≡ p.spelling ++ rest → IsPiece p rest → ⊥

@@ -1,0 +1,460 @@
+//! Literals between quotes that are not raw (Rust Reference, Literal expressions), character by
+//! character.
+ghost use Rattle.std.specs.Prelude.{◌≡◌, ◌≢◌, ◌<◌, ◌≤◌, ◌+◌, ◌*◌, IsTrue, IfSome, List, length, option_to_list};
+ghost use Rattle.std.specs.Char.{digit_value};
+ghost use Rattle.educe_pieces.specs.Quotes.{closing, is_single, is_bytes, top_digit, is_escape, escape_value, is_line_control, is_plain, is_hex, is_scalar, IsBody, Part, value_of};
+ghost use Rattle.educe_pieces.specs.Machine.{behind_part, is_space_character, open_step, escape_step, code_step, step, gives, ends, end_at};
+ghost use Rattle.educe_pieces.specs.Reachable.{is_reachable};
+ghost use Rattle.educe_pieces.specs.declared.quotes.Within.{Within};
+
+/// The kinds of literals between quotes.
+#[derive(Clone, Copy, Debug, PartialEq, Eq)]
+pub enum Quote {
+    Str,
+    ByteStr,
+    CStr,
+    Char,
+    Byte,
+}
+
+/// Where in a literal a character stands.
+#[derive(Clone, Copy, Debug, PartialEq, Eq)]
+pub enum Within {
+    /// Before a part or the mark at the end.
+    Open(Quote),
+    /// Behind a `\` at the end of a line: spaces that follow have no value.
+    Break(Quote),
+    /// Behind a `\`.
+    Escape(Quote),
+    /// Behind a `\` and a carriage return.
+    Return(Quote),
+    /// Behind `\x`.
+    High(Quote),
+    /// Behind `\x` and a digit of this value.
+    Low(Quote, u32),
+    /// Behind `\u`.
+    Brace(Quote),
+    /// Behind `\u{`, so many digits, and this value of them.
+    Code(Quote, u32, u32),
+    /// Behind the one part of a character or a byte.
+    Close(Quote),
+}
+
+/// What a character does.
+#[derive(Clone, Copy, Debug, PartialEq, Eq)]
+pub enum Next {
+    /// The literal goes on.
+    Go(Within),
+    /// The literal ends here.
+    End,
+    /// This is no such literal.
+    Stop,
+}
+
+impl Quote {
+    fn closing(self) -> char
+        ensures { result ≡ closing self }
+    {
+        match self {
+            Quote::Str | Quote::ByteStr | Quote::CStr => '"',
+            Quote::Char | Quote::Byte => '\'',
+        }
+    }
+
+    fn is_single(self) -> bool
+        ensures { result ≡ is_single self }
+    {
+        matches!(self, Quote::Char | Quote::Byte)
+    }
+
+    fn is_bytes(self) -> bool
+        ensures { result ≡ is_bytes self }
+    {
+        matches!(self, Quote::ByteStr | Quote::Byte)
+    }
+
+    fn top_digit(self) -> u32
+        ensures { result ≡ top_digit self }
+    {
+        match self {
+            Quote::Str | Quote::Char => 7,
+            Quote::ByteStr | Quote::CStr | Quote::Byte => 15,
+        }
+    }
+
+    fn behind_part(self) -> Within
+        ensures { result ≡ behind_part self }
+    {
+        if self.is_single() {
+            Within::Close(self)
+        } else {
+            Within::Open(self)
+        }
+    }
+}
+
+fn is_escape(c: char) -> bool
+    ensures { result ≡ is_escape c }
+{
+    matches!(c, 'n' | 'r' | 't' | '\\' | '0' | '\'' | '"')
+}
+
+fn escape_value(c: char) -> char
+    ensures { result ≡ escape_value c }
+{
+    match c {
+        'n' => '\n',
+        'r' => '\r',
+        't' => '\t',
+        '0' => '\0',
+        _ => c,
+    }
+}
+
+fn is_line_control(c: char) -> bool
+    ensures { result ≡ is_line_control c }
+{
+    matches!(c, '\n' | '\r' | '\t')
+}
+
+fn is_space(c: char) -> bool
+    ensures { result ≡ is_space_character c }
+{
+    matches!(c, ' ' | '\t' | '\n' | '\r')
+}
+
+fn is_scalar(value: u32) -> bool
+    ensures { result ≡ is_scalar value }
+{
+    value < 0xD800 || (0xE000 <= value && value < 0x11_0000)
+}
+
+fn is_plain(q: Quote, c: char) -> bool
+    ensures { result ≡ is_plain q c }
+{
+    c != q.closing()
+        && c != '\\'
+        && (!q.is_bytes() || c.is_ascii())
+        && !(q.is_single() && is_line_control(c))
+}
+
+fn open_step(q: Quote, c: char) -> Next
+    ensures { result ≡ open_step q c }
+{
+    if c == q.closing() && !q.is_single() {
+        Next::End
+    } else if c == '\\' {
+        Next::Go(Within::Escape(q))
+    } else if is_plain(q, c) {
+        Next::Go(q.behind_part())
+    } else {
+        Next::Stop
+    }
+}
+
+fn escape_step(q: Quote, c: char) -> Next
+    ensures { result ≡ escape_step q c }
+{
+    if is_escape(c) {
+        Next::Go(q.behind_part())
+    } else if c == 'x' {
+        Next::Go(Within::High(q))
+    } else if c == 'u' && !q.is_bytes() {
+        Next::Go(Within::Brace(q))
+    } else if c == '\n' && !q.is_single() {
+        Next::Go(Within::Break(q))
+    } else if c == '\r' && !q.is_single() {
+        Next::Go(Within::Return(q))
+    } else {
+        Next::Stop
+    }
+}
+
+fn high_step(q: Quote, c: char) -> Next
+    ensures { result ≡ step (Within.High q) c }
+{
+    match c.to_digit(16) {
+        Some(high) => {
+            if high <= q.top_digit() {
+                Next::Go(Within::Low(q, high))
+            } else {
+                Next::Stop
+            }
+        }
+        None => Next::Stop,
+    }
+}
+
+fn digit_step(q: Quote, digits: u32, value: u32, c: char) -> Next
+    requires { IsTrue (is_reachable (Within.Code q digits value)) }
+    ensures { c ≢ 125 → c ≢ 95 → result ≡ code_step q digits value c }
+{
+    match c.to_digit(16) {
+        Some(digit) => {
+            if digits < 6 {
+                Next::Go(Within::Code(q, digits + 1, value * 16 + digit))
+            } else {
+                Next::Stop
+            }
+        }
+        None => Next::Stop,
+    }
+}
+
+fn code_step(q: Quote, digits: u32, value: u32, c: char) -> Next
+    requires { IsTrue (is_reachable (Within.Code q digits value)) }
+    ensures { result ≡ code_step q digits value c }
+{
+    if c == '}' {
+        if digits > 0 && is_scalar(value) {
+            Next::Go(q.behind_part())
+        } else {
+            Next::Stop
+        }
+    } else if c == '_' {
+        if digits > 0 {
+            Next::Go(Within::Code(q, digits, value))
+        } else {
+            Next::Stop
+        }
+    } else {
+        digit_step(q, digits, value, c)
+    }
+}
+
+/// What a character does that stands there.
+pub(crate) fn step(within: Within, c: char) -> Next
+    requires { IsTrue (is_reachable within) }
+    ensures { result ≡ step within c }
+{
+    match within {
+        Within::Open(q) => open_step(q, c),
+        Within::Break(q) => {
+            if is_space(c) {
+                Next::Go(Within::Break(q))
+            } else {
+                open_step(q, c)
+            }
+        }
+        Within::Escape(q) => escape_step(q, c),
+        Within::Return(q) => match c {
+            '\n' => Next::Go(Within::Break(q)),
+            _ => Next::Stop,
+        },
+        Within::High(q) => high_step(q, c),
+        Within::Low(q, _) => {
+            if c.is_digit(16) {
+                Next::Go(q.behind_part())
+            } else {
+                Next::Stop
+            }
+        }
+        Within::Brace(q) => match c {
+            '{' => Next::Go(Within::Code(q, 0, 0)),
+            _ => Next::Stop,
+        },
+        Within::Code(q, digits, value) => code_step(q, digits, value, c),
+        Within::Close(q) => {
+            if c == q.closing() {
+                Next::End
+            } else {
+                Next::Stop
+            }
+        }
+    }
+}
+
+fn open_gives(q: Quote, c: char) -> Option<char>
+    ensures { option_to_list result ≡ gives (Within.Open q) c }
+{
+    if c == q.closing() || c == '\\' {
+        None
+    } else {
+        Some(c)
+    }
+}
+
+fn low_gives(high: u32, c: char) -> Option<char>
+    requires { high < 16 }
+    ensures { IsTrue (is_hex c) → result ≡ Some (high * 16 + digit_value c) }
+{
+    let low = c.to_digit(16)?;
+    char::from_u32(high * 16 + low)
+}
+
+fn code_gives(value: u32, c: char) -> Option<char>
+    ensures closes { c ≡ 125 → IsTrue (is_scalar value) → result ≡ Some value }
+    ensures goes_on { c ≢ 125 → result ≡ None }
+{
+    if c == '}' {
+        char::from_u32(value)
+    } else {
+        None
+    }
+}
+
+/// The character of the value that a character completes with which the literal goes on: None
+/// where it completes none.
+pub(crate) fn gives(within: Within, c: char) -> Option<char>
+    requires { IsTrue (is_reachable within) }
+    ensures { (more : Within) → step within c ≡ Next.Go more → option_to_list result ≡ gives within c }
+{
+    match within {
+        Within::Open(q) => open_gives(q, c),
+        Within::Break(q) => { if is_space(c) { None } else { open_gives(q, c) } }
+        Within::Escape(_) => {
+            if is_escape(c) {
+                Some(escape_value(c))
+            } else {
+                None
+            }
+        }
+        Within::Low(_, high) => low_gives(high, c),
+        Within::Code(_, _, value) => code_gives(value, c),
+        Within::Return(_) | Within::High(_) | Within::Brace(_) | Within::Close(_) => None,
+    }
+}
+
+/// How many characters of a text behind the opening quote the literal takes, with the mark at its
+/// end: None where no such literal stands there.
+pub(crate) fn quote_end(q: Quote, text: &[char]) -> Option<usize>
+    ensures value { result ≡ end_at (Within.Open q) text.now }
+    ensures within { IfSome result (λ n. n ≤ length text.now) }
+{
+    let mut within = Within::Open(q);
+    for (i, c) in text.iter().enumerate() {
+        match step(within, *c) {
+            Next::Go(more) => within = more,
+            Next::End => return Some(i + 1),
+            Next::Stop => return None,
+        }
+    }
+    None
+}
+
+/// Whether the text, which stands behind an opening quote, is the rest of such a literal: its parts
+/// and the mark at the end (Rust Reference, Literal expressions). Its parts have one value only.
+pub fn is_body(q: Quote, text: &[char]) -> bool
+    ensures value { result ≡ ends (Within.Open q) text.now }
+    ensures is { IsTrue result → (parts : List Part) × IsBody q text.now parts }
+    ensures only { (parts : List Part) → IsBody q text.now parts → IsTrue result }
+    ensures one_value { (a : List Part) → (b : List Part) → IsBody q text.now a → IsBody q text.now b → value_of a ≡ value_of b }
+{
+    quote_end(q, text) == Some(text.len())
+}
+
+#[cfg(test)]
+mod tests {
+    use super::*;
+    use std::alloc::Global;
+    use std::test::Fail;
+
+    fn fits(alloc: Global, q: Quote, literal: &str) -> Result<bool, Fail> {
+        let prefix = match q {
+            Quote::Str | Quote::Char => 1,
+            Quote::ByteStr | Quote::CStr | Quote::Byte => 2,
+        };
+        let text: Vec<char> = literal.chars().skip(prefix).collect(alloc)?;
+        Ok(is_body(q, &text))
+    }
+
+    #[test]
+    fn strings(rt: HostRuntime) -> Result<(), Fail> {
+        for (literal, fit) in [
+            (r#""a""#, true),
+            (r#""a"#, false),
+            (r#""a"b""#, false),
+            (r#""""#, true),
+            ("\"é\n\"", true),
+            (r#""\n\r\t\\\0\'\"""#, true),
+            (r#""\""#, false),
+            (r#""\q""#, false),
+            (r#""\x7f""#, true),
+            (r#""\x80""#, false),
+            (r#""\x7""#, false),
+            ("\"\\\n\"", true),
+            ("\"\\\r\n\"", true),
+            ("\"\\\r\"", false),
+        ] {
+            assert_eq!(rt; fits(rt.alloc(), Quote::Str, literal)?, fit, "{literal}");
+        }
+        Ok(())
+    }
+
+    #[test]
+    fn codes(rt: HostRuntime) -> Result<(), Fail> {
+        for (literal, fit) in [
+            (r"'\u{1_F600}'", true),
+            (r"'\u{0_0_0_0_4_1__}'", true),
+            (r"'\u{D7FF}'", true),
+            (r"'\u{D800}'", false),
+            (r"'\u{DFFF}'", false),
+            (r"'\u{E000}'", true),
+            (r"'\u{10FFFF}'", true),
+            (r"'\u{110000}'", false),
+            (r"'\u{}'", false),
+            (r"'\u{_1}'", false),
+            (r"'\u{1234567}'", false),
+            (r"'\u{1g}'", false),
+            (r"'\u{1'", false),
+            (r"'\u41'", false),
+        ] {
+            assert_eq!(rt; fits(rt.alloc(), Quote::Char, literal)?, fit, "{literal}");
+        }
+        Ok(())
+    }
+
+    #[test]
+    fn bytes_and_c_strings(rt: HostRuntime) -> Result<(), Fail> {
+        for (q, literal, fit) in [
+            (Quote::Str, r#""\u{1_F600}""#, true),
+            (Quote::Str, r#""\u{D800}""#, false),
+            (Quote::ByteStr, r#"b"a\x80\xff\'""#, true),
+            (Quote::ByteStr, "b\"\\\n\"", true),
+            (Quote::ByteStr, r#"b"a"#, false),
+            (Quote::ByteStr, r#"b"é""#, false),
+            (Quote::ByteStr, r#"b"\u{41}""#, false),
+            (Quote::CStr, r#"c"é\xff\u{41}""#, true),
+            (Quote::CStr, r#"c"\xff"#, false),
+            (Quote::CStr, r#"c"\q""#, false),
+            (Quote::Byte, r"b'a'", true),
+            (Quote::Byte, r"b'\xff'", true),
+            (Quote::Byte, r"b'a", false),
+            (Quote::Byte, r"b'\u{1}'", false),
+            (Quote::Byte, r"b'é'", false),
+            (Quote::Byte, "b'\n'", false),
+        ] {
+            assert_eq!(rt; fits(rt.alloc(), q, literal)?, fit, "{literal}");
+        }
+        Ok(())
+    }
+
+    #[test]
+    fn characters(rt: HostRuntime) -> Result<(), Fail> {
+        for (literal, fit) in [
+            (r"'a'", true),
+            (r"'é'", true),
+            (r#"'"'"#, true),
+            (r"'\''", true),
+            (r"'a", false),
+            (r"'''", false),
+            (r"''", false),
+            (r"'ab'", false),
+            ("'\n'", false),
+            ("'\r'", false),
+            ("'\t'", false),
+            (r"'\x80'", false),
+            ("'\\\n'", false),
+        ] {
+            assert_eq!(rt; fits(rt.alloc(), Quote::Char, literal)?, fit, "{literal}");
+        }
+        Ok(())
+    }
+
+    #[test]
+    fn ends(rt: HostRuntime) {
+        assert_eq!(rt; quote_end(Quote::Str, &['a', '"', 'b', '"']), Some(2));
+        assert_eq!(rt; quote_end(Quote::Str, &['\\', '"']), None);
+        assert_eq!(rt; quote_end(Quote::Char, &['a', ' ']), None);
+    }
+}

@@ -1,0 +1,107 @@
+//! Raw strings (Rust Reference, Raw string literals).
+ghost use Rattle.std.specs.Prelude.{◌≡◌, ◌≤◌, ◌==◌, ◌&&◌, true, length, nat_le, chars, IsTrue, IfSome};
+ghost use Rattle.educe_pieces.specs.RawStrings.{mark_count, raw_closing_len, raw_len, is_raw_str, raw_value, IsRawOf};
+
+use crate::chars::begins_with;
+
+fn mark_count(text: &[char]) -> usize
+    ensures value { result ≡ mark_count text.now }
+    ensures within { result ≤ length text.now }
+{
+    text.iter().take_while(|c| **c == '#').count()
+}
+
+fn closes(marks: usize, first: char, rest: &[char]) -> bool
+    ensures value { result ≡ (first == 34) && nat_le marks (mark_count rest.now) }
+    ensures within { result ≡ true → marks ≤ length rest.now }
+{
+    first == '"' && marks <= mark_count(rest)
+}
+
+/// How many characters it takes until the raw text ends, behind its opening quote.
+fn raw_closing_len(marks: usize, text: &[char]) -> Option<usize>
+    ensures value { result ≡ raw_closing_len marks text.now }
+    ensures within { IfSome result (λ n. n ≤ length text.now) }
+{
+    for (i, c) in text.iter().enumerate() {
+        if closes(marks, *c, &text[i + 1..]) {
+            return Some(i + 1 + marks);
+        }
+    }
+    None
+}
+
+/// How many characters the raw text at the front has, from its first `#` or `"` on; none where no
+/// such text stands there.
+pub(crate) fn raw_len(text: &[char]) -> Option<usize>
+    ensures value { result ≡ raw_len text.now }
+    ensures within { IfSome result (λ n. n ≤ length text.now) }
+{
+    let marks = mark_count(text);
+    if marks <= 255 && begins_with(&text[marks..], '"') {
+        let len = raw_closing_len(marks, &text[marks + 1..])?;
+        Some(marks + 1 + len)
+    } else {
+        None
+    }
+}
+
+/// The value of a raw string: the text between its quotes (Rust Reference, Raw string literals).
+pub fn raw_value(literal: &str) -> &str
+    requires { IsTrue (is_raw_str (chars literal.now)) }
+    ensures value { chars result.now ≡ raw_value (chars literal.now) }
+    ensures law { IsRawOf (chars literal.now) (chars result.now) }
+{
+    let (opening, rest) = literal.split_once('"').unwrap();
+    &rest[..rest.len() - opening.len()]
+}
+
+#[cfg(test)]
+mod tests {
+    use super::*;
+    use std::alloc::{AllocError, Global};
+    use std::test::Fail;
+
+    fn found(alloc: Global, text: &str) -> Result<Option<usize>, AllocError> {
+        let text: Vec<char> = text.chars().collect(alloc)?;
+        Ok(raw_len(&text))
+    }
+
+    #[test]
+    fn raw_texts(rt: HostRuntime) -> Result<(), Fail> {
+        let table = [
+            ("\"\"", Some(2)),
+            ("\"\"\"", Some(2)),
+            ("#\"a\"b\"#", Some(7)),
+            ("#\"a\"b\"##", Some(7)),
+            ("##\"a\"#\"##", Some(9)),
+            ("#\"a\"", None),
+            ("\"a", None),
+            ("#a", None),
+            ("", None),
+        ];
+        for (text, len) in table {
+            assert_eq!(rt; found(rt.alloc(), text)?, len, "at {text}");
+        }
+        Ok(())
+    }
+
+    #[test]
+    fn at_most_255_marks(rt: HostRuntime) {
+        let mut most = ['#'; 512];
+        most[255] = '"';
+        most[256] = '"';
+        assert_eq!(rt; raw_len(&most), Some(512));
+        let mut more = ['#'; 514];
+        more[256] = '"';
+        more[257] = '"';
+        assert_eq!(rt; raw_len(&more), None);
+    }
+
+    #[test]
+    fn values(rt: HostRuntime) {
+        assert_eq!(rt; raw_value("r\"\""), "");
+        assert_eq!(rt; raw_value("r#\"a\"b\"#"), "a\"b");
+        assert_eq!(rt; raw_value("r##\"a\"#\"##"), "a\"#");
+    }
+}

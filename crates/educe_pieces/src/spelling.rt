@@ -1,0 +1,97 @@
+//! Whether a text is one piece of a kind (Rust Reference, Lexical structure).
+ghost use Rattle.std.specs.Prelude.{◌≡◌, Some, IsTrue, length};
+ghost use Rattle.educe_pieces.specs.Joining.{unjoined};
+ghost use Rattle.educe_pieces.specs.Pieces.{is_piece};
+ghost use Rattle.educe_pieces.specs.Scan.{candidate};
+ghost use Rattle.educe_pieces.specs.Spells.{IsPieceOf};
+
+use crate::kind::{PieceKind, TokenKind};
+use crate::scan::candidate;
+
+/// The kind at the end of a text, where no punctuation character is joint.
+fn unjoined(kind: PieceKind) -> PieceKind
+    ensures { result ≡ unjoined kind }
+{
+    match kind {
+        PieceKind::Token(TokenKind::Punct(c, _)) => PieceKind::Token(TokenKind::Punct(c, false)),
+        _ => kind,
+    }
+}
+
+/// Whether the scan takes the whole text for a piece of the kind.
+fn is_whole(kind: PieceKind, text: &[char]) -> bool
+    ensures is { IsTrue result → candidate text.now ≡ Some (kind, length text.now) }
+    ensures only { candidate text.now ≡ Some (kind, length text.now) → IsTrue result }
+{
+    match candidate(text) {
+        Some((found, len)) => found == kind && len == text.len(),
+        None => false,
+    }
+}
+
+/// Whether the text is one piece of the kind, by itself. For a punctuation character it makes no
+/// difference whether it is joint (Rust Reference, Lexical structure).
+pub fn is_piece(kind: PieceKind, text: &[char]) -> bool
+    ensures value { result ≡ is_piece kind text.now }
+    ensures is { IsTrue result → IsPieceOf kind text.now }
+    ensures only { IsPieceOf kind text.now → IsTrue result }
+{
+    is_whole(unjoined(kind), text)
+}
+
+#[cfg(test)]
+mod tests {
+    use super::*;
+    use crate::kind::{LiteralKind, UncarriedKind};
+    use std::alloc::{AllocError, Global};
+    use std::test::Fail;
+
+    fn tells(alloc: Global, kind: PieceKind, text: &str) -> Result<bool, AllocError> {
+        let text: Vec<char> = text.chars().collect(alloc)?;
+        Ok(is_piece(kind, &text))
+    }
+
+    #[test]
+    fn pieces(rt: HostRuntime) -> Result<(), Fail> {
+        let table = [
+            (PieceKind::Blank, "\t"),
+            (PieceKind::Comment, "/* /* */ */"),
+            (PieceKind::Token(TokenKind::Doc), "/// a"),
+            (PieceKind::Token(TokenKind::Ident), "r#type"),
+            (PieceKind::Token(TokenKind::Punct('+', false)), "+"),
+            (PieceKind::Token(TokenKind::Punct('+', true)), "+"),
+            (
+                PieceKind::Token(TokenKind::Literal(LiteralKind::Int)),
+                "0xffu8",
+            ),
+            (PieceKind::Uncarried(UncarriedKind::Float), "1.5e-3f32"),
+            (PieceKind::Uncarried(UncarriedKind::CStr), "cr#\"\"a\"#"),
+        ];
+        for (kind, text) in table {
+            assert_eq!(rt; tells(rt.alloc(), kind, text)?, true, "at {text}");
+        }
+        Ok(())
+    }
+
+    #[test]
+    fn other_texts(rt: HostRuntime) -> Result<(), Fail> {
+        let table = [
+            (PieceKind::Blank, "  "),
+            (PieceKind::Comment, "/* /* */"),
+            (PieceKind::Comment, "//! a"),
+            (PieceKind::Token(TokenKind::Doc), "////"),
+            (PieceKind::Token(TokenKind::Ident), "r#self"),
+            (PieceKind::Token(TokenKind::Ident), "a b"),
+            (PieceKind::Token(TokenKind::Lifetime), "'a'"),
+            (
+                PieceKind::Token(TokenKind::Literal(LiteralKind::Int)),
+                "1.5",
+            ),
+            (PieceKind::Token(TokenKind::Literal(LiteralKind::Str)), ""),
+        ];
+        for (kind, text) in table {
+            assert_eq!(rt; tells(rt.alloc(), kind, text)?, false, "at {text}");
+        }
+        Ok(())
+    }
+}
