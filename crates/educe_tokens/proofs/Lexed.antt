@@ -1,22 +1,22 @@
 -- The tokens so far are those of the front of the text.
-use Rattle.std.proofs.Common.{◌≡◌, ℕ, ◌+◌, ◌<◌, ◌≤◌, Bool, true, false, cond, Some, None, List, [], ◌∷◌, ◌++◌, length, take, drop, map, filter, refl, sym, ap, ◌∙◌, subst, arith, append-nil, take-append-drop, encode_utf8_all}
+use Rattle.std.proofs.Common.{◌≡◌, ◌≢◌, ℕ, ◌+◌, ◌-◌, ◌<◌, ◌≤◌, Bool, true, false, cond, IsTrue, Some, None, List, [], ◌∷◌, ◌++◌, length, take, drop, get_or, map, filter, refl, sym, ap, ◌∙◌, subst, arith, append-nil, take-append-drop, encode_utf8_all}
+use Rattle.std.proofs.lemmas.Bool.{and_parts, and_from}
 use Rattle.std.proofs.lemmas.List.{map-append}
 use Rattle.std.proofs.lemmas.List.Elements.{filter-append}
+use Rattle.educe_tokens.specs.declared.error.EduceError.{EduceError}
 use Rattle.educe_tokens.specs.declared.span.Span.{Span}
 use Rattle.educe_tokens.specs.declared.token.Token.{Token}
-use Rattle.educe_tokens.specs.declared.piece.PieceKind.{PieceKind}
-use Rattle.educe_tokens.specs.declared.piece.PieceKind.TheVariants.{Blank, Token as TokenPiece}
-use Rattle.educe_tokens.specs.Scan.{piece_at}
-use Rattle.educe_tokens.specs.Lexes.{lexeme_of, lexemes, Piece, Reads, Lexes, is_token, piece_of, spans}
-use Rattle.educe_tokens.specs.Steps.{Adds}
+use Rattle.educe_pieces.specs.declared.kind.PieceKind.{PieceKind}
+use Rattle.educe_pieces.specs.declared.kind.PieceKind.TheVariants.{Blank, Comment, Token as TokenPiece, Uncarried}
+use Rattle.educe_pieces.specs.Reading.{Piece, Reads}
+use Rattle.educe_pieces.specs.Scan.{piece_at}
+use Rattle.educe_pieces.proofs.Readings.{found_piece, IsFound, reads_push, fits_none}
+use Rattle.educe_tokens.specs.Causes.{empty_at, last_of, IsLexicalCause}
+use Rattle.educe_tokens.specs.Lexes.{lexeme_of, lexemes, Lexes, is_token, is_carried, are_carried, piece_of, end_of, span_at, spans}
+use Rattle.educe_tokens.specs.Refusals.{syntax_at, not_carried_at}
+use Rattle.educe_tokens.specs.Steps.{Adds, IsCauseOfPiece}
 use Rattle.educe_tokens.proofs.Tokens.{span_of}
-use Rattle.educe_tokens.proofs.Readings.{found_piece, IsFound, reads_push, no_reading}
 use Rattle.educe_tokens.proofs.Bytes.{bytes-append, bytes-take_le}
-
--- where the pieces end
-abbrev pub end_of : ℕ → List Piece → ℕ
-end_of start [] = start
-end_of start (p ∷ ps) = end_of (start + length (encode_utf8_all p.spelling)) ps
 
 -- one more piece ends so many bytes later
 end_of-push : (start : ℕ) (ps : List Piece) (p : Piece) → end_of start (ps ++ p ∷ []) ≡ end_of start ps + length (encode_utf8_all p.spelling)
@@ -33,8 +33,13 @@ spans-push : (start : ℕ) (ps : List Piece) (p : Piece) → spans start (ps ++ 
 spans-push start [] p = refl
 spans-push start (x ∷ ps) p = cond-append (is_token x) _ _ _ _ (spans-push (start + length (encode_utf8_all x.spelling)) ps p)
 
+-- one more piece that is carried
+carried-push : (ps : List Piece) (p : Piece) → are_carried ps ≡ true → is_carried p ≡ true → are_carried (ps ++ p ∷ []) ≡ true
+carried-push [] p all one = and_from _ _ one refl
+carried-push (x ∷ ps) p all one = let parts = and_parts (is_carried x) _ all in and_from _ _ parts.0 (carried-push ps p parts.1 one)
+
 -- the bytes of the pieces and those of the rest are those of the text
-end_bytes : (text rest : List ℕ) (start : ℕ) (ps : List Piece) → Reads text ps rest → end_of start ps + length (encode_utf8_all rest) ≡ start + length (encode_utf8_all text)
+pub end_bytes : (text rest : List ℕ) (start : ℕ) (ps : List Piece) → Reads text ps rest → end_of start ps + length (encode_utf8_all rest) ≡ start + length (encode_utf8_all text)
 end_bytes text rest start [] a = ap (λ t. start + length (encode_utf8_all t)) (sym a)
 end_bytes text rest start (p ∷ ps) a =
     let more = end_bytes a.0 rest (start + length (encode_utf8_all p.spelling)) ps a.4 in
@@ -45,13 +50,14 @@ end_bytes text rest start (p ∷ ps) a =
 pub record Before (text rest : List ℕ) (tokens : List Token) (start : ℕ) : Type 0 where
   pub ps : List Piece
   pub reads : Reads text ps rest
+  pub carried : IsTrue (are_carried ps)
   pub pieces : filter is_token ps ≡ map piece_of (lexemes tokens)
   pub places : spans 0 ps ≡ map span_of tokens
   pub offset : start ≡ end_of 0 ps
 
 -- before the whole text there are none
 pub before_all : (text : List ℕ) → Before text text [] 0
-before_all text = record { ps = []; reads = refl; pieces = refl; places = refl; offset = refl }
+before_all text = record { ps = []; reads = refl; carried = refl; pieces = refl; places = refl; offset = refl }
 
 -- the offset and the bytes of the rest are the bytes of the text
 pub start_bytes : (text rest : List ℕ) (tokens : List Token) (start : ℕ) → Before text rest tokens start → start + length (encode_utf8_all rest) ≡ length (encode_utf8_all text)
@@ -66,19 +72,30 @@ pieces_of-push : (old : List Token) (t : Token) → pieces_of (old ++ t ∷ []) 
 pieces_of-push [] t = refl
 pieces_of-push (x ∷ old) t = ap (λ ps. piece_of (lexeme_of x) ∷ ps) (pieces_of-push old t)
 
+-- what is added is carried
+adds_carried : (kind : PieceKind) (s : List ℕ) (span : Span) (old new : List Token) → Adds kind s span old new → is_carried (record { kind = kind; spelling = s }) ≡ true
+adds_carried Blank s span old new a = refl
+adds_carried Comment s span old new a = refl
+adds_carried (TokenPiece kind) s span old new a = refl
+adds_carried (Uncarried kind) s span old new a = absurd a
+
 -- what a piece adds to the tokens is it, if it is a token
 adds_pieces : (kind : PieceKind) (s : List ℕ) (span : Span) (old new : List Token) → Adds kind s span old new → pieces_of old ++ filter is_token (record { kind = kind; spelling = s } ∷ []) ≡ pieces_of new
 adds_pieces Blank s span old new a = append-nil _ ∙ sym (ap pieces_of a)
+adds_pieces Comment s span old new a = append-nil _ ∙ sym (ap pieces_of a)
 adds_pieces (TokenPiece kind) s span old new a =
     let same : ◌≡◌ {A = Piece} (record { kind = TokenPiece kind; spelling = s }) (piece_of (lexeme_of a.0)) = λ i. record { kind = TokenPiece (sym a.2 i); spelling = sym a.4 i } in
     ap (λ p. pieces_of old ++ p ∷ []) same ∙ sym (pieces_of-push old a.0) ∙ sym (ap pieces_of a.1)
+adds_pieces (Uncarried kind) s span old new a = absurd a
 
 -- what a piece adds to the tokens lies where it lies
-adds_places : (kind : PieceKind) (s : List ℕ) (span : Span) (old new : List Token) (start : ℕ) → Adds kind s span old new → span.start ≡ start → span.end ≡ start + length (encode_utf8_all s) → map span_of old ++ spans start (record { kind = kind; spelling = s } ∷ []) ≡ map span_of new
-adds_places Blank s span old new start a x y = append-nil _ ∙ sym (ap (map span_of) a)
-adds_places (TokenPiece kind) s span old new start a x y =
-    let same : ◌≡◌ {A = Span} (record { start = start; end = start + length (encode_utf8_all s) }) span = λ i. record { start = sym x i; end = sym y i } in
-    ap (λ p. map span_of old ++ p ∷ []) (same ∙ sym a.3) ∙ sym (map-append span_of old (a.0 ∷ [])) ∙ sym (ap (map span_of) a.1)
+adds_places : (kind : PieceKind) (s : List ℕ) (span : Span) (old new : List Token) (start : ℕ) → Adds kind s span old new → span ≡ span_at start (record { kind = kind; spelling = s })
+    → map span_of old ++ spans start (record { kind = kind; spelling = s } ∷ []) ≡ map span_of new
+adds_places Blank s span old new start a at = append-nil _ ∙ sym (ap (map span_of) a)
+adds_places Comment s span old new start a at = append-nil _ ∙ sym (ap (map span_of) a)
+adds_places (TokenPiece kind) s span old new start a at =
+    ap (λ p. map span_of old ++ p ∷ []) (sym at ∙ sym a.3) ∙ sym (map-append span_of old (a.0 ∷ [])) ∙ sym (ap (map span_of) a.1)
+adds_places (Uncarried kind) s span old new start a at = absurd a
 
 -- a front of the rest ends within the text
 pub front_within : (text rest front : List ℕ) (tokens : List Token) (start n : ℕ) → Before text rest tokens start → front ≡ take n rest → start + length (encode_utf8_all front) ≤ length (encode_utf8_all text)
@@ -88,19 +105,40 @@ front_within text rest front tokens start n b e =
     let same = ap (λ t. length (encode_utf8_all t)) e in
     omega arith
 
--- the next piece, with what it adds
-pub before_push : (text rest : List ℕ) (old new : List Token) (start : ℕ) (kind : PieceKind) (n : ℕ) (span : Span) → Before text rest old start → IsFound rest (Some (kind, n)) → Adds kind (take n rest) span old new → span.start ≡ start → span.end ≡ start + length (encode_utf8_all (take n rest)) → Before text (drop n rest) new span.end
-before_push text rest old new start kind n span b found adds starts ends =
-    let p : Piece = found_piece rest kind n in
-    let split : Reads text b.ps (p.spelling ++ drop n rest) = subst (Reads text b.ps) (sym (take-append-drop n rest)) b.reads in
-    record {
-      ps = b.ps ++ p ∷ [];
-      reads = reads_push text (drop n rest) b.ps p split found.0;
-      pieces = filter-append is_token b.ps (p ∷ []) ∙ ap (λ xs. xs ++ filter is_token (p ∷ [])) b.pieces ∙ adds_pieces kind (take n rest) span old new adds;
-      places = spans-push 0 b.ps p ∙ ap (λ xs. xs ++ spans (end_of 0 b.ps) (p ∷ [])) b.places
-          ∙ adds_places kind (take n rest) span old new (end_of 0 b.ps) adds (starts ∙ b.offset) (ends ∙ ap (λ k. k + length (encode_utf8_all (take n rest))) b.offset);
-      offset = ends ∙ ap (λ k. k + length (encode_utf8_all (take n rest))) b.offset ∙ sym (end_of-push 0 b.ps p);
-    }
+-- a piece that was found at the offset, and its span
+module _ (text rest : List ℕ) (old : List Token) (start : ℕ) (kind : PieceKind) (n : ℕ) (span : Span) (b : Before text rest old start) (found : IsFound rest (Some (kind, n)))
+    (starts : span.start ≡ start) (ends : span.end ≡ start + length (encode_utf8_all (take n rest))) where
+  abbrev p : Piece
+  p = found_piece rest kind n
+
+  -- the reading goes on by it
+  reads : Reads text (b.ps ++ p ∷ []) (drop n rest)
+  reads = reads_push text (drop n rest) b.ps p (subst (Reads text b.ps) (sym (take-append-drop n rest)) b.reads) found.0
+
+  -- it lies where the pieces before it end
+  at : span ≡ span_at (end_of 0 b.ps) p
+  at = let first = starts ∙ b.offset in let last = ends ∙ ap (λ k. k + length (encode_utf8_all (take n rest))) b.offset in λ i. record { start = first i; end = last i }
+
+  -- the next piece, with what it adds
+  pub before_push : (new : List Token) → Adds kind (take n rest) span old new → Before text (drop n rest) new span.end
+  before_push new adds = record {
+    ps = b.ps ++ p ∷ [];
+    reads = reads;
+    carried = carried-push b.ps p b.carried (adds_carried kind (take n rest) span old new adds);
+    pieces = filter-append is_token b.ps (p ∷ []) ∙ ap (λ xs. xs ++ filter is_token (p ∷ [])) b.pieces ∙ adds_pieces kind (take n rest) span old new adds;
+    places = spans-push 0 b.ps p ∙ ap (λ xs. xs ++ spans (end_of 0 b.ps) (p ∷ [])) b.places ∙ adds_places kind (take n rest) span old new (end_of 0 b.ps) adds at;
+    offset = ends ∙ ap (λ k. k + length (encode_utf8_all (take n rest))) b.offset ∙ sym (end_of-push 0 b.ps p);
+  }
+
+  -- a literal that is not carried is why, or want of memory
+  uncarried : (k : PieceKind) (e : EduceError) → kind ≡ k → IsCauseOfPiece (take n rest) span k e → IsLexicalCause text e
+  uncarried k e is (IsCauseOfPiece.not_carried literal) =
+      subst (λ s. IsLexicalCause text (not_carried_at s (take n rest))) (sym at) (IsLexicalCause.not_carried b.ps p literal (drop n rest) reads b.carried is)
+  uncarried k e is (IsCauseOfPiece.memory own) = IsLexicalCause.memory
+
+  -- so there is a cause where it adds nothing
+  pub piece_cause : (e : EduceError) → IsCauseOfPiece (take n rest) span kind e → IsLexicalCause text e
+  piece_cause e cause = uncarried kind e refl cause
 
 -- a list of length 0 is empty
 nil_from_length : (xs : List ℕ) → length xs ≡ 0 → xs ≡ []
@@ -109,8 +147,30 @@ nil_from_length (x ∷ xs) h = absurd (omega (arith, h))
 
 -- at the end the tokens are those of the text
 pub lexes_all : (text rest : List ℕ) (tokens : List Token) (start : ℕ) → Before text rest tokens start → length rest ≡ 0 → Lexes text tokens
-lexes_all text rest tokens start b none = (b.ps, subst (Reads text b.ps) (nil_from_length rest none) b.reads, b.pieces, b.places)
+lexes_all text rest tokens start b none = record {
+  pieces = b.ps;
+  reads = subst (Reads text b.ps) (nil_from_length rest none) b.reads;
+  carried = b.carried;
+  tokens_are = b.pieces;
+  spans_are = b.places;
+}
 
--- where no piece is found, the text has no tokens
-pub lexes_none : (text rest : List ℕ) (old tokens : List Token) (start : ℕ) → Before text rest old start → 0 < length rest → piece_at rest ≡ None → Lexes text tokens → ⊥
-lexes_none text rest old tokens start b more none lexes = no_reading text rest b.ps lexes.0 b.reads more none lexes.1
+-- the token behind a first one at the index of the last has the last span
+last_at : (t last : Token) (ts : List Token) (other : Span) → last ≡ get_or (t ∷ ts) (length ts) last → last.span ≡ last_of (map span_of (t ∷ ts)) other
+last_at t last [] other is = ap span_of is
+last_at t last (u ∷ ts) other is = last_at u last ts t.span is
+
+-- the token at the last index has the last span
+pub last_token : (ts : List Token) (last : Token) (other : Span) → 0 < length ts → last ≡ get_or ts (length ts - 1) last → last.span ≡ last_of (map span_of ts) other
+last_token [] last other some is = absurd (omega arith)
+last_token (t ∷ ts) last other some is =
+    let index : length (t ∷ ts) - 1 ≡ length ts = omega arith in
+    last_at t last ts other (is ∙ ap (λ k. get_or (t ∷ ts) k last) index)
+
+-- where no piece is found, and the text doesn't end, it is refused at the last token
+pub stuck_cause : (text rest : List ℕ) (old : List Token) (start bytes : ℕ) (e : EduceError) → Before text rest old start → 0 < length rest → piece_at rest ≡ None → length (encode_utf8_all text) ≡ bytes
+    → e ≡ syntax_at (last_of (map span_of old) (empty_at bytes)) → IsLexicalCause text e
+stuck_cause text rest old start bytes e b more none long is =
+    let some : rest ≢ [] = λ empty. omega (arith, more, ap length empty) in
+    let cause = IsLexicalCause.no_piece b.ps rest b.reads b.carried some (fits_none rest none) in
+    subst (IsLexicalCause text) (sym (is ∙ (λ i. syntax_at (last_of (sym b.places i) (empty_at (sym long i)))))) cause

@@ -1,10 +1,12 @@
 pub mod Bytes
-pub mod Classes
-pub mod Front
-pub mod Readings
 pub mod Tokens
 pub mod Lexed
 pub mod Unique
+pub mod Opened
+pub mod Uncaused
+pub mod Alone
+pub mod Bracketed
+pub mod Places
 pub mod Few
 pub mod Joined
 pub mod TextLexes
@@ -15,5 +17,6 @@ pub mod Appending
 pub mod Ascii
 pub mod Writing
 pub mod Words
-pub mod Digits
+pub mod StringValues
 pub mod Limits
+pub mod Printable

@@ -2,15 +2,16 @@
 use Rattle.std.proofs.Common.{◌≡◌, ℕ, zero, suc, ◌<◌, ◌≤◌, Bool, true, false, not, ◌&&◌, ◌||◌, IsTrue, List, [], ◌∷◌, length, get_or, drop, refl, sym, ap, ◌∙◌, subst, ⊎_elim, arith, chars}
 use Rattle.std.specs.Prelude.{◌==◌, slice_range}
 use Rattle.std.specs.List.{list_all}
-use Rattle.std.proofs.lemmas.Bool.{or_cases, and_parts, and_from, false≢true, cond-true, cond-false}
+use Rattle.std.proofs.lemmas.Bool.{or_cases, or_left, and_parts, and_from, false≢true, cond-true, cond-false}
 use Rattle.std.proofs.lemmas.Bool.Decides.{nat_tests, Decides-below_and}
 use Rattle.std.proofs.lemmas.Str.{chars-IsAscii}
 use Rattle.std.proofs.lemmas.Str.Ascii.{IsAscii-from_all}
 use Rattle.std.proofs.lemmas.List.Sums.{AllPass-from_list_all}
 use Rattle.unicode_ident.specs.Ident.{is_xid_continue}
 use Rattle.unicode_ident.proofs.IdentLemmas.{is_xid_start-ascii, is_xid_continue-ascii}
-use Rattle.educe_tokens.specs.declared.token.TokenKind.TheVariants.{Ident, Punct}
-use Rattle.educe_tokens.specs.Pieces.{is_only, is_punct, is_word_start, is_word, spells}
+use Rattle.educe_pieces.specs.declared.kind.TokenKind.TheVariants.{Ident, Punct}
+use Rattle.educe_pieces.specs.Chars.{is_only, is_punct, is_word_start}
+use Rattle.educe_pieces.specs.Pieces.{spells}
 use Rattle.educe_tokens.specs.Quote.{is_name_start, is_name_part, is_ascii_name, is_bracket, is_joint_pair, is_mark, mark_kind, is_template_word, word_lexemes}
 
 -- each number below n passes
@@ -64,14 +65,18 @@ names_continue (c ∷ cs) h = let parts = and_parts _ _ h in and_from _ _ (name_
 name_begins : (c : ℕ) → is_name_start c ≡ true → is_word_start c ≡ true
 name_begins c h = ap (λ b. b || (c == 95)) (is_xid_start-ascii c (name_part_small c (name_start_part c h))) ∙ h
 
--- a name in ASCII is a word, and its bytes are its characters
-pub ascii_name_is : (name : List ℕ) → is_ascii_name name ≡ true → IsTrue (is_word (chars name)) × (chars name ≡ name)
+-- what begins as a name and goes on so is an identifier
+name_spells : (c : ℕ) (cs : List ℕ) → is_name_start c ≡ true → list_all is_name_part cs ≡ true → spells Ident (c ∷ cs) ≡ true
+name_spells c cs start parts = or_left _ _ (and_from _ _ (name_begins c start) (names_continue cs parts))
+
+-- a name in ASCII is an identifier, and its bytes are its characters
+pub ascii_name_is : (name : List ℕ) → is_ascii_name name ≡ true → IsTrue (spells Ident (chars name)) × (chars name ≡ name)
 ascii_name_is [] h = absurd (false≢true h)
 ascii_name_is (c ∷ cs) h =
     let parts = and_parts _ _ h in
     let e = name_chars (c ∷ cs) (and_from _ _ (name_start_part c parts.0) parts.1) in
-    let Spells : List ℕ → Type 0 = λ x. IsTrue (is_word x) in
-    (subst Spells (sym e) (and_from _ _ (name_begins c parts.0) (names_continue cs parts.1)), e)
+    let Spells : List ℕ → Type 0 = λ x. IsTrue (spells Ident x) in
+    (subst Spells (sym e) (name_spells c cs parts.0 parts.1), e)
 
 mark_no_name : (c : ℕ) (cs : List ℕ) → is_mark (c ∷ cs) ≡ true → is_name_start c ≡ true → ⊥
 mark_no_name c [] h start = false≢true (sym (ap not start) ∙ (mark_alone c h).0)
@@ -86,7 +91,7 @@ marked_part c cs h start = ⊎_elim (λ e. absurd (false≢true (sym start ∙ (
 
 -- a word that begins as a name is one identifier
 pub record IsNamed (word : List ℕ) : Type 0 where
-  pub spelled : IsTrue (is_word (chars word))
+  pub spelled : IsTrue (spells Ident (chars word))
   pub same : word_lexemes word ≡ record { kind = Ident; spelling = chars word } ∷ []
 
 named_at : (word : List ℕ) → IsTrue (is_template_word word) → 1 ≤ length word → is_name_start (get_or word 0 0) ≡ true → IsNamed word
@@ -94,9 +99,9 @@ named_at [] h long start = absurd (omega arith)
 named_at (c ∷ cs) h long start =
     let parts = named_parts c cs h start in
     let e = name_chars (c ∷ cs) (and_from _ _ (name_start_part c start) parts) in
-    let Spells : List ℕ → Type 0 = λ x. IsTrue (is_word x) in
+    let Spells : List ℕ → Type 0 = λ x. IsTrue (spells Ident x) in
     record {
-      spelled = subst Spells (sym e) (and_from _ _ (name_begins c start) (names_continue cs parts));
+      spelled = subst Spells (sym e) (name_spells c cs start parts);
       same = cond-true (is_name_start c) _ _ start ∙ ap (λ x. record { kind = Ident; spelling = x } ∷ []) (sym e);
     }
 

@@ -1,64 +1,27 @@
 -- The text of well-formed tokens lexes as them.
-use Rattle.std.proofs.Common.{◌≡◌, ℕ, Bool, true, false, ◌||◌, ◌&&◌, cond, List, [], ◌∷◌, ◌++◌, map, filter, refl, sym, ap, subst, arith}
+use Rattle.std.proofs.Common.{◌≡◌, ℕ, Bool, true, false, ◌&&◌, cond, List, [], ◌∷◌, ◌++◌, map, filter, refl, sym, ap, subst}
 use Rattle.std.specs.Prelude.{◌==◌}
 use Rattle.std.specs.Bool.{beq}
 use Rattle.std.specs.List.{list_all}
 use Rattle.std.proofs.lemmas.Bool.{and_parts, and_from, and_right, not-true, not_from_false, false≢true}
-use Rattle.unicode_ident.specs.Ident.{is_xid_continue}
-use Rattle.unicode_ident.proofs.IdentLemmas.{is_xid_continue-ascii}
+use Rattle.educe_pieces.specs.declared.kind.TokenKind.{TokenKind}
+use Rattle.educe_pieces.specs.declared.kind.TokenKind.TheVariants.{Ident, Lifetime, Literal, Punct, Start, Stop, Doc}
+use Rattle.educe_pieces.specs.declared.kind.PieceKind.TheVariants.{Blank, Token as TokenPiece}
+use Rattle.educe_pieces.specs.Chars.{begins, is_punct, is_slash_or_star}
+use Rattle.educe_pieces.specs.Pieces.{is_joint, spells, may_precede}
+use Rattle.educe_pieces.specs.Reading.{Piece, IsPiece, Reads}
+use Rattle.educe_pieces.proofs.Classes.{only_is}
+use Rattle.educe_pieces.specs.Joining.{stands_apart}
+use Rattle.educe_pieces.proofs.Following.{before_space, before_end}
+use Rattle.educe_pieces.proofs.Readings.{piece_longest}
 use Rattle.educe_tokens.specs.declared.token.Token.{Token}
-use Rattle.educe_tokens.specs.declared.token.LiteralKind.TheVariants.{Int, Str, ByteStr, Char, Byte}
-use Rattle.educe_tokens.specs.declared.token.TokenKind.{TokenKind}
-use Rattle.educe_tokens.specs.declared.token.TokenKind.TheVariants.{Ident, Lifetime, Literal, Punct, Start, Stop, Doc}
-use Rattle.educe_tokens.specs.declared.piece.PieceKind.TheVariants.{Blank, Token as TokenPiece}
-use Rattle.educe_tokens.specs.Pieces.{begins, is_punct, is_slash_or_star, touches_word, is_joint, spells, may_precede}
-use Rattle.educe_tokens.specs.Lexes.{Lexeme, lexemes, Piece, IsPiece, Reads, LexesAside, is_token, piece_of}
 use Rattle.educe_tokens.specs.Brackets.{kinds}
+use Rattle.educe_tokens.specs.Lexes.{Lexeme, lexemes, LexesAside, is_token, are_carried, piece_of}
 use Rattle.educe_tokens.specs.Text.{joins_next, is_punct_behind, may_join, joins_well, text_behind, text_of}
-use Rattle.educe_tokens.proofs.Classes.{only_is}
-use Rattle.educe_tokens.proofs.Readings.{piece_longest}
 use Rattle.educe_tokens.proofs.Tokens.{is_lexeme, tokens_spelled}
 
--- no word goes on with a space
-space_no_continue : is_xid_continue 32 ≡ false
-space_no_continue = is_xid_continue-ascii 32 (omega arith)
-
--- a word may stand before a space
-space_is_apart : touches_word 32 ≡ false
-space_is_apart = ap (λ b. b || ((32 == 34) || (32 == 39) || (32 == 35))) space_no_continue
-
--- what is spelled and not joint may stand before a space
-before_space : (kind : TokenKind) (s r : List ℕ) → spells kind s ≡ true → joins_next kind ≡ false → may_precede (TokenPiece kind) (32 ∷ r) ≡ true
-before_space Ident s r e h = not_from_false _ space_is_apart
-before_space Lifetime s r e h = absurd (false≢true e)
-before_space (Literal Int) s r e h = and_from _ _ (not_from_false _ space_no_continue) refl
-before_space (Literal Str) s r e h = absurd (false≢true e)
-before_space (Literal ByteStr) s r e h = absurd (false≢true e)
-before_space (Literal Char) s r e h = absurd (false≢true e)
-before_space (Literal Byte) s r e h = absurd (false≢true e)
-before_space (Punct c true) s r e h = absurd (false≢true (sym h))
-before_space (Punct c false) s r e h = not_from_false _ (and_right (c == 47) false refl)
-before_space (Start b) s r e h = refl
-before_space (Stop b) s r e h = refl
-before_space Doc s r e h = absurd (false≢true e)
-
--- what is spelled and not joint may stand at the end
-before_end : (kind : TokenKind) (s : List ℕ) → spells kind s ≡ true → joins_next kind ≡ false → may_precede (TokenPiece kind) [] ≡ true
-before_end Ident s e h = refl
-before_end Lifetime s e h = absurd (false≢true e)
-before_end (Literal Int) s e h = refl
-before_end (Literal Str) s e h = absurd (false≢true e)
-before_end (Literal ByteStr) s e h = absurd (false≢true e)
-before_end (Literal Char) s e h = absurd (false≢true e)
-before_end (Literal Byte) s e h = absurd (false≢true e)
-before_end (Punct c true) s e h = absurd (false≢true (sym h))
-before_end (Punct c false) s e h = not_from_false _ (and_right (c == 47) false refl)
-before_end (Start b) s e h = refl
-before_end (Stop b) s e h = refl
-before_end Doc s e h = absurd (false≢true e)
-
--- what is spelled and not joint may stand before the text of others
-before_text : (kind : TokenKind) (s : List ℕ) (xs : List Lexeme) → spells kind s ≡ true → joins_next kind ≡ false → may_precede (TokenPiece kind) (text_behind false xs) ≡ true
+-- what is spelled and stands apart may stand before the text of others
+before_text : (kind : TokenKind) (s : List ℕ) (xs : List Lexeme) → spells kind s ≡ true → stands_apart kind ≡ true → may_precede (TokenPiece kind) s (text_behind false xs) ≡ true
 before_text kind s [] e h = before_end kind s e h
 before_text kind s (x ∷ xs) e h = before_space kind s _ e h
 
@@ -102,17 +65,17 @@ before_punct c (x ∷ xs) e h j =
     joint_on c x.kind x.spelling xs spelled.0 spelled.1 h (and_parts (may_join x.kind (kinds xs)) _ j).0
 
 -- each token may stand before the text of those behind it
-precedes : (kind : TokenKind) (s : List ℕ) (xs : List Lexeme) → spells kind s ≡ true → list_all is_lexeme xs ≡ true → joins_well (kind ∷ kinds xs) ≡ true → may_precede (TokenPiece kind) (text_behind (joins_next kind) xs) ≡ true
+precedes : (kind : TokenKind) (s : List ℕ) (xs : List Lexeme) → spells kind s ≡ true → list_all is_lexeme xs ≡ true → joins_well (kind ∷ kinds xs) ≡ true → may_precede (TokenPiece kind) s (text_behind (joins_next kind) xs) ≡ true
 precedes Ident s xs e es h = before_text Ident s xs e refl
-precedes Lifetime s xs e es h = absurd (false≢true e)
+precedes Lifetime s xs e es h = before_text Lifetime s xs e refl
 precedes (Literal l) s xs e es h = before_text (Literal l) s xs e refl
 precedes (Punct c false) s xs e es h = before_text (Punct c false) s xs e refl
 precedes (Punct c true) s xs e es h =
     let p = and_parts (is_punct_behind c (kinds xs)) _ h in
     and_from _ _ (subst (λ b. beq true b ≡ true) (sym (before_punct c xs es p.0 p.1)) refl) (not_from_false _ (no_comment_behind c true xs es p.0))
-precedes (Start b) s xs e es h = refl
-precedes (Stop b) s xs e es h = refl
-precedes Doc s xs e es h = absurd (false≢true e)
+precedes (Start b) s xs e es h = before_text (Start b) s xs e refl
+precedes (Stop b) s xs e es h = before_text (Stop b) s xs e refl
+precedes Doc s xs e es h = absurd (false≢true h)
 
 -- the space as a piece
 abbrev space : Piece
@@ -147,9 +110,15 @@ tokens_behind joint [] = refl
 tokens_behind true (x ∷ xs) = ap (λ ps. piece_of x ∷ ps) (tokens_behind (joins_next x.kind) xs)
 tokens_behind false (x ∷ xs) = ap (λ ps. piece_of x ∷ ps) (tokens_behind (joins_next x.kind) xs)
 
+-- and all are carried
+carried_behind : (joint : Bool) (xs : List Lexeme) → are_carried (pieces_behind joint xs) ≡ true
+carried_behind joint [] = refl
+carried_behind true (x ∷ xs) = carried_behind (joins_next x.kind) xs
+carried_behind false (x ∷ xs) = carried_behind (joins_next x.kind) xs
+
 -- the text of lexemes that join well lexes as them
 pub text_of_lexes : (xs : List Lexeme) → list_all is_lexeme xs ≡ true → joins_well (kinds xs) ≡ true → LexesAside (text_of xs) xs
-text_of_lexes xs e h = (pieces_behind true xs, reads_behind true xs e h, tokens_behind true xs)
+text_of_lexes xs e h = record { pieces = pieces_behind true xs; reads = reads_behind true xs e h; carried = carried_behind true xs; tokens_are = tokens_behind true xs }
 
 -- the same of tokens, each of which is spelled as its kind
 pub text_of_tokens_lexes : (ts : List Token) → joins_well (kinds (lexemes ts)) ≡ true → LexesAside (text_of (lexemes ts)) (lexemes ts)

@@ -6,12 +6,13 @@ use Rattle.std.specs.List.{list_all}
 use Rattle.std.proofs.lemmas.Bool.{and_from}
 use Rattle.educe_tokens.specs.declared.span.Span.{Span}
 use Rattle.educe_tokens.specs.declared.token.Token.{Token}
-use Rattle.educe_tokens.specs.declared.token.TokenKind.{TokenKind}
-use Rattle.educe_tokens.specs.declared.token.TokenKind.TheVariants.{Doc}
-use Rattle.educe_tokens.specs.declared.piece.PieceKind.{PieceKind}
-use Rattle.educe_tokens.specs.declared.piece.PieceKind.TheVariants.{Blank, Token as TokenPiece}
-use Rattle.educe_tokens.specs.Pieces.{spells}
-use Rattle.educe_tokens.specs.Lexes.{Lexeme, lexeme_of, lexemes, Piece, piece_of}
+use Rattle.educe_pieces.specs.declared.kind.TokenKind.{TokenKind}
+use Rattle.educe_pieces.specs.declared.kind.TokenKind.TheVariants.{Doc}
+use Rattle.educe_pieces.specs.declared.kind.PieceKind.{PieceKind}
+use Rattle.educe_pieces.specs.declared.kind.PieceKind.TheVariants.{Blank, Comment, Token as TokenPiece, Uncarried}
+use Rattle.educe_pieces.specs.Pieces.{spells}
+use Rattle.educe_pieces.specs.Reading.{Piece}
+use Rattle.educe_tokens.specs.Lexes.{Lexeme, lexeme_of, lexemes, piece_of}
 
 -- the spelling is one token of the kind
 abbrev pub is_lexeme : Lexeme → Bool
@@ -36,11 +37,11 @@ same_token s t e p = λ i. record {
 }
 
 -- equal lists have equal parts
-cons_parts : {A : Type 0} (x y : A) (xs ys : List A) → x ∷ xs ≡ y ∷ ys → (x ≡ y) × (xs ≡ ys)
+pub cons_parts : {A : Type 0} (x y : A) (xs ys : List A) → x ∷ xs ≡ y ∷ ys → (x ≡ y) × (xs ≡ ys)
 cons_parts x y xs ys h = (cc, cc)
 
 -- the empty list has no item
-nil_not_cons : {A : Type 0} (y : A) (ys : List A) → ◌≡◌ {A = List A} [] (y ∷ ys) → ⊥
+pub nil_not_cons : {A : Type 0} (y : A) (ys : List A) → ◌≡◌ {A = List A} [] (y ∷ ys) → ⊥
 nil_not_cons y ys h = cc
 
 -- equal lexemes with equal spans are equal tokens
@@ -53,10 +54,12 @@ same_tokens (u ∷ us) (t ∷ ts) e p =
     let places = cons_parts _ _ _ _ p in
     λ i. same_token u t same.0 places.0 i ∷ same_tokens us ts same.1 places.1 i
 
--- the kind of a token piece
+-- the kind of a token piece; of another piece it says nothing
 abbrev pub kind_of : PieceKind → TokenKind
 kind_of Blank = Doc
+kind_of Comment = Doc
 kind_of (TokenPiece kind) = kind
+kind_of (Uncarried kind) = Doc
 
 -- the lexeme of a token piece
 abbrev pub lexeme_of_piece : Piece → Lexeme

@@ -1,33 +1,21 @@
 -- Lists of tokens that may stand side by side.
-use Rattle.std.proofs.Common.{◌≡◌, ℕ, Bool, true, false, cond, IsTrue, Option, Some, None, List, [], ◌∷◌, ◌++◌, refl, sym, ap, ◌∙◌, subst}
+use Rattle.std.proofs.Common.{◌≡◌, ℕ, Bool, true, false, cond, IsTrue, Option, Some, None, List, [], ◌∷◌, ◌++◌, refl, sym, ap, ◌∙◌}
 use Rattle.std.specs.List.{flat_map}
 use Rattle.std.proofs.lemmas.Bool.{and_parts, and_from, false≢true, cond_both}
 use Rattle.std.proofs.lemmas.List.{map-append}
-use Rattle.educe_tokens.specs.declared.token.Bracket.{Bracket}
-use Rattle.educe_tokens.specs.declared.token.Bracket.TheVariants.{Round, Square, Curly}
-use Rattle.educe_tokens.specs.declared.token.LiteralKind.TheVariants.{Int}
-use Rattle.educe_tokens.specs.declared.token.TokenKind.{TokenKind}
-use Rattle.educe_tokens.specs.declared.token.TokenKind.TheVariants.{Ident, Lifetime, Literal, Punct, Start, Stop, Doc}
-use Rattle.educe_tokens.specs.Pieces.{spells}
+use Rattle.educe_pieces.specs.declared.kind.Bracket.{Bracket}
+use Rattle.educe_pieces.specs.declared.kind.Bracket.TheVariants.{Round, Square, Curly}
+use Rattle.educe_pieces.specs.declared.kind.LiteralKind.TheVariants.{Int}
+use Rattle.educe_pieces.specs.declared.kind.TokenKind.{TokenKind}
+use Rattle.educe_pieces.specs.declared.kind.TokenKind.TheVariants.{Ident, Lifetime, Literal, Punct, Start, Stop, Doc}
+use Rattle.educe_pieces.specs.Pieces.{spells}
 use Rattle.educe_tokens.specs.Lexes.{Lexeme}
 use Rattle.educe_tokens.specs.Brackets.{same_bracket, open_after, closes, kinds}
-use Rattle.educe_tokens.specs.Text.{joins_next, is_punct_behind, may_join, joins_well, ends_apart, is_written}
+use Rattle.educe_tokens.specs.Text.{is_punct_behind, may_join, joins_well, ends_apart, is_written}
 use Rattle.educe_tokens.specs.Quote.{word_lexeme}
+use Rattle.educe_tokens.proofs.Opened.{closes_after, closes-cons, none_is_not_some}
 
 -- ---- brackets
-
--- what is open says whether the rest closes it
-abbrev closes_after : Option (List Bracket) → List TokenKind → Bool
-closes_after opened more = elim opened [ None ↦ false | Some inner ↦ closes inner more ]
-
--- brackets that close behind one more token
-closes-cons : (outer : List Bracket) (kind : TokenKind) (more : List TokenKind) → closes outer (kind ∷ more) ≡ closes_after (open_after outer kind) more
-closes-cons [] kind more = refl
-closes-cons (o ∷ outer) kind more = refl
-
--- what is not there is nothing that is there
-none_is_not_some : (inner : List Bracket) → ◌≡◌ {A = Option (List Bracket)} None (Some inner) → ⊥
-none_is_not_some inner h = cc
 
 -- what is open inside, with what is open outside
 open_outside : (inner outer after : List Bracket) → ◌≡◌ {A = Option (List Bracket)} (Some inner) (Some after) → ◌≡◌ {A = Option (List Bracket)} (Some (inner ++ outer)) (Some (after ++ outer))

@@ -1,14 +1,14 @@
 -- The value of an integer literal.
 use Rattle.std.specs.Prelude.{ℕ, Option, Some, None, List}
-use Rattle.std.specs.Str.Parse.{digits_value}
-use Rattle.educe_tokens.specs.declared.token.LiteralKind.TheVariants.{Int, Str, ByteStr, Char, Byte}
-use Rattle.educe_tokens.specs.declared.token.TokenKind.{TokenKind}
-use Rattle.educe_tokens.specs.declared.token.TokenKind.TheVariants.{Ident, Lifetime, Literal, Punct, Start, Stop, Doc}
+use Rattle.educe_pieces.specs.declared.kind.LiteralKind.TheVariants.{Int, Str, ByteStr, Char, Byte}
+use Rattle.educe_pieces.specs.declared.kind.TokenKind.{TokenKind}
+use Rattle.educe_pieces.specs.declared.kind.TokenKind.TheVariants.{Ident, Lifetime, Literal, Punct, Start, Stop, Doc}
+use Rattle.educe_pieces.specs.Integers.{int_value_of}
 use Rattle.educe_tokens.specs.Lexes.{Lexeme}
 
 -- the number that the digits write, where the kind is `Int`
 abbrev pub value_of : TokenKind → List ℕ → Option ℕ
-value_of (Literal Int) cs = Some (digits_value 10 cs)
+value_of (Literal Int) cs = Some (int_value_of cs)
 value_of (Literal Str) cs = None
 value_of (Literal ByteStr) cs = None
 value_of (Literal Char) cs = None

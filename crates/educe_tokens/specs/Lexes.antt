@@ -1,11 +1,11 @@
 -- The reading of a text as tokens (Rust Reference, Lexical structure).
-use Rattle.std.specs.Prelude.{◌≡◌, ℕ, ◌+◌, ◌≤◌, Bool, true, false, cond, ◌&&◌, IsTrue, List, [], ◌∷◌, ◌++◌, length, map, filter, encode_utf8_all}
+use Rattle.std.specs.Prelude.{◌≡◌, ℕ, ◌+◌, Bool, true, false, cond, IsTrue, List, [], ◌∷◌, length, map, encode_utf8_all}
+use Rattle.std.specs.List.{filter, list_all}
+use Rattle.educe_pieces.specs.declared.kind.TokenKind.{TokenKind}
+use Rattle.educe_pieces.specs.declared.kind.PieceKind.TheVariants.{Blank, Comment, Token as TokenPiece, Uncarried}
+use Rattle.educe_pieces.specs.Reading.{Piece, Reads}
 use Rattle.educe_tokens.specs.declared.span.Span.{Span}
 use Rattle.educe_tokens.specs.declared.token.Token.{Token}
-use Rattle.educe_tokens.specs.declared.token.TokenKind.{TokenKind}
-use Rattle.educe_tokens.specs.declared.piece.PieceKind.{PieceKind}
-use Rattle.educe_tokens.specs.declared.piece.PieceKind.TheVariants.{Blank, Token as TokenPiece}
-use Rattle.educe_tokens.specs.Pieces.{is_piece, may_precede}
 
 -- a token without its span: the kind, jointness included, and the spelling
 pub record Lexeme : Type 0 where
@@ -19,40 +19,47 @@ lexeme_of t = record { kind = t.kind; spelling = t.spelling }
 abbrev pub lexemes : List Token → List Lexeme
 lexemes tokens = map lexeme_of tokens
 
-pub record Piece : Type 0 where
-  pub kind : PieceKind
-  pub spelling : List ℕ
-
--- the piece may stand before this rest
-abbrev pub IsPiece : Piece → List ℕ → Type 0
-IsPiece p rest = IsTrue (is_piece p.kind p.spelling && may_precede p.kind rest)
-
--- no longer front of the text is a piece
-abbrev pub IsLongest : Piece → List ℕ → Type 0
-IsLongest p text = (q : Piece) (rest : List ℕ) → text ≡ q.spelling ++ rest → IsPiece q rest → length q.spelling ≤ length p.spelling
-
--- the text is these pieces, at each place the longest that fits, and then the rest
-abbrev pub Reads : List ℕ → List Piece → List ℕ → Type 0
-Reads text [] rest = text ≡ rest
-Reads text (p ∷ ps) rest = (more : List ℕ) × (text ≡ p.spelling ++ more) × IsPiece p more × IsLongest p text × Reads more ps rest
-
 abbrev pub is_token : Piece → Bool
-is_token p = elim p.kind [ Blank ↦ false | TokenPiece kind ↦ true ]
+is_token p = elim p.kind [ Blank ↦ false | Comment ↦ false | TokenPiece kind ↦ true | Uncarried kind ↦ false ]
+
+-- the piece is no literal that is read and not carried
+abbrev pub is_carried : Piece → Bool
+is_carried p = elim p.kind [ Blank ↦ true | Comment ↦ true | TokenPiece kind ↦ true | Uncarried kind ↦ false ]
+
+abbrev pub are_carried : List Piece → Bool
+are_carried ps = list_all is_carried ps
 
 abbrev pub piece_of : Lexeme → Piece
 piece_of lexeme = record { kind = TokenPiece lexeme.kind; spelling = lexeme.spelling }
 
--- where the tokens among the pieces lie, of which the first begins at an offset in bytes
+-- where pieces end of which the first begins at an offset, both in bytes
+abbrev pub end_of : ℕ → List Piece → ℕ
+end_of start [] = start
+end_of start (p ∷ ps) = end_of (start + length (encode_utf8_all p.spelling)) ps
+
+-- where a piece lies that begins at an offset
+abbrev pub span_at : ℕ → Piece → Span
+span_at start p = record { start = start; end = start + length (encode_utf8_all p.spelling) }
+
+-- where the tokens among the pieces lie
 abbrev pub spans : ℕ → List Piece → List Span
 spans start [] = []
 spans start (p ∷ ps) =
-    let end = start + length (encode_utf8_all p.spelling) in
-    cond (is_token p) (record { start = start; end = end } ∷ spans end ps) (spans end ps)
+    let more = spans (start + length (encode_utf8_all p.spelling)) ps in
+    cond (is_token p) (span_at start p ∷ more) more
 
--- the tokens are the token pieces of the text, their spans aside
-abbrev pub LexesAside : List ℕ → List Lexeme → Type 0
-LexesAside text found = (ps : List Piece) × Reads text ps [] × (filter is_token ps ≡ map piece_of found)
+-- the text is pieces that are all carried, and the tokens are those among them, their spans aside
+pub record LexesAside (text : List ℕ) (found : List Lexeme) : Type 0 where
+  pub pieces : List Piece
+  pub reads : Reads text pieces []
+  pub carried : IsTrue (are_carried pieces)
+  pub tokens_are : filter is_token pieces ≡ map piece_of found
 
--- the tokens are the token pieces of the text, each with the offsets of its piece as its span
-abbrev pub Lexes : List ℕ → List Token → Type 0
-Lexes text tokens = (ps : List Piece) × Reads text ps [] × (filter is_token ps ≡ map piece_of (lexemes tokens)) × (spans 0 ps ≡ map (λ t. t.span) tokens)
+-- the text is pieces that are all carried, and the tokens are those among them, each with the offsets of its piece as its
+-- span
+pub record Lexes (text : List ℕ) (tokens : List Token) : Type 0 where
+  pub pieces : List Piece
+  pub reads : Reads text pieces []
+  pub carried : IsTrue (are_carried pieces)
+  pub tokens_are : filter is_token pieces ≡ map piece_of (lexemes tokens)
+  pub spans_are : spans 0 pieces ≡ map (λ t. t.span) tokens

@@ -1,37 +1,47 @@
 -- What the steps of lexing do, and why they stop.
-use Rattle.std.specs.Prelude.{◌≡◌, ℕ, ◌<◌, None, List, [], ◌∷◌, ◌++◌, length}
+use Rattle.std.specs.Prelude.{◌≡◌, ℕ, None, List, ◌∷◌, [], ◌++◌, length}
+use Rattle.educe_pieces.specs.declared.kind.Bracket.{Bracket}
+use Rattle.educe_pieces.specs.declared.kind.TokenKind.{TokenKind}
+use Rattle.educe_pieces.specs.declared.kind.TokenKind.TheVariants.{Start}
+use Rattle.educe_pieces.specs.declared.kind.UncarriedKind.{UncarriedKind}
+use Rattle.educe_pieces.specs.declared.kind.PieceKind.{PieceKind}
+use Rattle.educe_pieces.specs.declared.kind.PieceKind.TheVariants.{Blank, Comment, Token as TokenPiece, Uncarried}
 use Rattle.educe_tokens.specs.declared.brackets.BracketError.{BracketError}
-use Rattle.educe_tokens.specs.declared.brackets.BracketError.TheVariants.{Unbalanced, TooDeep, Alloc}
+use Rattle.educe_tokens.specs.declared.brackets.BracketError.TheVariants as bracket
+use Rattle.educe_tokens.specs.declared.error.EduceError.{EduceError}
+use Rattle.educe_tokens.specs.declared.error.Kind.TheVariants.{Alloc}
 use Rattle.educe_tokens.specs.declared.span.Span.{Span}
-use Rattle.educe_tokens.specs.declared.token.Bracket.{Bracket}
 use Rattle.educe_tokens.specs.declared.token.Token.{Token}
-use Rattle.educe_tokens.specs.declared.token.TokenKind.{TokenKind}
-use Rattle.educe_tokens.specs.declared.piece.PieceKind.{PieceKind}
-use Rattle.educe_tokens.specs.declared.piece.PieceKind.TheVariants.{Blank, Token as TokenPiece}
-use Rattle.educe_tokens.specs.Lexes.{Lexeme, lexemes, Lexes}
-use Rattle.educe_tokens.specs.Brackets.{open_after, depth_after, IsBalanced, IsShallow}
-use Rattle.educe_tokens.specs.Built.{HasBuiltTokens}
+use Rattle.educe_tokens.specs.Lexes.{lexemes, Lexes}
+use Rattle.educe_tokens.specs.Brackets.{open_after, IsBalanced, IsShallow}
+use Rattle.educe_tokens.specs.Refusals.{placeless, syntax_at, too_deep_at, not_carried_at}
 
--- what a piece adds to the tokens
+-- what a piece adds to the tokens; none is added that is not carried
 abbrev pub Adds : PieceKind → List ℕ → Span → List Token → List Token → Type 0
 Adds Blank spelling span old new = new ≡ old
+Adds Comment spelling span old new = new ≡ old
 Adds (TokenPiece kind) spelling span old new = (t : Token) × (new ≡ old ++ t ∷ []) × (t.kind ≡ kind) × (t.span ≡ span) × (t.spelling ≡ spelling)
+Adds (Uncarried kind) spelling span old new = ⊥
 
--- the tokens are those of the text, they are built, and their brackets close in order, not too deep
-pub record IsBuiltReading (text : List ℕ) (tokens : List Token) : Type 0 where
+-- why a piece that lies there is not added
+pub data IsCauseOfPiece (spelling : List ℕ) (span : Span) : PieceKind → EduceError → Type 0 where
+  not_carried : (kind : UncarriedKind) → IsCauseOfPiece spelling span (Uncarried kind) (not_carried_at span spelling)
+  memory : (kind : PieceKind) → IsCauseOfPiece spelling span kind (placeless Alloc)
+
+-- why one more token is refused behind these open brackets, the innermost first
+abbrev pub IsCauseOfKind : List Bracket → TokenKind → BracketError → Type 0
+IsCauseOfKind outer kind bracket.WrongClose = open_after outer kind ≡ None
+IsCauseOfKind outer kind bracket.TooDeep = (b : Bracket) × (kind ≡ Start b) × (length outer ≡ 128)
+IsCauseOfKind outer kind bracket.Alloc = Unit {0}
+
+-- the refusal for it, of a token that lies there
+abbrev pub refusal_of : BracketError → Span → EduceError
+refusal_of bracket.WrongClose place = syntax_at place
+refusal_of bracket.TooDeep place = too_deep_at place
+refusal_of bracket.Alloc place = placeless Alloc
+
+-- the tokens are those of the text, and their brackets close in order, not too deep
+pub record IsReading (text : List ℕ) (tokens : List Token) : Type 0 where
   pub lexes : Lexes text tokens
   pub balanced : IsBalanced (lexemes tokens)
   pub shallow : IsShallow (lexemes tokens)
-  pub built : HasBuiltTokens (lexemes tokens)
-
--- why brackets are refused
-abbrev pub IsCauseOfBrackets : List Lexeme → BracketError → Type 0
-IsCauseOfBrackets found Unbalanced = IsBalanced found → ⊥
-IsCauseOfBrackets found TooDeep = IsShallow found → ⊥
-IsCauseOfBrackets found Alloc = Unit {0}
-
--- why one more token is refused behind these open brackets
-abbrev pub IsCauseOfKind : List Bracket → TokenKind → BracketError → Type 0
-IsCauseOfKind outer kind Unbalanced = open_after outer kind ≡ None
-IsCauseOfKind outer kind TooDeep = 128 < depth_after (length outer) kind
-IsCauseOfKind outer kind Alloc = Unit {0}

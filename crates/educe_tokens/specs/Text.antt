@@ -1,8 +1,9 @@
 -- The text of a list of tokens.
 use Rattle.std.specs.Prelude.{ℕ, ◌==◌, Bool, true, false, cond, ◌&&◌, not, IsTrue, List, [], ◌∷◌, ◌++◌}
-use Rattle.educe_tokens.specs.declared.token.TokenKind.{TokenKind}
-use Rattle.educe_tokens.specs.declared.token.TokenKind.TheVariants.{Ident, Lifetime, Literal, Punct, Start, Stop, Doc}
-use Rattle.educe_tokens.specs.Pieces.{is_slash_or_star}
+use Rattle.std.specs.List.{list_all}
+use Rattle.educe_pieces.specs.declared.kind.TokenKind.{TokenKind}
+use Rattle.educe_pieces.specs.declared.kind.TokenKind.TheVariants.{Ident, Lifetime, Literal, Punct, Start, Stop, Doc}
+use Rattle.educe_pieces.specs.Chars.{is_slash_or_star}
 use Rattle.educe_tokens.specs.Lexes.{Lexeme}
 use Rattle.educe_tokens.specs.Brackets.{kinds, closes}
 
@@ -27,10 +28,25 @@ is_punct_behind c (Start b ∷ more) = false
 is_punct_behind c (Stop b ∷ more) = false
 is_punct_behind c (Doc ∷ more) = false
 
+-- behind a joint punct stands a punct with which it opens no comment
+abbrev pub punct_joins : TokenKind → List TokenKind → Bool
+punct_joins (Punct c true) more = is_punct_behind c more
+punct_joins (Punct c false) more = true
+punct_joins Ident more = true
+punct_joins Lifetime more = true
+punct_joins (Literal l) more = true
+punct_joins (Start b) more = true
+punct_joins (Stop b) more = true
+punct_joins Doc more = true
+
+-- each joint punct is followed by a punct with which it opens no comment
+abbrev pub puncts_join : List TokenKind → Bool
+puncts_join [] = true
+puncts_join (kind ∷ more) = punct_joins kind more && puncts_join more
+
 -- the token may stand before these; no Doc may
 abbrev pub may_join : TokenKind → List TokenKind → Bool
-may_join (Punct c true) more = is_punct_behind c more
-may_join (Punct c false) more = true
+may_join (Punct c joint) more = punct_joins (Punct c joint) more
 may_join Ident more = true
 may_join Lifetime more = true
 may_join (Literal l) more = true
@@ -42,6 +58,20 @@ may_join Doc more = false
 abbrev pub joins_well : List TokenKind → Bool
 joins_well [] = true
 joins_well (kind ∷ more) = may_join kind more && joins_well more
+
+-- the token is no documentation
+abbrev pub is_no_doc : TokenKind → Bool
+is_no_doc Doc = false
+is_no_doc Ident = true
+is_no_doc Lifetime = true
+is_no_doc (Literal l) = true
+is_no_doc (Punct c joint) = true
+is_no_doc (Start b) = true
+is_no_doc (Stop b) = true
+
+-- no token is documentation
+abbrev pub have_no_doc : List TokenKind → Bool
+have_no_doc found = list_all is_no_doc found
 
 -- the brackets close in order, and each token may stand before the next
 abbrev pub is_well_formed : List Lexeme → Bool

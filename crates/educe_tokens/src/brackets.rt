@@ -1,21 +1,25 @@
-//! Whether brackets close in order.
-ghost use Rattle.std.specs.Prelude.{◌≡◌, ◌≤◌, length, IfErr, OnOk, vec_len, reverse};
-ghost use Rattle.educe_tokens.specs.Lexes.{lexemes};
+//! Whether brackets close in order, and where they don't.
+ghost use Rattle.std.specs.Prelude.{◌≡◌, ◌≤◌, length, IfErr, OnOk, vec_len, reverse, encode_utf8_all, List, ℕ};
+ghost use Rattle.educe_tokens.specs.Lexes.{lexemes, Lexes};
 ghost use Rattle.educe_tokens.specs.Brackets.{open_after, depth_after, IsBalanced, IsShallow};
-ghost use Rattle.educe_tokens.specs.Steps.{IsCauseOfBrackets, IsCauseOfKind};
+ghost use Rattle.educe_tokens.specs.Causes.{IsLexicalCause};
+ghost use Rattle.educe_tokens.specs.Steps.{IsCauseOfKind, refusal_of};
 
-use crate::token::{Bracket, TokenKind, TokenStream};
+use crate::error::{EduceError, Kind};
+use crate::span::Span;
+use crate::token::TokenStream;
+use educe_pieces::{Bracket, TokenKind};
 use std::alloc::Global;
 
 /// How many brackets may be open at once.
 pub const NESTING_LIMIT: usize = 128;
 
-/// Why brackets are refused.
+/// Why a token is refused behind others.
 #[derive(Clone, Copy, Debug, PartialEq, Eq)]
 pub enum BracketError {
-    /// They don't close in order.
-    Unbalanced,
-    /// More than `NESTING_LIMIT` are open at once.
+    /// It closes another bracket than the innermost one, or none.
+    WrongClose,
+    /// It opens a bracket where `NESTING_LIMIT` are open.
     TooDeep,
     /// Want of memory.
     Alloc,
@@ -41,26 +45,42 @@ fn take_kind(outer: &mut Vec<Bracket>, kind: TokenKind) -> Result<(), BracketErr
         }
         TokenKind::Stop(b) => match outer.pop() {
             Some(innermost) if innermost == b => Ok(()),
-            _ => Err(BracketError::Unbalanced),
+            _ => Err(BracketError::WrongClose),
         },
         _ => Ok(()),
     }
 }
 
-/// Whether the brackets close in order, at most 128 open at once (Rust Reference, Delimiters).
-pub fn check_brackets(alloc: Global, tokens: &TokenStream) -> Result<(), BracketError>
+/// The refusal for a token that lies there.
+fn refusal(alloc: Global, cause: BracketError, place: Span) -> EduceError
+    ensures { result ≡ refusal_of cause place }
+{
+    match cause {
+        BracketError::WrongClose => EduceError::new(alloc, Kind::Syntax, place),
+        BracketError::TooDeep => EduceError::new(alloc, Kind::TooDeep, place),
+        BracketError::Alloc => EduceError::alloc(alloc),
+    }
+}
+
+/// Whether the brackets of a text of so many bytes close in order, at most `NESTING_LIMIT` open at
+/// once (Rust Reference, Delimiters). It is refused at the first bracket that closes another than
+/// the innermost one or opens too deep, or else empty at the end, where brackets are open there.
+pub fn check_brackets(alloc: Global, tokens: &TokenStream, end: u32) -> Result<(), EduceError>
     ensures balanced { OnOk result (IsBalanced (lexemes tokens.now)) }
     ensures shallow { OnOk result (IsShallow (lexemes tokens.now)) }
-    ensures err { IfErr result (λ e. IsCauseOfBrackets (lexemes tokens.now) e) }
+    ensures err { IfErr result (λ e. (text : List ℕ) → Lexes text tokens.now →
+        length (encode_utf8_all text) ≡ end → IsLexicalCause text e) }
 {
     let mut outer: Vec<Bracket> = Vec::new(alloc);
     for token in tokens.as_slice() {
-        take_kind(&mut outer, token.kind)?;
+        if let Err(cause) = take_kind(&mut outer, token.kind) {
+            return Err(refusal(alloc, cause, token.span));
+        }
     }
     if outer.is_empty() {
         Ok(())
     } else {
-        Err(BracketError::Unbalanced)
+        Err(EduceError::new(alloc, Kind::Syntax, Span { start: end, end }))
     }
 }
 
@@ -79,7 +99,7 @@ mod tests {
         assert_eq!(rt; take_kind(&mut outer, TokenKind::Ident), Ok(()));
         assert_eq!(rt; outer.len(), 1);
         let stop = TokenKind::Stop(Bracket::Square);
-        assert_eq!(rt; take_kind(&mut outer, stop), Err(BracketError::Unbalanced));
+        assert_eq!(rt; take_kind(&mut outer, stop), Err(BracketError::WrongClose));
         Ok(())
     }
 }

@@ -14,6 +14,15 @@ pub type Texts = Seq<Spelling>;
 /// The kinds of refusals.
 #[derive(Clone, Copy, Debug, PartialEq, Eq)]
 pub enum Kind {
+    /// The text is no list of tokens whose brackets close in order. The place is one token: the last
+    /// one before the characters that are no piece, or the bracket that closes wrongly. Where no
+    /// token stands before such characters, or brackets are open at the end, it is empty, at the
+    /// end of the text.
+    Syntax,
+    /// A bracket opens where `NESTING_LIMIT` are open. The place is that bracket.
+    TooDeep,
+    /// A literal, the one word, is read and not carried.
+    NotCarried,
     /// The text is not of the form that is built so far.
     NotBuilt,
     /// No trait is listed at the type.
@@ -66,6 +75,7 @@ impl EduceError {
     {
         EduceError::new(alloc, Kind::Alloc, Span::NONE)
     }
+
     /// The message, without the place.
     pub fn message(&self, alloc: Global) -> Result<String, AllocError>
         requires kind { self.now.kind ≢ Kind.Alloc }
@@ -73,6 +83,12 @@ impl EduceError {
         ensures { IfOk result (λ text. string_bytes text ≡ message_of self.now.kind self.now.words) }
     {
         match self.kind {
+            Kind::Syntax => String::from_str(alloc, "syntax error"),
+            Kind::TooDeep => String::from_str(alloc, "nested too deeply"),
+            Kind::NotCarried => match self.words.as_slice() {
+                [word] => not_carried(alloc, word.as_str()),
+                _ => unreachable!(),
+            },
             Kind::NotBuilt => String::from_str(alloc, "not built yet"),
             Kind::DeriveAttributeNotSetUpYet => String::from_str(
                 alloc,
@@ -88,6 +104,14 @@ impl EduceError {
             Kind::Alloc => unreachable!(),
         }
     }
+}
+
+/// The message for a literal that is not carried.
+fn not_carried(alloc: Global, literal: &str) -> Result<String, AllocError>
+    ensures { IfOk result (λ text. string_bytes text ≡
+        codes "`" ++ literal.now ++ codes "` is not supported") }
+{
+    format!(in alloc; "`{literal}` is not supported")
 }
 
 /// The message for a name that is given more than once.
@@ -106,6 +130,13 @@ mod tests {
     #[test]
     fn says_why(rt: HostRuntime) -> Result<(), Fail> {
         let alloc = rt.alloc();
+        let error = EduceError::new(alloc, Kind::Syntax, Span::NONE);
+        assert_eq!(rt; error.message(alloc)?.as_str(), "syntax error");
+        let error = EduceError::new(alloc, Kind::TooDeep, Span::NONE);
+        assert_eq!(rt; error.message(alloc)?.as_str(), "nested too deeply");
+        let word = Spelling::from_str(alloc, "1.5")?;
+        let error = EduceError::with_word(alloc, Kind::NotCarried, Span::NONE, word)?;
+        assert_eq!(rt; error.message(alloc)?.as_str(), "`1.5` is not supported");
         let error = EduceError::new(alloc, Kind::NotBuilt, Span::NONE);
         assert_eq!(rt; error.message(alloc)?.as_str(), "not built yet");
         let error = EduceError::new(alloc, Kind::DeriveAttributeNotSetUpYet, Span::NONE);

@@ -1,13 +1,14 @@
 //! Growing a token list at its end.
 ghost use Rattle.std.specs.Prelude.{◌≡◌, IsTrue, OnOk, [], ◌∷◌, ◌++◌, chars};
-ghost use Rattle.educe_tokens.specs.Pieces.{spells};
-ghost use Rattle.educe_tokens.specs.Appends.{Appends, HasPrefix};
+ghost use Rattle.educe_pieces.specs.Pieces.{spells};
+ghost use Rattle.educe_tokens.specs.Appends.{Appends, AppendsNowhere, HasPrefix};
 ghost use Rattle.educe_tokens.specs.Quote.{word_lexeme};
 
 use crate::span::Span;
 use crate::spelling::Spelling;
-use crate::token::{Token, TokenKind, TokenStream};
+use crate::token::{Token, TokenStream};
 use crate::word::Word;
+use educe_pieces::TokenKind;
 use std::alloc::{AllocError, Global};
 
 /// Appends copies of tokens, their spans included.
@@ -24,6 +25,7 @@ pub fn append(alloc: Global, tokens: &mut TokenStream, more: &TokenStream) -> Re
 /// Appends the one token that a word is, whose span is `Span::NONE`.
 pub fn push_word(alloc: Global, tokens: &mut TokenStream, word: &Word) -> Result<(), AllocError>
     ensures ok { OnOk result (Appends (word_lexeme word.now.text ∷ []) tokens.old tokens.new) }
+    ensures nowhere { OnOk result (AppendsNowhere tokens.old tokens.new) }
     ensures prefix { HasPrefix tokens.old tokens.new }
 {
     push_spelled(alloc, tokens, word.kind(), word.as_str())
@@ -38,6 +40,7 @@ pub(crate) fn push_spelled(
 ) -> Result<(), AllocError>
     requires { IsTrue (spells kind (chars text.now)) }
     ensures ok { OnOk result (Appends (record { kind = kind; spelling = chars text.now } ∷ []) tokens.old tokens.new) }
+    ensures nowhere { OnOk result (AppendsNowhere tokens.old tokens.new) }
     ensures prefix { HasPrefix tokens.old tokens.new }
 {
     let spelling = Spelling::from_str(alloc, text)?;

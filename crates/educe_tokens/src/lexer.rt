@@ -1,23 +1,22 @@
 //! Texts into tokens.
-ghost use Rattle.std.specs.Prelude.{◌≡◌, ◌<◌, ◌≤◌, ◌^◌, length, IfOk, IfErr, OnOk, IfSome, IfNone, chars, encode_utf8_all, IsTrue, List};
-ghost use Rattle.std.specs.List.{list_all};
-ghost use Rattle.std.specs.Char.{is_ascii};
-ghost use Rattle.educe_tokens.specs.Pieces.{is_piece};
-ghost use Rattle.educe_tokens.specs.Lexes.{Lexes, lexemes, lexeme_of};
+ghost use Rattle.std.specs.Prelude.{◌≡◌, ◌<◌, ◌≤◌, ◌^◌, ◌⊎◌, length, map, IfOk, IfErr, OnOk, chars, encode_utf8_all, IsTrue, List};
+ghost use Rattle.std.specs.List.{AllByRecursion};
+ghost use Rattle.educe_pieces.specs.Pieces.{is_piece};
+ghost use Rattle.educe_tokens.specs.Lexes.{Lexeme, Lexes, LexesAside, lexemes};
 ghost use Rattle.educe_tokens.specs.Brackets.{kinds, IsBalanced, IsShallow};
-ghost use Rattle.educe_tokens.specs.Text.{joins_well};
-ghost use Rattle.educe_tokens.specs.Built.{is_built_token, HasBuiltTokens, IsUnbuiltOrAlloc, Gives};
-ghost use Rattle.educe_tokens.specs.Steps.{Adds, IsBuiltReading};
+ghost use Rattle.educe_tokens.specs.Text.{puncts_join};
+ghost use Rattle.educe_tokens.specs.Causes.{empty_at, last_of, IsLexicalCause, Gives};
+ghost use Rattle.educe_tokens.specs.Slices.{IsSlice};
+ghost use Rattle.educe_tokens.specs.Steps.{Adds, IsCauseOfPiece, IsReading};
 ghost use Rattle.educe_tokens.specs.declared.token.Token.{Token};
 
-use crate::brackets::{BracketError, check_brackets};
+use crate::brackets::check_brackets;
 use crate::error::{EduceError, Kind};
-use crate::piece::PieceKind;
-use crate::scan::piece_at;
 use crate::seq::Seq;
 use crate::span::{SOURCE_LIMIT, Span};
 use crate::spelling::Spelling;
-use crate::token::{LiteralKind, Token, TokenKind, TokenStream};
+use crate::token::{Token, TokenStream};
+use educe_pieces::{PieceKind, TokenKind, UncarriedKind, piece_at};
 use std::alloc::{AllocError, Global};
 
 fn spelling_of(alloc: Global, text: &[char]) -> Result<Spelling, AllocError>
@@ -41,42 +40,89 @@ fn byte_len(text: &[char]) -> usize
     len
 }
 
-/// Adds what a piece is to the tokens: a blank is nothing.
+/// Adds the token of this kind that the characters spell.
+fn push_token(
+    alloc: Global,
+    tokens: &mut TokenStream,
+    kind: TokenKind,
+    front: &[char],
+    span: Span,
+) -> Result<(), AllocError>
+    requires { IsTrue (is_piece (PieceKind.Token kind) front.now) }
+    ensures { OnOk result (Adds (PieceKind.Token kind) front.now span tokens.old tokens.new) }
+{
+    let spelling = spelling_of(alloc, front)?;
+    tokens.push(Token {
+        kind,
+        span,
+        spelling,
+    })
+}
+
+/// The refusal of a literal that is not carried, or that for want of memory.
+fn not_carried(alloc: Global, kind: UncarriedKind, literal: &[char], span: Span) -> EduceError
+    ensures { IsCauseOfPiece literal.now span (PieceKind.Uncarried kind) result }
+{
+    let Ok(word) = spelling_of(alloc, literal) else {
+        return EduceError::alloc(alloc);
+    };
+    match EduceError::with_word(alloc, Kind::NotCarried, span, word) {
+        Ok(error) => error,
+        Err(_) => EduceError::alloc(alloc),
+    }
+}
+
+/// Adds what a piece is to the tokens: a blank and a comment are nothing.
 fn push_piece(
     alloc: Global,
     tokens: &mut TokenStream,
     kind: PieceKind,
     front: &[char],
     span: Span,
-) -> Result<(), AllocError>
+) -> Result<(), EduceError>
     requires { IsTrue (is_piece kind front.now) }
     ensures ok { OnOk result (Adds kind front.now span tokens.old tokens.new) }
+    ensures err { IfErr result (λ e. IsCauseOfPiece front.now span kind e) }
 {
     match kind {
         PieceKind::Blank => Ok(()),
+        PieceKind::Comment => Ok(()),
         PieceKind::Token(kind) => {
-            let spelling = spelling_of(alloc, front)?;
-            tokens.push(Token {
-                kind,
-                span,
-                spelling,
-            })
+            if push_token(alloc, tokens, kind, front, span).is_ok() {
+                Ok(())
+            } else {
+                Err(EduceError::alloc(alloc))
+            }
         }
+        PieceKind::Uncarried(kind) => Err(not_carried(alloc, kind, front, span)),
     }
 }
 
-/// The token pieces of a text, or none where the text is no list of pieces.
-fn token_pieces(alloc: Global, text: &[char]) -> Result<Option<TokenStream>, AllocError>
-    requires { length (encode_utf8_all text.now) ≤ SOURCE_LIMIT }
-    ensures some { IfOk result (λ found. IfSome found (Lexes text.now)) }
-    ensures none { IfOk result (λ found. IfNone found ((tokens : List Token) → Lexes text.now tokens → ⊥)) }
+/// Where the last token lies; where there is none, nothing at the end.
+fn last_place(tokens: &[Token], end: u32) -> Span
+    ensures { result ≡ last_of (map (λ token. token.span) tokens.now) (empty_at end) }
+{
+    match tokens.last() {
+        Some(token) => token.span,
+        None => Span { start: end, end },
+    }
+}
+
+/// The tokens among the pieces of a text of so many bytes. It is refused where no piece fits, at the
+/// last token before, or at a literal that is not carried, whichever comes first.
+fn token_pieces(alloc: Global, text: &[char], bytes: u32) -> Result<TokenStream, EduceError>
+    requires bytes { length (encode_utf8_all text.now) ≡ bytes }
+    requires limit { bytes ≤ SOURCE_LIMIT }
+    ensures lexes { IfOk result (λ tokens. Lexes text.now tokens) }
+    ensures err { IfErr result (λ e. IsLexicalCause text.now e) }
 {
     let mut tokens = Seq::new(alloc);
     let mut rest = text;
     let mut start: u32 = 0;
     while !rest.is_empty() {
         let Some((kind, len)) = piece_at(rest) else {
-            return Ok(None);
+            let place = last_place(tokens.as_slice(), bytes);
+            return Err(EduceError::new(alloc, Kind::Syntax, place));
         };
         let (front, more) = rest.split_at(len);
         let end = start + byte_len(front) as u32;
@@ -84,33 +130,7 @@ fn token_pieces(alloc: Global, text: &[char]) -> Result<Option<TokenStream>, All
         rest = more;
         start = end;
     }
-    Ok(Some(tokens))
-}
-
-fn is_ascii(text: &str) -> bool
-    ensures { result ≡ list_all is_ascii (chars text.now) }
-{
-    text.chars().all(|c| c.is_ascii())
-}
-
-fn is_built_token(token: &Token) -> bool
-    ensures { result ≡ is_built_token (lexeme_of token.now) }
-{
-    match token.kind {
-        TokenKind::Ident => is_ascii(token.spelling.as_str()),
-        TokenKind::Punct(c, _) => matches!(c, '#' | ':' | ',' | '=' | '-'),
-        TokenKind::Start(_) => true,
-        TokenKind::Stop(_) => true,
-        TokenKind::Lifetime => false,
-        TokenKind::Literal(kind) => matches!(kind, LiteralKind::Int),
-        TokenKind::Doc => false,
-    }
-}
-
-fn has_built_tokens(tokens: &TokenStream) -> bool
-    ensures { result ≡ list_all is_built_token (lexemes tokens.now) }
-{
-    tokens.as_slice().iter().all(|token| is_built_token(token))
+    Ok(tokens)
 }
 
 fn chars_of(alloc: Global, source: &str) -> Result<Vec<char>, AllocError>
@@ -119,52 +139,57 @@ fn chars_of(alloc: Global, source: &str) -> Result<Vec<char>, AllocError>
     source.chars().collect(alloc)
 }
 
-/// The tokens of a text, if they are built and their brackets close in order, not too deep.
-fn built_tokens(alloc: Global, source: &str) -> Result<Option<TokenStream>, AllocError>
+/// The tokens of a text whose brackets close in order, not too deep.
+fn checked_tokens(alloc: Global, source: &str) -> Result<TokenStream, EduceError>
     requires { length source.now ≤ SOURCE_LIMIT }
-    ensures some { IfOk result (λ found. IfSome found (IsBuiltReading (chars source.now))) }
-    ensures none { IfOk result (λ found. IfNone found ((tokens : List Token) →
-        IsBuiltReading (chars source.now) tokens → ⊥)) }
+    ensures ok { IfOk result (λ tokens. IsReading (chars source.now) tokens) }
+    ensures err { IfErr result (λ e. IsLexicalCause (chars source.now) e) }
 {
-    let text = chars_of(alloc, source)?;
-    let Some(tokens) = token_pieces(alloc, &text)? else {
-        return Ok(None);
+    let Ok(text) = chars_of(alloc, source) else {
+        return Err(EduceError::alloc(alloc));
     };
-    if !has_built_tokens(&tokens) {
-        return Ok(None);
-    }
-    match check_brackets(alloc, &tokens) {
-        Ok(()) => Ok(Some(tokens)),
-        Err(BracketError::Alloc) => Err(AllocError),
-        Err(BracketError::Unbalanced) => Ok(None),
-        Err(BracketError::TooDeep) => Ok(None),
-    }
+    let bytes = source.len() as u32;
+    let tokens = token_pieces(alloc, &text, bytes)?;
+    check_brackets(alloc, &tokens, bytes)?;
+    Ok(tokens)
 }
 
-/// The tokens of a text (Rust Reference, Lexical structure) of the form that is built so far:
-/// identifiers of ASCII characters, integers of decimal digits alone, brackets that close in order,
-/// at most 128 of them open at once, `#`, `:`, `,`, `=` and `-`, with blanks between them. Any other
-/// text is answered `NotBuilt`.
+/// The tokens of a text (Rust Reference, Lexical structure), whose brackets close in order, at most
+/// 128 of them open at once. Blanks and comments that are no documentation are left out. A text is
+/// refused for the first of these, with its place:
+/// - no piece fits (`Syntax`, at the last token before, or, where no token stands before, empty at
+///   the end of the text), or a literal is not carried (`NotCarried`, at the literal, with its
+///   spelling as the word), whichever comes first in the text;
+/// - a bracket closes another than the innermost one, or none (`Syntax`, at that bracket), or opens
+///   where 128 are open (`TooDeep`, at that bracket), whichever comes first;
+/// - brackets are open at the end (`Syntax`, empty at the end of the text).
+///
+/// Want of memory (`Alloc`) has no place.
 pub fn lex(alloc: Global, source: &str) -> Result<TokenStream, EduceError>
     requires { length source.now ≤ SOURCE_LIMIT }
     ensures lexes { IfOk result (λ tokens. Lexes (chars source.now) tokens) }
     ensures balanced { IfOk result (λ tokens. IsBalanced (lexemes tokens)) }
     ensures shallow { IfOk result (λ tokens. IsShallow (lexemes tokens)) }
-    ensures built { IfOk result (λ tokens. HasBuiltTokens (lexemes tokens)) }
-    ensures joined { IfOk result (λ tokens. IsTrue (joins_well (kinds (lexemes tokens)))) }
+    ensures joined { IfOk result (λ tokens. IsTrue (puncts_join (kinds (lexemes tokens)))) }
     ensures few { IfOk result (λ tokens. length tokens ≤ length source.now) }
-    ensures err { IfErr result (λ e. IsUnbuiltOrAlloc e) }
+    // Each span cuts the token's spelling out of the source.
+    ensures slices { IfOk result (λ tokens. AllByRecursion (IsSlice source.now) tokens) }
+    ensures err { IfErr result (λ e. IsLexicalCause (chars source.now) e) }
     // Where the text has such tokens they are answered, unless memory fails: there is no other
     // reading, and no other refusal.
     ensures only { (tokens : List Token) → Lexes (chars source.now) tokens →
-        IsBalanced (lexemes tokens) → IsShallow (lexemes tokens) →
-        HasBuiltTokens (lexemes tokens) → Gives result tokens }
+        IsBalanced (lexemes tokens) → IsShallow (lexemes tokens) → Gives result tokens }
+    // So a printed text is read back.
+    ensures back { (found : List Lexeme) → LexesAside (chars source.now) found →
+        IsBalanced found → IsShallow found →
+        IfOk result (λ tokens. lexemes tokens ≡ found) × IfErr result (λ e. e.kind ≡ Kind.Alloc) }
+    // A text whose brackets close in order and nest deeper is refused for that, unless memory fails.
+    ensures deep { (found : List Lexeme) → LexesAside (chars source.now) found →
+        IsBalanced found → (IsShallow found → ⊥) →
+        IfOk result (λ _. ⊥) ×
+        IfErr result (λ e. (e.kind ≡ Kind.TooDeep) ⊎ (e.kind ≡ Kind.Alloc)) }
 {
-    match built_tokens(alloc, source) {
-        Ok(Some(tokens)) => Ok(tokens),
-        Ok(None) => Err(EduceError::new(alloc, Kind::NotBuilt, Span::NONE)),
-        Err(_) => Err(EduceError::alloc(alloc)),
-    }
+    checked_tokens(alloc, source)
 }
 
 #[cfg(test)]
@@ -172,50 +197,57 @@ mod tests {
     use super::*;
     use std::test::Fail;
 
-    fn refused(alloc: Global, source: &str) -> bool
-        requires { length source.now ≤ SOURCE_LIMIT }
-    {
-        match lex(alloc, source) {
-            Ok(_) => false,
-            Err(e) => matches!(e.kind, Kind::NotBuilt),
-        }
-    }
-
     #[test]
     fn spans_in_bytes(rt: HostRuntime) -> Result<(), Fail> {
         let alloc = rt.alloc();
-        let Ok(tokens) = lex(alloc, "struct S\u{2028}{ a: u8 }") else {
+        let Ok(tokens) = lex(alloc, "struct é\u{2028}{ a: u8 }") else {
             return Err(Fail::from("refused"));
         };
         assert_eq!(rt; tokens.len(), 7);
-        let starts = [0, 7, 11, 13, 14, 16, 19];
-        let ends = [6, 8, 12, 14, 15, 18, 20];
+        let starts = [0, 7, 12, 14, 15, 17, 20];
+        let ends = [6, 9, 13, 15, 16, 19, 21];
         for i in 0..7usize {
             let Some(token) = tokens.get(i) else {
                 return Err(Fail::from("short"));
             };
-            assert_eq!(rt;
-                token.span,
-                Span {
-                    start: starts[i],
-                    end: ends[i]
-                }
-            );
+            let (start, end) = (starts[i], ends[i]);
+            assert_eq!(rt; token.span, Span { start, end });
         }
         Ok(())
     }
 
     #[test]
-    fn refuses(rt: HostRuntime) -> Result<(), Fail> {
+    fn says_where_and_why(rt: HostRuntime) -> Result<(), Fail> {
         let alloc = rt.alloc();
-        assert!(rt; refused(alloc, "a#"));
-        assert!(rt; refused(alloc, "(a]"));
-        assert!(rt; refused(alloc, "(a"));
-        assert!(rt; refused(alloc, "// a"));
-        assert!(rt; refused(alloc, "1u8"));
-        assert!(rt; refused(alloc, "a;"));
-        assert!(rt; refused(alloc, "é"));
-        assert!(rt; !refused(alloc, ""));
+        for (source, kind, start, end) in [
+            ("a#", Kind::Syntax, 2, 2),
+            ("é a#", Kind::Syntax, 0, 2),
+            ("é \\", Kind::Syntax, 0, 2),
+            ("(é \\", Kind::Syntax, 1, 3),
+            ("é (a]", Kind::Syntax, 5, 6),
+            ("é )", Kind::Syntax, 3, 4),
+            ("(é", Kind::Syntax, 3, 3),
+            ("([a] ", Kind::Syntax, 5, 5),
+        ] {
+            let Err(error) = lex(alloc, source) else {
+                return Err(Fail::from(source));
+            };
+            assert_eq!(rt; error.kind, kind, "{source}");
+            assert_eq!(rt; error.span, Span { start, end }, "{source}");
+            assert_eq!(rt; error.words.len(), 0, "{source}");
+        }
+        Ok(())
+    }
+
+    #[test]
+    fn says_what_is_not_carried(rt: HostRuntime) -> Result<(), Fail> {
+        let alloc = rt.alloc();
+        let place = Span { start: 3, end: 6 };
+        let error = not_carried(alloc, UncarriedKind::Float, &['1', '.', '5'], place);
+        assert_eq!(rt; error.kind, Kind::NotCarried);
+        assert_eq!(rt; error.span, place);
+        assert_eq!(rt; error.words.len(), 1);
+        assert!(rt; error.words.as_slice()[0].is("1.5"));
         Ok(())
     }
 
@@ -226,8 +258,13 @@ mod tests {
             "(((((((((((((((((((((((((((((((((((((((((((((((((((((((((((((((((((((((((((((((((((((((((((((((((((((((((((((((((((((((((((((((())))))))))))))))))))))))))))))))))))))))))))))))))))))))))))))))))))))))))))))))))))))))))))))))))))))))))))))))))))))))))))))))";
         let too_deep =
             "[(((((((((((((((((((((((((((((((((((((((((((((((((((((((((((((((((((((((((((((((((((((((((((((((((((((((((((((((((((((((((((((((())))))))))))))))))))))))))))))))))))))))))))))))))))))))))))))))))))))))))))))))))))))))))))))))))))))))))))))))))))))))))))))))]";
-        assert!(rt; !refused(alloc, deepest));
-        assert!(rt; refused(alloc, too_deep));
+        assert!(rt; lex(alloc, deepest).is_ok());
+        let Err(error) = lex(alloc, too_deep) else {
+            return Err(Fail::from("taken"));
+        };
+        assert_eq!(rt; error.kind, Kind::TooDeep);
+        let (start, end) = (128, 129);
+        assert_eq!(rt; error.span, Span { start, end });
         Ok(())
     }
 }

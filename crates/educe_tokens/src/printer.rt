@@ -1,10 +1,12 @@
 //! Tokens into a text.
-ghost use Rattle.std.specs.Prelude.{◌≡◌, IfOk, OnOk, chars, [], ◌∷◌, ◌++◌, if◌then◌else◌};
+ghost use Rattle.std.specs.Prelude.{◌≡◌, IsTrue, IfOk, OnOk, chars, [], ◌∷◌, ◌++◌, if◌then◌else◌};
 ghost use Rattle.std.specs.String.{string_bytes};
 ghost use Rattle.educe_tokens.specs.Lexes.{lexemes, LexesAside};
-ghost use Rattle.educe_tokens.specs.Text.{joins_next, IsWellFormed, text_of};
+ghost use Rattle.educe_tokens.specs.Brackets.{kinds, IsBalanced};
+ghost use Rattle.educe_tokens.specs.Text.{joins_next, is_no_doc, have_no_doc, puncts_join, IsWellFormed, text_of};
 
-use crate::token::{Token, TokenKind, TokenStream};
+use crate::token::{Token, TokenStream};
+use educe_pieces::TokenKind;
 use std::alloc::{AllocError, Global};
 
 fn joins_next(kind: TokenKind) -> bool
@@ -23,6 +25,21 @@ fn push_token(out: &mut String, joint: bool, token: &Token) -> Result<(), AllocE
     }
     out.push_str(token.spelling.as_str())?;
     Ok(())
+}
+
+fn is_no_doc(kind: TokenKind) -> bool
+    ensures { result ≡ is_no_doc kind }
+{
+    !matches!(kind, TokenKind::Doc)
+}
+
+/// Whether no token is documentation. Then tokens that were read from a text may be printed.
+pub fn have_no_doc(tokens: &TokenStream) -> bool
+    ensures value { result ≡ have_no_doc (kinds (lexemes tokens.now)) }
+    ensures printable { IsTrue result → IsBalanced (lexemes tokens.now) →
+        IsTrue (puncts_join (kinds (lexemes tokens.now))) → IsWellFormed (lexemes tokens.now) }
+{
+    tokens.as_slice().iter().all(|token| is_no_doc(token.kind))
 }
 
 /// The spellings, with one space between two tokens and none behind a joint punct.
@@ -44,15 +61,38 @@ pub fn text(alloc: Global, tokens: &TokenStream) -> Result<String, AllocError>
 mod tests {
     use super::*;
     use crate::lexer::lex;
+    use crate::seq::Seq;
+    use crate::template::quote;
     use std::test::Fail;
 
     #[test]
     fn one_space_between_tokens(rt: HostRuntime) -> Result<(), Fail> {
         let alloc = rt.alloc();
-        let Ok(tokens) = lex(alloc, "#[a::b]") else {
-            return Err(Fail::from("refused"));
-        };
+        let mut tokens = Seq::new(alloc);
+        quote(alloc, &mut tokens, "# [ a :: b ]")?;
         assert_eq!(rt; text(alloc, &tokens)?.as_str(), "# [ a :: b ]");
+        Ok(())
+    }
+
+    #[test]
+    fn prints_what_was_read(rt: HostRuntime) -> Result<(), Fail> {
+        let alloc = rt.alloc();
+        for (source, printed) in [
+            ("a/* x /* y */ */b", "a b"),
+            ("1..2", "1 .. 2"),
+            (
+                "<<'a>::é(r#fn,\"\\u{41}\")-1u8 // x",
+                "<< 'a >:: é ( r#fn , \"\\u{41}\" ) - 1u8",
+            ),
+        ] {
+            let Ok(tokens) = lex(alloc, source) else {
+                return Err(Fail::from(source));
+            };
+            if !have_no_doc(&tokens) {
+                return Err(Fail::from(source));
+            }
+            assert_eq!(rt; text(alloc, &tokens)?.as_str(), printed, "{source}");
+        }
         Ok(())
     }
 }

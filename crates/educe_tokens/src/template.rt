@@ -1,16 +1,18 @@
 //! Printing from templates.
 ghost use Rattle.std.specs.Prelude.{◌≡◌, IsTrue, OnOk};
-ghost use Rattle.educe_tokens.specs.Appends.{Appends, HasPrefix};
+ghost use Rattle.educe_tokens.specs.Appends.{Appends, AppendsNowhere, HasPrefix};
 ghost use Rattle.educe_tokens.specs.Quote.{is_name_start, mark_kind, word_lexemes, is_template_word, quoted, is_template};
 
 use crate::growing::push_spelled;
-use crate::token::{Bracket, TokenKind, TokenStream};
+use crate::token::TokenStream;
+use educe_pieces::{Bracket, TokenKind};
 use std::alloc::{AllocError, Global};
 
 /// Appends the tokens of a template, whose spans are `Span::NONE`.
 pub fn quote(alloc: Global, tokens: &mut TokenStream, template: &str) -> Result<(), AllocError>
     requires { IsTrue (is_template template.now) }
     ensures ok { OnOk result (Appends (quoted template.now) tokens.old tokens.new) }
+    ensures nowhere { OnOk result (AppendsNowhere tokens.old tokens.new) }
     ensures prefix { HasPrefix tokens.old tokens.new }
 {
     for word in template.split(' ') {
@@ -23,6 +25,7 @@ pub fn quote(alloc: Global, tokens: &mut TokenStream, template: &str) -> Result<
 fn quote_word(alloc: Global, tokens: &mut TokenStream, word: &str) -> Result<(), AllocError>
     requires { IsTrue (is_template_word word.now) }
     ensures ok { OnOk result (Appends (word_lexemes word.now) tokens.old tokens.new) }
+    ensures nowhere { OnOk result (AppendsNowhere tokens.old tokens.new) }
     ensures prefix { HasPrefix tokens.old tokens.new }
 {
     match word.as_bytes() {

@@ -1,42 +1,12 @@
 //! Tokens and their kinds.
 ghost use Rattle.std.specs.Prelude.{◌≡◌, IsTrue, IfOk};
-ghost use Rattle.educe_tokens.specs.Pieces.{spells};
+ghost use Rattle.educe_pieces.specs.Pieces.{spells};
 
 use crate::seq::Seq;
 use crate::span::Span;
 use crate::spelling::Spelling;
+use educe_pieces::TokenKind;
 use std::alloc::{AllocError, Global};
-
-/// The three kinds of brackets (Rust Reference, Delimiters).
-#[derive(Clone, Copy, Debug, PartialEq, Eq)]
-pub enum Bracket {
-    Round,
-    Square,
-    Curly,
-}
-
-/// The kinds of literals that are carried (Rust Reference, Literals).
-#[derive(Clone, Copy, Debug, PartialEq, Eq)]
-pub enum LiteralKind {
-    Int,
-    Str,
-    ByteStr,
-    Char,
-    Byte,
-}
-
-/// What a token is (Rust Reference, Tokens). Keywords and `_` are identifiers too. A punctuation
-/// character is joint where the next one follows it at once; a `Doc` is a documentation comment.
-#[derive(Clone, Copy, Debug, PartialEq, Eq)]
-pub enum TokenKind {
-    Ident,
-    Lifetime,
-    Literal(LiteralKind),
-    Punct(char, bool),
-    Start(Bracket),
-    Stop(Bracket),
-    Doc,
-}
 
 /// A token, whose spelling is one piece of its kind.
 #[derive(Drop)]

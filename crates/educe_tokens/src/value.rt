@@ -1,67 +1,144 @@
-//! The values of integers.
-ghost use Rattle.std.specs.Prelude.{◌≡◌};
+//! The values of literals and of documentation.
+ghost use Rattle.std.specs.Prelude.{◌≡◌, ◌==◌, IsTrue, IfOk, IfSome, IfNone, chars};
+ghost use Rattle.educe_pieces.specs.Chars.{begins};
+ghost use Rattle.educe_pieces.specs.Pieces.{spells};
+ghost use Rattle.std.specs.String.{string_bytes};
 ghost use Rattle.educe_tokens.specs.Lexes.{lexeme_of};
 ghost use Rattle.educe_tokens.specs.IntValue.{int_value};
+ghost use Rattle.educe_tokens.specs.StringValue.{IsString, IsStringValue};
 
-use crate::token::{LiteralKind, Token, TokenKind};
+use crate::token::Token;
+use educe_pieces::{LiteralKind, TokenKind, doc_value, raw_value, str_value};
+use std::alloc::{AllocError, Global};
 
-/// The value of an integer literal, and none of any other token (Rust Reference, Integer literals).
+/// The value of an integer literal, its suffix aside, and none of any other token (Rust Reference,
+/// Integer literals).
 pub fn int_value(token: &Token) -> Option<u128>
     ensures { result ≡ int_value (lexeme_of token.now) }
 {
     match token.kind {
-        TokenKind::Literal(LiteralKind::Int) => token.spelling.as_str().parse::<u128>().ok(),
+        TokenKind::Literal(LiteralKind::Int) => educe_pieces::int_value(token.spelling.as_str()),
         _ => None,
+    }
+}
+
+/// The value of a string literal with its escapes resolved, the text of documentation without its
+/// marks, and none of any other token (Rust Reference, String literals, Doc comments).
+pub fn string_value(alloc: Global, token: &Token) -> Result<Option<String>, AllocError>
+    ensures some { IfOk result (λ value. IfSome value (λ text.
+        IsStringValue (lexeme_of token.now) (chars (string_bytes text)))) }
+    ensures none { IfOk result (λ value. IfNone value (IsString token.now.kind → ⊥)) }
+{
+    match token.kind {
+        TokenKind::Literal(LiteralKind::Str) => {
+            Ok(Some(literal_value(alloc, token.spelling.as_str())?))
+        }
+        TokenKind::Doc => {
+            let text = doc_value(token.spelling.as_str());
+            Ok(Some(String::from_str(alloc, text)?))
+        }
+        _ => Ok(None),
+    }
+}
+
+/// Whether a literal begins as a raw one does.
+fn begins_raw(literal: &str) -> bool
+    ensures { result ≡ begins (λ c. c == 114) (chars literal.now) }
+{
+    match literal.chars().next() {
+        Some(first) => first == 'r',
+        None => false,
+    }
+}
+
+/// The value of a string literal, raw or not.
+fn literal_value(alloc: Global, literal: &str) -> Result<String, AllocError>
+    requires { IsTrue (spells (TokenKind.Literal LiteralKind.Str) (chars literal.now)) }
+    ensures { IfOk result (λ text. IsStringValue
+        (record { kind = TokenKind.Literal LiteralKind.Str; spelling = chars literal.now })
+        (chars (string_bytes text))) }
+{
+    if begins_raw(literal) {
+        String::from_str(alloc, raw_value(literal))
+    } else {
+        str_value(alloc, literal)
     }
 }
 
 #[cfg(test)]
 mod tests {
     use super::*;
-    use crate::error::Kind;
     use crate::lexer::lex;
+    use std::process::Abort;
     use std::test::Fail;
 
+    /// The one token of a text.
+    fn token(alloc: Global, source: &str) -> Result<Token, Fail> {
+        if source.len() > crate::span::SOURCE_LIMIT {
+            return Err(Fail::from("too long"));
+        }
+        let Ok(tokens) = lex(alloc, source) else {
+            return Err(Fail::from(source));
+        };
+        match tokens.as_slice() {
+            [token] => Ok(token.duplicate(alloc)?),
+            _ => Err(Fail::from(source)),
+        }
+    }
+
     #[test]
-    fn values(rt: HostRuntime) -> Result<(), Fail> {
+    fn integers(rt: HostRuntime) -> Result<(), Fail> {
         let alloc = rt.alloc();
         for (source, value) in [
-            ("1", 1),
-            ("007", 7),
-            ("340282366920938463463374607431768211455", u128::MAX),
-            ("00340282366920938463463374607431768211455", u128::MAX),
+            ("1", Some(1)),
+            ("007", Some(7)),
+            ("1_000", Some(1000)),
+            ("0x_Fu8", Some(15)),
+            ("0b1010usize", Some(10)),
+            ("0o17_i128", Some(15)),
+            ("340282366920938463463374607431768211455", Some(u128::MAX)),
+            ("_1", None),
+            ("'1'", None),
         ] {
-            let Ok(tokens) = lex(alloc, source) else {
-                return Err(Fail::from("refused"));
-            };
-            assert_eq!(rt; tokens.len(), 1, "{source}");
-            assert_eq!(rt; int_value(&tokens.as_slice()[0]), Some(value), "{source}");
+            assert_eq!(rt; int_value(&token(alloc, source)?), value, "{source}");
         }
-        let Ok(tokens) = lex(alloc, "_1") else {
-            return Err(Fail::from("refused"));
-        };
-        assert_eq!(rt; tokens.len(), 1);
-        assert_eq!(rt; int_value(&tokens.as_slice()[0]), None);
+        Ok(())
+    }
+
+    /// Compares what the string value of the one token of a text is.
+    fn check(
+        rt: &impl Abort,
+        alloc: Global,
+        source: &str,
+        value: Option<&str>,
+    ) -> Result<(), Fail> {
+        let found = string_value(alloc, &token(alloc, source)?)?;
+        match (&found, value) {
+            (Some(found), Some(value)) => assert_eq!(rt; found.as_str(), value, "{source}"),
+            (None, None) => {}
+            _ => return Err(Fail::from(source)),
+        }
         Ok(())
     }
 
     #[test]
-    fn no_ints(rt: HostRuntime) -> Result<(), Fail> {
+    fn strings(rt: HostRuntime) -> Result<(), Fail> {
         let alloc = rt.alloc();
-        for source in [
-            "340282366920938463463374607431768211456",
-            "1_0",
-            "1u8",
-            "1.",
-            "1.5",
-            "1e3",
-            "0x1",
-            "1..2",
+        for (source, value) in [
+            ("\"a\"", Some("a")),
+            ("\"\\n\\r\\t\\\\\\0\\'\\\"\"", Some("\n\r\t\\\0'\"")),
+            ("\"\\x41\\u{1_F600}\"", Some("A\u{1F600}")),
+            ("\"a\\\n \t\r\n b\"", Some("ab")),
+            ("\"a\\\r\n b\"", Some("ab")),
+            ("r\"\\n\"", Some("\\n")),
+            ("r#\"a\"b\"#", Some("a\"b")),
+            ("/// a", Some(" a")),
+            ("/** a */", Some(" a ")),
+            ("b\"a\"", None),
+            ("'a'", None),
+            ("a", None),
         ] {
-            let Err(error) = lex(alloc, source) else {
-                return Err(Fail::from(source));
-            };
-            assert_eq!(rt; error.kind, Kind::NotBuilt, "{source}");
+            check(&rt, alloc, source, value)?;
         }
         Ok(())
     }

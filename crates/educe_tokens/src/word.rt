@@ -1,10 +1,12 @@
 //! Texts that are printed as one token.
 ghost use Rattle.std.specs.Prelude.{◌≡◌, IsTrue, IfOk, chars};
-ghost use Rattle.educe_tokens.specs.Pieces.{is_name_or_index};
+ghost use Rattle.std.specs.Char.{is_ascii_digit};
+ghost use Rattle.educe_pieces.specs.Chars.{begins};
+ghost use Rattle.educe_pieces.specs.Pieces.{is_name_or_index};
 ghost use Rattle.educe_tokens.specs.Quote.{is_ascii_name, word_lexeme};
 
 use crate::spelling::Spelling;
-use crate::token::{LiteralKind, TokenKind};
+use educe_pieces::{LiteralKind, TokenKind};
 use std::alloc::{AllocError, Global};
 
 /// A text that spells one identifier or one integer: a name, or the index of a tuple's field.
@@ -44,9 +46,10 @@ impl Word {
     pub fn kind(&self) -> TokenKind
         ensures { result ≡ (word_lexeme self.now.text).kind }
     {
-        match self.as_str().chars().next() {
-            Some(first) if first.is_ascii_digit() => TokenKind::Literal(LiteralKind::Int),
-            _ => TokenKind::Ident,
+        if begins_digit(self.as_str()) {
+            TokenKind::Literal(LiteralKind::Int)
+        } else {
+            TokenKind::Ident
         }
     }
 
@@ -56,5 +59,15 @@ impl Word {
     {
         let text = self.text.duplicate(alloc)?;
         Ok(Word { text })
+    }
+}
+
+/// Whether a text begins with a decimal digit.
+fn begins_digit(text: &str) -> bool
+    ensures { result ≡ begins is_ascii_digit (chars text.now) }
+{
+    match text.chars().next() {
+        Some(first) => first.is_ascii_digit(),
+        None => false,
     }
 }

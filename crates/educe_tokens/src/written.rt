@@ -1,5 +1,6 @@
 //! Token lists that stand for themselves wherever they are printed.
 ghost use Rattle.std.specs.Prelude.{◌≡◌, IsTrue, IfOk};
+ghost use Rattle.educe_tokens.specs.Appends.{LieNowhere};
 ghost use Rattle.educe_tokens.specs.Text.{is_written};
 ghost use Rattle.educe_tokens.specs.Lexes.{lexemes};
 ghost use Rattle.educe_tokens.specs.Quote.{quoted, is_template};
@@ -25,11 +26,12 @@ impl Written {
         Written { tokens }
     }
 
-    /// The tokens of a template that stands for itself.
+    /// The tokens of a template that stands for itself, whose spans are `Span::NONE`.
     pub fn from_template(alloc: Global, template: &str) -> Result<Written, AllocError>
         requires is_template { IsTrue (is_template template.now) }
         requires written { IsTrue (is_written (quoted template.now)) }
-        ensures { IfOk result (λ written. lexemes written.tokens ≡ quoted template.now) }
+        ensures quoted { IfOk result (λ written. lexemes written.tokens ≡ quoted template.now) }
+        ensures nowhere { IfOk result (λ written. LieNowhere written.tokens) }
     {
         let mut tokens = Seq::new(alloc);
         quote(alloc, &mut tokens, template)?;

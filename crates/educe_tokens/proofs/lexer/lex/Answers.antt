@@ -1,20 +1,26 @@
+use Rattle.std.proofs.lemmas.Result.{IfOk-weaker}
 use Rattle.educe_tokens.specs.Lexes.{lexemes}
-use Rattle.educe_tokens.proofs.Unique.{lexes_aside, lexes_one}
-use Rattle.educe_tokens.proofs.Joined.{lexes_joins}
 use Rattle.educe_tokens.proofs.Few.{lexes_few_bytes}
+use Rattle.educe_tokens.proofs.Joined.{lexes_joins}
+use Rattle.educe_tokens.proofs.Places.{answer_sliced}
+use Rattle.educe_tokens.proofs.Uncaused.{gives_one, gives_aside, refuses_deep}
+use Rattle.educe_tokens.proofs.Unique.{lexes_aside}
 use Rattle.educe_tokens.proofs.lexer.lex.Goals as goal
 
-pub returns-in-Ok-Some-clause-joined : goal.returns-in-Ok-Some-clause-joined
-returns-in-Ok-Some-clause-joined c =
-    let h = rw c.in-Ok-Some.field-0-is at c.in-Ok-Some.ensures.some in
-    lexes_joins _ (lexemes c.in-Ok-Some.tokens) (lexes_aside _ c.in-Ok-Some.tokens h.lexes)
+pub returns-clause-joined : goal.returns-clause-joined
+returns-clause-joined c = IfOk-weaker c.checked_tokens.result _ _ (λ tokens reading. lexes_joins _ (lexemes tokens) (lexes_aside _ tokens reading.lexes)) c.checked_tokens.ensures.ok
 
-pub returns-in-Ok-Some-clause-few : goal.returns-in-Ok-Some-clause-few
-returns-in-Ok-Some-clause-few c =
-    let h = rw c.in-Ok-Some.field-0-is at c.in-Ok-Some.ensures.some in
-    lexes_few_bytes c.args.source.now c.in-Ok-Some.tokens c.utf8.source h.lexes
+pub returns-clause-few : goal.returns-clause-few
+returns-clause-few c = IfOk-weaker c.checked_tokens.result _ _ (λ tokens reading. lexes_few_bytes c.args.source.now tokens c.utf8.source reading.lexes) c.checked_tokens.ensures.ok
 
-pub returns-in-Ok-Some-clause-only : goal.returns-in-Ok-Some-clause-only
-returns-in-Ok-Some-clause-only c = λ tokens lexes balanced shallow built.
-    let h = rw c.in-Ok-Some.field-0-is at c.in-Ok-Some.ensures.some in
-    lexes_one _ c.in-Ok-Some.tokens tokens h.lexes lexes
+pub returns-clause-slices : goal.returns-clause-slices
+returns-clause-slices c = answer_sliced c.args.source.now c.checked_tokens.result c.utf8.source c.checked_tokens.ensures.ok
+
+pub returns-clause-only : goal.returns-clause-only
+returns-clause-only c = gives_one _ c.checked_tokens.result c.checked_tokens.ensures.ok c.checked_tokens.ensures.err
+
+pub returns-clause-back : goal.returns-clause-back
+returns-clause-back c = gives_aside _ c.checked_tokens.result c.checked_tokens.ensures.ok c.checked_tokens.ensures.err
+
+pub returns-clause-deep : goal.returns-clause-deep
+returns-clause-deep c = refuses_deep _ c.checked_tokens.result c.checked_tokens.ensures.ok c.checked_tokens.ensures.err

@@ -20,4 +20,4 @@ returns-clause-ok c =
     let words = YieldsList-from_str_split 32 c.args.template.now (lit< tt) (cc) (cc) (cc) in
     let all = YieldsList-end words c.loop-word.yielded _ c.loop-word.yielded_by _ _ c.in-None.is c.next.ensures.steps in
     let Grows : List (List ℕ) → Type 0 = λ words. Appends (flat_map word_lexemes words) c.args.tokens.now c.loop-word.tokens in
-    subst Grows all.0 c.loop-word.invariant
+    subst Grows all.0 c.loop-word.invariant.grown

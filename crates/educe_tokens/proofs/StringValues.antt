@@ -1,0 +1,45 @@
+-- The two forms of string literals, by their first character, and their value.
+use Rattle.std.proofs.Common.{◌≡◌, ℕ, true, false, List, [], ◌∷◌, drop, sym, ap, ◌∙◌, subst, ⊎_elim, arith}
+use Rattle.std.specs.Prelude.{◌==◌}
+use Rattle.std.proofs.lemmas.Bool.{or_cases, and_parts, false≢true}
+use Rattle.std.proofs.lemmas.Bool.Decides.{nat_tests}
+use Rattle.educe_pieces.specs.declared.kind.LiteralKind.TheVariants as literal
+use Rattle.educe_pieces.specs.declared.kind.TokenKind.TheVariants.{Literal}
+use Rattle.educe_pieces.specs.declared.quotes.Quote.TheVariants.{Str}
+use Rattle.educe_pieces.specs.Chars.{begins}
+use Rattle.educe_pieces.specs.Machine.{is_str}
+use Rattle.educe_pieces.specs.RawStrings.{is_raw_str}
+use Rattle.educe_pieces.specs.Quotes.{Part, IsBody, value_of}
+use Rattle.educe_pieces.specs.Pieces.{spells}
+use Rattle.educe_pieces.proofs.Quoted.{str_parts}
+use Rattle.educe_tokens.specs.Lexes.{Lexeme}
+use Rattle.educe_tokens.specs.StringValue.{IsStringValue, parts as value_parts}
+
+-- a quote is no `r`
+quote_no_r : (c : ℕ) → (c == 34) ≡ true → (c == 114) ≡ false
+quote_no_r c h = grind (arith, nat_tests)
+
+-- a string literal that begins with `r` is raw
+pub raw_by_first : (cs : List ℕ) → spells (Literal literal.Str) cs ≡ true → begins (λ c. c == 114) cs ≡ true → is_raw_str cs ≡ true
+raw_by_first [] h r = absurd (false≢true h)
+raw_by_first (c ∷ cs) h r =
+    ⊎_elim (λ s. absurd (false≢true (sym (quote_no_r c (and_parts (c == 34) _ s).0) ∙ r))) (λ raw. raw) (or_cases _ _ h)
+
+-- and another one is not
+pub str_by_first : (cs : List ℕ) → spells (Literal literal.Str) cs ≡ true → begins (λ c. c == 114) cs ≡ false → is_str cs ≡ true
+str_by_first [] h r = absurd (false≢true h)
+str_by_first (c ∷ cs) h r = ⊎_elim (λ s. s) (λ raw. absurd (false≢true (sym r ∙ (and_parts (c == 114) _ raw).0))) (or_cases _ _ h)
+
+-- a string literal's token, spelled so
+abbrev str_lexeme : List ℕ → Lexeme
+str_lexeme cs = record { kind = Literal literal.Str; spelling = cs }
+
+-- the value of a string literal that is not raw is that of its parts
+pub quoted_value : (cs value : List ℕ) (found : List Part) → is_str cs ≡ true → IsBody Str (drop 1 cs) found → value ≡ value_of found
+    → IsStringValue (str_lexeme cs) value
+quoted_value cs value found h body is =
+    let p = str_parts cs h in
+    let rest : drop 1 cs ≡ p.0 = ap (drop 1) p.1 in
+    let Here : List ℕ → Type 0 = λ s. IsStringValue (str_lexeme s) value in
+    let There : List ℕ → Type 0 = λ v. IsStringValue (str_lexeme (34 ∷ p.0)) v in
+    subst Here (sym p.1) (subst There (sym is) (value_parts p.0 found (subst (λ t. IsBody Str t found) rest body)))

@@ -1,0 +1,20 @@
+-- The refusals of texts, with their places and words.
+use Rattle.std.specs.Prelude.{ℕ, List, [], ◌∷◌}
+use Rattle.educe_tokens.specs.declared.span.Span.{Span}
+use Rattle.educe_tokens.specs.declared.error.EduceError.{EduceError}
+use Rattle.educe_tokens.specs.declared.error.Kind.{Kind}
+use Rattle.educe_tokens.specs.declared.error.Kind.TheVariants.{Syntax, TooDeep, NotCarried}
+
+-- of the kind, without a place and without words
+abbrev pub placeless : Kind → EduceError
+placeless kind = record { kind = kind; span = record { start = 0; end = 0 }; words = [] }
+
+abbrev pub syntax_at : Span → EduceError
+syntax_at place = record { kind = Syntax; span = place; words = [] }
+
+abbrev pub too_deep_at : Span → EduceError
+too_deep_at place = record { kind = TooDeep; span = place; words = [] }
+
+-- of a literal, which is the word
+abbrev pub not_carried_at : Span → List ℕ → EduceError
+not_carried_at place literal = record { kind = NotCarried; span = place; words = literal ∷ [] }
