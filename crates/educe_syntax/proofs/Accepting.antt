@@ -7,11 +7,11 @@ use Rattle.std.proofs.lemmas.Slice.Eq.{bytes_eq-Decides}
 use Rattle.std.proofs.lemmas.Bool.{leb-true, le-leb}
 use Rattle.std.proofs.lemmas.Bool.Decides.{Decides-eqb, Decides-ltb}
 use Rattle.educe_tokens.specs.declared.token.Token.{Token}
-use Rattle.educe_tokens.specs.declared.token.TokenKind.{TokenKind}
-use Rattle.educe_tokens.specs.declared.token.TokenKind.TheVariants as kind
-use Rattle.educe_tokens.specs.declared.token.LiteralKind.TheVariants.{Int, Str, ByteStr, Char, Byte}
-use Rattle.educe_tokens.specs.declared.token.Bracket.{Bracket}
-use Rattle.educe_tokens.specs.declared.token.Bracket.TheVariants.{Round, Square, Curly}
+use Rattle.educe_pieces.specs.declared.kind.TokenKind.{TokenKind}
+use Rattle.educe_pieces.specs.declared.kind.TokenKind.TheVariants as kind
+use Rattle.educe_pieces.specs.declared.kind.LiteralKind.TheVariants.{Int, Str, ByteStr, Char, Byte}
+use Rattle.educe_pieces.specs.declared.kind.Bracket.{Bracket}
+use Rattle.educe_pieces.specs.declared.kind.Bracket.TheVariants.{Round, Square, Curly}
 use Rattle.educe_tokens.specs.Brackets.{same_bracket}
 use Rattle.educe_tokens.specs.IntValue.{value_of, int_value}
 use Rattle.educe_tokens.specs.Lexes.{lexeme_of}

@@ -2,7 +2,7 @@
 use Rattle.std.proofs.Common.{◌≡◌, ◌<◌, true, false, not, List, [], ◌∷◌, ◌++◌, length, ap, sym, subst, ◌∙◌, arith, Some, None, Ok, IsTrue, length-append, append_assoc}
 use Rattle.educe_tokens.specs.declared.span.Span.{Span}
 use Rattle.educe_tokens.specs.declared.token.Token.{Token}
-use Rattle.educe_tokens.specs.declared.token.Bracket.TheVariants.{Curly}
+use Rattle.educe_pieces.specs.declared.kind.Bracket.TheVariants.{Curly}
 use Rattle.educe_syntax.specs.declared.ident.Ident.{Ident}
 use Rattle.educe_syntax.specs.declared.attr.Attribute.{Attribute}
 use Rattle.educe_syntax.specs.declared.path.Args.TheVariants as args

@@ -15,8 +15,9 @@ use Rattle.std.proofs.Math.Seq.{take-suc}
 use Rattle.std.proofs.lemmas.List.{take-append-drop}
 use Rattle.educe_tokens.specs.declared.token.Token.{Token}
 use Rattle.educe_syntax.specs.declared.data.Field.{Field}
+use Rattle.educe_syntax.specs.Names.{unraw, is_named}
 use Rattle.educe_syntax.specs.Built.{HasNoOther, AreApart, name_of}
-use Rattle.educe_syntax.proofs.Words.{chars_other}
+use Rattle.educe_syntax.proofs.Raw.{is_named-Decides}
 
 true_false : true ≡ false → ⊥
 true_false h = cc
@@ -24,37 +25,41 @@ true_false h = cc
 -- ---- the word `other`
 
 abbrev is_other : Token → Bool
-is_other t = bytes_eq (chars (codes "other")) t.spelling
+is_other t = is_named (codes "other") t.kind t.spelling
 
--- a list of tokens fails the test just where none is the word
+-- a list of tokens fails the test just where no identifier is the word
 pub list_any-other : (ts : List Token) → Decides (not (list_any is_other ts)) (HasNoOther ts)
 list_any-other [] = ((λ h. tt), (λ h. refl))
 list_any-other (t ∷ ts) =
-    let same = bytes_eq-Decides (chars (codes "other")) t.spelling in
+    let here = is_named-Decides (codes "other") t.kind t.spelling in
     let there = list_any-other ts in (
-      (λ h. let w = neither (is_other t) (list_any is_other ts) h in ((λ is. true_false (sym (same.1 (chars_other ∙ sym is)) ∙ w.0)), there.0 w.1)),
-      (λ h. both (is_other t) (list_any is_other ts) (λ hit. h.0 (sym (same.0 hit) ∙ chars_other)) (there.1 h.1)),
+      (λ h. let w = neither (is_other t) (list_any is_other ts) h in (here.0 w.0, there.0 w.1)),
+      (λ h. both (is_other t) (list_any is_other ts) (here.1 h.0) (there.1 h.1)),
     )
   where
-    neither : (a b : Bool) → not (a || b) ≡ true → (a ≡ false) × (not b ≡ true)
+    neither : (a b : Bool) → not (a || b) ≡ true → (not a ≡ true) × (not b ≡ true)
     neither true b h = absurd (cc)
     neither false b h = (refl, h)
 
-    both : (a b : Bool) → ¬ (a ≡ true) → not b ≡ true → not (a || b) ≡ true
-    both true b h k = absurd (h refl)
+    both : (a b : Bool) → not a ≡ true → not b ≡ true → not (a || b) ≡ true
+    both true b h k = h
     both false b h k = k
 
 -- ---- names
 
--- the bytes of a field's name
+-- the name of a field without a leading `r#`
+abbrev pub bare_name : Field → List ℕ
+bare_name field = unraw (name_of field)
+
+-- its bytes
 abbrev pub bytes_of : Field → List ℕ
-bytes_of field = encode_utf8_all (name_of field)
+bytes_of field = encode_utf8_all (bare_name field)
 
 -- the bytes are those of a text
 abbrev pub IsText : Field → Type 0
-IsText field = chars (bytes_of field) ≡ name_of field
+IsText field = chars (bytes_of field) ≡ bare_name field
 
--- a field before has this name
+-- a field before has this name, a leading `r#` aside
 abbrev pub has_name : List Field → List ℕ → Bool
 has_name fields bytes = list_any (λ field. bytes_eq (bytes_of field) bytes) fields
 
@@ -67,8 +72,8 @@ pub record Seen (seen : BTreeSet (Bor (List ℕ))) (fields : List Field) : Type 
   pub texts : AllByRecursion IsText fields
   pub apart : AreApart (map name_of fields)
 
--- fields of the same bytes have one name
-pub same_bytes : (f g : Field) → IsText f → IsText g → bytes_eq (bytes_of f) (bytes_of g) ≡ true → name_of f ≡ name_of g
+-- fields of the same bytes have one name, a leading `r#` aside
+pub same_bytes : (f g : Field) → IsText f → IsText g → bytes_eq (bytes_of f) (bytes_of g) ≡ true → bare_name f ≡ bare_name g
 same_bytes f g text_f text_g same = sym text_f ∙ ap chars ((bytes_eq-Decides (bytes_of f) (bytes_of g)).0 same) ∙ text_g
 
 all_snoc : {X : Type 0} (P : X → Type 0) (xs : List X) (x : X) → AllByRecursion P xs → P x → AllByRecursion P (xs ++ x ∷ [])
@@ -85,7 +90,7 @@ or_false true b h = absurd (cc)
 or_false false b h = (refl, h)
 
 -- a name that is not among those before differs from each
-differs : (fields : List Field) (field : Field) → has_name fields (bytes_of field) ≡ false → AllByRecursion (λ name. name ≢ name_of field) (map name_of fields)
+differs : (fields : List Field) (field : Field) → has_name fields (bytes_of field) ≡ false → AllByRecursion (λ name. unraw name ≢ bare_name field) (map name_of fields)
 differs [] field none = tt
 differs (f ∷ fs) field none =
     let w = or_false (bytes_eq (bytes_of f) (bytes_of field)) (has_name fs (bytes_of field)) none in (
@@ -93,9 +98,14 @@ differs (f ∷ fs) field none =
       differs fs field w.1,
     )
 
-apart_snoc : (names : List (List ℕ)) (name : List ℕ) → AreApart names → AllByRecursion (λ other. other ≢ name) names → AreApart (names ++ name ∷ [])
+apart_snoc : (names : List (List ℕ)) (name : List ℕ) → AreApart names → AllByRecursion (λ other. unraw other ≢ unraw name) names → AreApart (names ++ name ∷ [])
 apart_snoc [] name apart new = (tt, tt)
-apart_snoc (n ∷ ns) name apart new = (all_snoc (λ other. n ≢ other) ns name apart.0 new.0, apart_snoc ns name apart.1 new.1)
+apart_snoc (n ∷ ns) name apart new = (all_snoc (λ other. unraw n ≢ unraw other) ns name apart.0 new.0, apart_snoc ns name apart.1 new.1)
+
+-- names that differ aside from `r#` differ as they are written
+pub written_apart : (name : List ℕ) (names : List (List ℕ)) → AllByRecursion (λ later. unraw name ≢ unraw later) names → AllByRecursion (λ later. name ≢ later) names
+written_apart name [] apart = tt
+written_apart name (n ∷ ns) apart = ((λ same. apart.0 (ap unraw same)), written_apart name ns apart.1)
 
 -- the image of two lists, one behind the other
 pub map_snoc : {X Y : Type 0} (f : X → Y) (xs ys : List X) → map f (xs ++ ys) ≡ map f xs ++ map f ys

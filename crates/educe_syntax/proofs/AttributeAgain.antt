@@ -1,8 +1,8 @@
 -- The attributes of the grammar are read.
 use Rattle.std.proofs.Common.{◌≡◌, ◌<◌, Bool, true, false, not, List, [], ◌∷◌, ◌++◌, length, refl, ap, sym, subst, ◌∙◌, arith, Ok, IsTrue, append_assoc, length-append}
 use Rattle.educe_tokens.specs.declared.token.Token.{Token}
-use Rattle.educe_tokens.specs.declared.token.Bracket.{Bracket}
-use Rattle.educe_tokens.specs.declared.token.Bracket.TheVariants.{Round, Square}
+use Rattle.educe_pieces.specs.declared.kind.Bracket.{Bracket}
+use Rattle.educe_pieces.specs.declared.kind.Bracket.TheVariants.{Round, Square}
 use Rattle.educe_tokens.specs.declared.span.Span.{Span}
 use Rattle.educe_tokens.specs.declared.written.Written.{Written}
 use Rattle.educe_tokens.specs.Lexes.{lexemes}

@@ -1,7 +1,7 @@
 -- The attributes that the program reads are in the grammar.
 use Rattle.std.proofs.Common.{◌≡◌, Bool, true, false, List, [], ◌∷◌, ◌++◌, refl, ap, sym, subst, ◌∙◌, inl, inr, Ok, IsTrue, append_assoc}
 use Rattle.educe_tokens.specs.declared.token.Token.{Token}
-use Rattle.educe_tokens.specs.declared.token.Bracket.TheVariants.{Round, Square}
+use Rattle.educe_pieces.specs.declared.kind.Bracket.TheVariants.{Round, Square}
 use Rattle.educe_tokens.specs.Lexes.{lexemes}
 use Rattle.educe_tokens.specs.Text.{is_written}
 use Rattle.educe_syntax.specs.declared.attr.Attribute.{Attribute}

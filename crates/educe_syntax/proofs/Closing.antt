@@ -1,10 +1,10 @@
 -- The brackets of an attribute close in order.
 use Rattle.std.proofs.Common.{◌≡◌, true, List, [], ◌∷◌, ◌++◌, refl, ap, subst, sym, ◌∙◌}
 use Rattle.educe_tokens.specs.declared.token.Token.{Token}
-use Rattle.educe_tokens.specs.declared.token.Bracket.TheVariants.{Round}
-use Rattle.educe_tokens.specs.declared.token.LiteralKind.TheVariants.{Int}
-use Rattle.educe_tokens.specs.declared.token.TokenKind.{TokenKind}
-use Rattle.educe_tokens.specs.declared.token.TokenKind.TheVariants as kind
+use Rattle.educe_pieces.specs.declared.kind.Bracket.TheVariants.{Round}
+use Rattle.educe_pieces.specs.declared.kind.LiteralKind.TheVariants.{Int}
+use Rattle.educe_pieces.specs.declared.kind.TokenKind.{TokenKind}
+use Rattle.educe_pieces.specs.declared.kind.TokenKind.TheVariants as kind
 use Rattle.educe_tokens.specs.Brackets.{closes, kinds}
 use Rattle.educe_tokens.specs.Lexes.{lexemes}
 use Rattle.educe_tokens.proofs.Writing.{closes-append}

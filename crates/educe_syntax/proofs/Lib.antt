@@ -1,9 +1,12 @@
 pub mod Words
+pub mod Raw
 pub mod Turns
 pub mod Trees
 pub mod Expecting
 pub mod Accepting
 pub mod Listing
+pub mod Finding
+pub mod Said
 pub mod Apart
 pub mod Repeated
 pub mod Closing

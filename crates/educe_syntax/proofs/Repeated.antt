@@ -7,7 +7,7 @@ use Rattle.std.specs.Str.{bytes_eq}
 use Rattle.educe_tokens.specs.declared.error.EduceError.{EduceError}
 use Rattle.educe_tokens.specs.declared.error.Kind.TheVariants as kind
 use Rattle.educe_tokens.specs.declared.token.Token.{Token}
-use Rattle.educe_tokens.specs.Built.{placeless}
+use Rattle.educe_tokens.specs.Refusals.{placeless}
 use Rattle.educe_syntax.specs.declared.data.Field.{Field}
 use Rattle.educe_syntax.specs.declared.derive.DeriveInput.{DeriveInput}
 use Rattle.educe_syntax.specs.declared.derive.Shape.{Shape}
@@ -18,15 +18,16 @@ use Rattle.educe_syntax.specs.declared.traits.Trait.{Trait}
 use Rattle.educe_syntax.specs.Built.{AreApart, IsBuilt, IsNamed, IsRepeated, name_of, shape_fields, fields_of}
 use Rattle.educe_syntax.specs.Reading.{Listed, IsField, Reads}
 use Rattle.educe_syntax.specs.Refusal.{refusal_of, duplicate_of, IsRefusalOf}
-use Rattle.educe_syntax.proofs.Apart.{IsText, bytes_of, has_name, same_bytes, all_at, map_snoc}
+use Rattle.educe_syntax.specs.Names.{unraw}
+use Rattle.educe_syntax.proofs.Apart.{IsText, bare_name, bytes_of, has_name, same_bytes, all_at, map_snoc}
 
--- an earlier field of this name
+-- an earlier field of this name, a leading `r#` aside
 record Earlier (before : List Field) (field : Field) : Type 0 where
   pub front : List Field
   pub first : Field
   pub between : List Field
   pub is : before ≡ front ++ first ∷ between
-  pub same : name_of first ≡ name_of field
+  pub same : bare_name first ≡ bare_name field
 
 either : (a b : Bool) → (a || b) ≡ true → (a ≡ true) ⊎ (b ≡ true)
 either true b h = inl refl
@@ -45,10 +46,10 @@ earlier (f ∷ fs) field texts text found =
 name_is : (ident : Option Ident) (found : Ident) → ident ≡ Some found → (elim ident [ None ↦ [] | Some i ↦ i.text ]) ≡ found.text
 name_is ident found is = ap (λ (o : Option Ident). elim o [ None ↦ [] | Some i ↦ i.text ]) is
 
--- a name that occurs before is given twice
+-- a name that occurs before is given twice, for the first time where those before are apart
 pub repeated : (before after : List Field) (field : Field) (ident : Ident) → AllByRecursion IsText before → IsText field → has_name before (bytes_of field) ≡ true
-    → field.ident ≡ Some ident → IsRepeated ident (before ++ field ∷ after)
-repeated before after field ident texts text found named =
+    → AreApart (map name_of before) → field.ident ≡ Some ident → IsRepeated ident (before ++ field ∷ after)
+repeated before after field ident texts text found apart named =
     let e = earlier before field texts text found in record {
       before = e.front;
       first = e.first;
@@ -57,7 +58,8 @@ repeated before after field ident texts text found named =
       after = after;
       is = ap (λ fs. fs ++ field ∷ after) e.is ∙ append_assoc e.front (e.first ∷ e.between) (field ∷ after);
       named = named;
-      same = e.same ∙ name_is field.ident ident named;
+      same = e.same ∙ ap unraw (name_is field.ident ident named);
+      apart = subst (λ (fs : List Field). AreApart (map name_of fs)) e.is apart;
     }
 
 -- the later name is answered
@@ -77,13 +79,13 @@ answers_some P field (Some ident) named is = tt
 -- where a name is given twice, names don't differ
 pub repeated_together : (fields : List Field) (ident : Ident) → IsRepeated ident fields → AreApart (map name_of fields) → ⊥
 repeated_together fields ident is apart =
-    together is.before is.first is.between is.later is.after (is.same ∙ sym (name_is is.later.ident ident is.named)) (subst (λ fs. AreApart (map name_of fs)) is.is apart)
+    together is.before is.first is.between is.later is.after (is.same ∙ sym (ap unraw (name_is is.later.ident ident is.named))) (subst (λ fs. AreApart (map name_of fs)) is.is apart)
   where
-    together : (before : List Field) (first : Field) (between : List Field) (later : Field) (after : List Field) → name_of first ≡ name_of later
+    together : (before : List Field) (first : Field) (between : List Field) (later : Field) (after : List Field) → bare_name first ≡ bare_name later
         → AreApart (map name_of (before ++ first ∷ (between ++ later ∷ after))) → ⊥
     together [] first between later after same apart =
-        all_at (λ other. name_of first ≢ other) (map name_of between) (map name_of after) (name_of later)
-        (subst (AllByRecursion (λ other. name_of first ≢ other)) (map_snoc name_of between (later ∷ after)) apart.0) same
+        all_at (λ other. bare_name first ≢ unraw other) (map name_of between) (map name_of after) (name_of later)
+        (subst (AllByRecursion (λ other. bare_name first ≢ unraw other)) (map_snoc name_of between (later ∷ after)) apart.0) same
     together (f ∷ fs) first between later after same apart = together fs first between later after same apart.1
 
 fields_named : {listed : List Trait} {tokens : List Token} {fields : List Field} → Listed (IsField listed) tokens fields → AllByRecursion IsNamed fields
@@ -96,10 +98,14 @@ pub read_named : (tokens : List Token) (definition : DeriveInput) → Reads toke
 read_named tokens definition reads =
     subst (λ (shape : Shape). AllByRecursion IsNamed (shape_fields shape)) (sym reads.body.shape) (fields_named reads.body.fields_are)
 
--- a refusal of the parser is one of the tokens
-pub refused : (tokens : List Token) (e : ParseError) → IsRefusalOf tokens (refusal_of e)
-refused tokens Unbuilt = IsRefusalOf.unbuilt
-refused tokens Memory = IsRefusalOf.memory
+-- a refusal of the parser, which none is but for want of memory where the tokens are a definition that is built, is one
+-- of the tokens
+pub refused : (tokens : List Token) (e : ParseError) → ((definition : DeriveInput) → Reads tokens definition → IsBuilt definition → e ≡ Memory) → IsRefusalOf tokens (refusal_of e)
+refused tokens Unbuilt only = IsRefusalOf.unbuilt (λ definition reads built. not_memory (only definition reads built))
+  where
+    not_memory : Unbuilt ≡ Memory → ⊥
+    not_memory same = cc
+refused tokens Memory only = IsRefusalOf.memory
 
 -- the refusal of a name that is given twice, or of want of memory
 pub refused_name : (tokens : List Token) (definition : DeriveInput) (ident : Ident) (e : EduceError) → Reads tokens definition → IsBuilt definition

@@ -4,9 +4,9 @@ use Rattle.std.specs.Prelude.{IsTrue, Bool}
 use mathlib.Core.HLevel.{is_prop→PathP}
 use mathlib.Core.Bool.{Bool-set}
 use Rattle.educe_tokens.specs.declared.span.Span.{Span}
-use Rattle.educe_tokens.specs.declared.token.TokenKind.TheVariants as kind
+use Rattle.educe_pieces.specs.declared.kind.TokenKind.TheVariants as kind
 use Rattle.educe_tokens.specs.declared.written.Written.{Written}
-use Rattle.educe_tokens.specs.Pieces.{spells}
+use Rattle.educe_pieces.specs.Pieces.{spells}
 use Rattle.educe_tokens.specs.Text.{is_written}
 use Rattle.educe_tokens.specs.Lexes.{lexemes}
 use Rattle.educe_syntax.specs.declared.ident.Ident.{Ident}

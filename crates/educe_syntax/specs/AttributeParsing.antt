@@ -1,7 +1,7 @@
 -- The attributes of the grammar as a plain slow program.
 use Rattle.std.specs.Prelude.{◌≡◌, Bool, true, false, if◌then◌else◌, IsTrue, List, [], ◌∷◌, refl, Ok, Err}
 use Rattle.educe_tokens.specs.declared.token.Token.{Token}
-use Rattle.educe_tokens.specs.declared.token.Bracket.TheVariants.{Round, Square}
+use Rattle.educe_pieces.specs.declared.kind.Bracket.TheVariants.{Round, Square}
 use Rattle.educe_tokens.specs.Lexes.{lexemes}
 use Rattle.educe_tokens.specs.Text.{is_written}
 use Rattle.educe_syntax.specs.declared.attr.Attribute.{Attribute}

@@ -1,7 +1,8 @@
 -- The form that is built so far, on the definition that was read.
-use Rattle.std.specs.Prelude.{◌≡◌, ◌≢◌, ℕ, List, [], ◌∷◌, ◌++◌, Some, None, IsSome, Result, Ok, Err, codes}
+use Rattle.std.specs.Prelude.{◌≡◌, ◌≢◌, ℕ, List, [], ◌∷◌, ◌++◌, map, Some, None, IsSome, Result, Ok, Err, codes}
 use Rattle.std.specs.List.{AllByRecursion}
 use Rattle.educe_tokens.specs.declared.token.Token.{Token}
+use Rattle.educe_pieces.specs.declared.kind.TokenKind.TheVariants as kind
 use Rattle.educe_tokens.specs.declared.error.EduceError.{EduceError}
 use Rattle.educe_tokens.specs.declared.error.Kind.TheVariants.{Alloc}
 use Rattle.educe_syntax.specs.declared.data.Field.{Field}
@@ -9,6 +10,7 @@ use Rattle.educe_syntax.specs.declared.ident.Ident.{Ident}
 use Rattle.educe_syntax.specs.declared.derive.DeriveInput.{DeriveInput}
 use Rattle.educe_syntax.specs.declared.derive.Shape.{Shape}
 use Rattle.educe_syntax.specs.declared.derive.Shape.TheVariants.{Struct}
+use Rattle.educe_syntax.specs.Names.{unraw}
 
 -- the fields of a definition, in written order
 abbrev pub shape_fields : Shape → List Field
@@ -25,20 +27,24 @@ name_of field = elim field.ident [ None ↦ [] | Some ident ↦ ident.text ]
 abbrev pub IsNamed : Field → Type 0
 IsNamed field = IsSome field.ident
 
--- each differs from all that follow it
+-- each differs from all that follow it, a leading `r#` aside
 abbrev pub AreApart : List (List ℕ) → Type 0
 AreApart [] = Unit {0}
-AreApart (name ∷ names) = AllByRecursion (λ other. name ≢ other) names × AreApart names
+AreApart (name ∷ names) = AllByRecursion (λ later. unraw name ≢ unraw later) names × AreApart names
 
--- no token is the word `other`
+-- the token is no identifier of this name, a leading `r#` aside
+abbrev pub IsNotNamed : List ℕ → Token → Type 0
+IsNotNamed name t = t.kind ≡ kind.Ident → unraw t.spelling ≢ unraw name
+
+-- no identifier is `other` or `r#other`
 abbrev pub HasNoOther : List Token → Type 0
-HasNoOther tokens = AllByRecursion (λ (t : Token). t.spelling ≢ codes "other") tokens
+HasNoOther tokens = AllByRecursion (IsNotNamed (codes "other")) tokens
 
--- no token is the word `other`
+-- no identifier is `other` or `r#other`
 pub record IsBuilt (definition : DeriveInput) : Type 0 where
   pub no_other : HasNoOther definition.tokens
 
--- two fields have one name, and this is the later one's
+-- two fields have one name, a leading `r#` aside, and this is the later one's; the names before it are apart
 pub record IsRepeated (ident : Ident) (fields : List Field) : Type 0 where
   pub before : List Field
   pub first : Field
@@ -47,7 +53,8 @@ pub record IsRepeated (ident : Ident) (fields : List Field) : Type 0 where
   pub after : List Field
   pub is : fields ≡ before ++ first ∷ (between ++ later ∷ after)
   pub named : later.ident ≡ Some ident
-  pub same : name_of first ≡ ident.text
+  pub same : unraw (name_of first) ≡ unraw ident.text
+  pub apart : AreApart (map name_of (before ++ first ∷ between))
 
 -- the definition, unless memory fails
 abbrev pub IsDefinition : DeriveInput → Result DeriveInput EduceError → Type 0

@@ -5,6 +5,7 @@ pub mod Rank
 pub mod Terminals
 pub mod Reading
 pub mod Settings
+pub mod Said
 pub mod Steps
 pub mod TokenLaws
 pub mod AttributeParsing

@@ -1,9 +1,9 @@
 -- Names and keywords (Rust Reference, Keywords).
-use Rattle.std.specs.Prelude.{ℕ, Bool, false, ◌&&◌, not, List, [], ◌∷◌, codes}
+use Rattle.std.specs.Prelude.{ℕ, ◌==◌, Bool, false, ◌&&◌, not, if◌then◌else◌, List, [], ◌∷◌, codes}
 use Rattle.std.specs.List.{list_any}
 use Rattle.std.specs.Str.{bytes_eq}
-use Rattle.educe_tokens.specs.declared.token.TokenKind.{TokenKind}
-use Rattle.educe_tokens.specs.declared.token.TokenKind.TheVariants.{Ident, Lifetime, Literal, Punct, Start, Stop, Doc}
+use Rattle.educe_pieces.specs.declared.kind.TokenKind.{TokenKind}
+use Rattle.educe_pieces.specs.declared.kind.TokenKind.TheVariants.{Ident, Lifetime, Literal, Punct, Start, Stop, Doc}
 
 -- the strict and reserved keywords of the edition 2021
 abbrev pub keywords : List (List ℕ)
@@ -29,3 +29,19 @@ is_name (Punct c joint) text = false
 is_name (Start b) text = false
 is_name (Stop b) text = false
 is_name Doc text = false
+
+-- the text without a leading `r#` (Rust Reference, Raw identifiers)
+abbrev pub unraw : List ℕ → List ℕ
+unraw [] = []
+unraw (c ∷ []) = c ∷ []
+unraw (c ∷ d ∷ cs) = if (c == 114) && (d == 35) then cs else c ∷ d ∷ cs
+
+-- an identifier of this name, a leading `r#` aside
+abbrev pub is_named : List ℕ → TokenKind → List ℕ → Bool
+is_named name Ident text = bytes_eq (unraw text) (unraw name)
+is_named name Lifetime text = false
+is_named name (Literal l) text = false
+is_named name (Punct c joint) text = false
+is_named name (Start b) text = false
+is_named name (Stop b) text = false
+is_named name Doc text = false

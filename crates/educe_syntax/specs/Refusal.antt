@@ -3,7 +3,7 @@ use Rattle.std.specs.Prelude.{List, [], ◌∷◌}
 use Rattle.educe_tokens.specs.declared.error.EduceError.{EduceError}
 use Rattle.educe_tokens.specs.declared.error.Kind.TheVariants as kind
 use Rattle.educe_tokens.specs.declared.token.Token.{Token}
-use Rattle.educe_tokens.specs.Built.{placeless}
+use Rattle.educe_tokens.specs.Refusals.{placeless}
 use Rattle.educe_syntax.specs.declared.derive.DeriveInput.{DeriveInput}
 use Rattle.educe_syntax.specs.declared.ident.Ident.{Ident}
 use Rattle.educe_syntax.specs.declared.parse_error.ParseError.{ParseError}
@@ -20,9 +20,10 @@ refusal_of Memory = placeless kind.Alloc
 abbrev pub duplicate_of : Ident → EduceError
 duplicate_of ident = record { kind = kind.DuplicateName; span = ident.span; words = ident.text ∷ [] }
 
--- why the tokens are refused
+-- why the tokens are refused: they are no definition of the form that is built so far, two fields have one name, or
+-- memory is short
 pub data IsRefusalOf (tokens : List Token) : EduceError → Type 0 where
-  unbuilt : IsRefusalOf tokens (placeless kind.NotBuilt)
+  unbuilt : ((definition : DeriveInput) → Reads tokens definition → IsBuilt definition → ⊥) → IsRefusalOf tokens (placeless kind.NotBuilt)
   memory : IsRefusalOf tokens (placeless kind.Alloc)
   repeated : (definition : DeriveInput) (ident : Ident) → Reads tokens definition → IsBuilt definition → IsRepeated ident (fields_of definition)
       → IsRefusalOf tokens (duplicate_of ident)

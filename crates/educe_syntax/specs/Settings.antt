@@ -4,7 +4,7 @@ use Rattle.std.specs.List.{list_any}
 use Rattle.std.specs.Str.{bytes_eq}
 use Rattle.educe_tokens.specs.declared.span.Span.{Span}
 use Rattle.educe_tokens.specs.declared.token.Token.{Token}
-use Rattle.educe_tokens.specs.declared.token.Bracket.TheVariants.{Round}
+use Rattle.educe_pieces.specs.declared.kind.Bracket.TheVariants.{Round}
 use Rattle.educe_tokens.specs.Lexes.{lexeme_of}
 use Rattle.educe_syntax.specs.declared.terminal.Terminal.TheVariants as terminal
 use Rattle.educe_syntax.specs.declared.traits.Trait.{Trait}

@@ -2,8 +2,8 @@
 use Rattle.std.specs.Prelude.{ℕ, Bool, false, ◌==◌, List, codes, is_some}
 use Rattle.std.specs.Str.{bytes_eq}
 use Rattle.educe_tokens.specs.declared.token.Token.{Token}
-use Rattle.educe_tokens.specs.declared.token.TokenKind.{TokenKind}
-use Rattle.educe_tokens.specs.declared.token.TokenKind.TheVariants as kind
+use Rattle.educe_pieces.specs.declared.kind.TokenKind.{TokenKind}
+use Rattle.educe_pieces.specs.declared.kind.TokenKind.TheVariants as kind
 use Rattle.educe_tokens.specs.Brackets.{same_bracket}
 use Rattle.educe_syntax.specs.declared.terminal.Keyword.{Keyword}
 use Rattle.educe_syntax.specs.declared.terminal.Keyword.TheVariants as keyword

@@ -3,11 +3,11 @@ use Rattle.std.proofs.Common.{◌≡◌, ℕ, Bool, true, false, List, [], ◌�
 use Rattle.std.proofs.lemmas.Bool.{eqb-true}
 use Rattle.std.specs.Bool.{passes}
 use Rattle.educe_tokens.specs.declared.token.Token.{Token}
-use Rattle.educe_tokens.specs.declared.token.Bracket.{Bracket}
-use Rattle.educe_tokens.specs.declared.token.Bracket.TheVariants.{Round, Square, Curly}
-use Rattle.educe_tokens.specs.declared.token.TokenKind.{TokenKind}
-use Rattle.educe_tokens.specs.declared.token.TokenKind.TheVariants as kind
-use Rattle.educe_tokens.specs.Pieces.{spells}
+use Rattle.educe_pieces.specs.declared.kind.Bracket.{Bracket}
+use Rattle.educe_pieces.specs.declared.kind.Bracket.TheVariants.{Round, Square, Curly}
+use Rattle.educe_pieces.specs.declared.kind.TokenKind.{TokenKind}
+use Rattle.educe_pieces.specs.declared.kind.TokenKind.TheVariants as kind
+use Rattle.educe_pieces.specs.Pieces.{spells}
 use Rattle.educe_tokens.specs.Brackets.{same_bracket}
 use Rattle.educe_tokens.specs.Text.{is_written}
 use Rattle.educe_tokens.specs.Lexes.{lexemes}

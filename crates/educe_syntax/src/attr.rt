@@ -1,8 +1,10 @@
 //! Attributes (Rust Reference, Attributes).
 ghost use Rattle.std.specs.Prelude.{◌≡◌, ◌↔◌, IsTrue, IfOk, chars};
+ghost use Rattle.educe_tokens.specs.Lexes.{lexemes};
+ghost use Rattle.educe_tokens.proofs.Printable.{printable-written, well_formed_from, ends_apart_from, lexes_back_from};
 ghost use Rattle.educe_syntax.specs.Reading.{IsOneWord};
 
-use educe_tokens::{Seq, Span, TokenKind, Written};
+use educe_tokens::{Seq, Span, ToTokens, TokenKind, TokenStream, Written, append};
 use std::alloc::{AllocError, Global};
 
 /// An outer attribute: what stands between `#[` and `]`.
@@ -72,5 +74,19 @@ impl MetaPath {
     {
         let written = self.written.duplicate(alloc)?;
         Ok(MetaPath { written })
+    }
+}
+
+impl ToTokens for MetaPath {
+    ghost lexemes_of = { λ path. lexemes path.written.tokens };
+
+    ghost well_formed = { λ path. well_formed_from (printable-written path.written) };
+
+    ghost ends_apart = { λ path. ends_apart_from (printable-written path.written) };
+
+    ghost lexes_back = { λ path. lexes_back_from (printable-written path.written) };
+
+    fn to_tokens(&self, alloc: Global, tokens: &mut TokenStream) -> Result<(), AllocError> {
+        append(alloc, tokens, &self.written.tokens)
     }
 }

@@ -1,14 +1,17 @@
 //! Identifiers.
-ghost use Rattle.std.specs.Prelude.{◌≡◌, IsTrue, IfOk, OnOk, [], ◌∷◌, ◌++◌, map};
-ghost use Rattle.educe_tokens.specs.declared.token.TokenKind.TheVariants as token;
-ghost use Rattle.educe_tokens.specs.Pieces.{spells};
+ghost use Rattle.std.specs.Prelude.{◌≡◌, IsTrue, IfOk, OnOk, [], ◌∷◌, ◌++◌, map, chars, encode_utf8_all};
+ghost use Rattle.educe_pieces.specs.declared.kind.TokenKind.TheVariants as token;
+ghost use Rattle.educe_pieces.specs.Pieces.{spells};
 ghost use Rattle.educe_tokens.specs.Quote.{is_ascii_name};
 ghost use Rattle.educe_tokens.specs.Appends.{Appends, HasPrefix};
+ghost use Rattle.educe_tokens.proofs.Printable.{printable-ident, well_formed_from, ends_apart_from, lexes_back_from};
+ghost use Rattle.educe_syntax.specs.Names as names;
 
-use educe_tokens::{Span, Spelling, Token, TokenKind, TokenStream};
+use crate::names::unraw;
+use educe_tokens::{Span, Spelling, ToTokens, Token, TokenKind, TokenStream};
 use std::alloc::{AllocError, Global};
 
-/// A name and its place. Names are compared by their characters, a leading `r#` included.
+/// A name as it was written, and its place.
 #[derive(Drop)]
 pub struct Ident {
     pub text: Spelling,
@@ -29,6 +32,15 @@ impl Ident {
         Ok(Ident { text, span })
     }
 
+    /// The name without a leading `r#`, by which names are compared (Rust Reference, Raw
+    /// identifiers).
+    pub fn unraw(&self) -> &str
+        ensures chars { chars result.now ≡ names.unraw self.now.text }
+        ensures bytes { result.now ≡ encode_utf8_all (names.unraw self.now.text) }
+    {
+        unraw(&self.text)
+    }
+
     /// An equal name in memory of its own, its span included.
     pub fn duplicate(&self, alloc: Global) -> Result<Ident, AllocError>
         ensures { IfOk result (λ ident. ident ≡ self.now) }
@@ -39,9 +51,19 @@ impl Ident {
             span: self.span,
         })
     }
+}
+
+impl ToTokens for Ident {
+    ghost lexemes_of = { λ ident. record { kind = token.Ident; spelling = ident.text } ∷ [] };
+
+    ghost well_formed = { λ ident. well_formed_from (printable-ident ident.text ident.spelled) };
+
+    ghost ends_apart = { λ ident. ends_apart_from (printable-ident ident.text ident.spelled) };
+
+    ghost lexes_back = { λ ident. lexes_back_from (printable-ident ident.text ident.spelled) };
 
     /// Appends the name as one token, which keeps its span.
-    pub fn to_tokens(&self, alloc: Global, tokens: &mut TokenStream) -> Result<(), AllocError>
+    fn to_tokens(&self, alloc: Global, tokens: &mut TokenStream) -> Result<(), AllocError>
         ensures ok { OnOk result (Appends
             (record { kind = token.Ident; spelling = self.now.text } ∷ []) tokens.old tokens.new) }
         ensures span { OnOk result (

@@ -1,5 +1,5 @@
 //! Names and keywords (Rust Reference, Keywords).
-ghost use Rattle.std.specs.Prelude.{◌≡◌, chars};
+ghost use Rattle.std.specs.Prelude.{◌≡◌, chars, encode_utf8_all};
 ghost use Rattle.std.specs.Str.{bytes_eq};
 ghost use Rattle.std.specs.List.{list_any};
 ghost use Rattle.educe_syntax.specs.Names as spec;
@@ -46,4 +46,13 @@ pub fn is_name(token: &Token) -> bool
         TokenKind::Ident => !is_spelled(&token.spelling, "_") && !is_keyword(&token.spelling),
         _ => false,
     }
+}
+
+/// The text without a leading `r#` (Rust Reference, Raw identifiers).
+pub fn unraw(text: &Spelling) -> &str
+    ensures chars { chars result.now ≡ spec.unraw text.now }
+    ensures bytes { result.now ≡ encode_utf8_all (spec.unraw text.now) }
+{
+    let text = text.as_str();
+    text.strip_prefix("r#").unwrap_or(text)
 }

@@ -1,7 +1,7 @@
 //! The parser of definitions.
-ghost use Rattle.std.specs.Prelude.{◌≡◌, ◌≢◌, ◌⊎◌, IsTrue, IfOk, IfErr, map};
+ghost use Rattle.std.specs.Prelude.{◌≡◌, ◌⊎◌, IsTrue, IfOk, IfErr, map};
 ghost use Rattle.educe_syntax.specs.Reading as reading;
-ghost use Rattle.educe_tokens.specs.Built.{placeless};
+ghost use Rattle.educe_tokens.specs.Refusals.{placeless};
 ghost use Rattle.educe_syntax.specs.Built.{IsBuilt, IsDefinition, AreApart, name_of, fields_of};
 ghost use Rattle.educe_syntax.specs.Refusal.{refusal_of, duplicate_of, IsRefusalOf};
 ghost use Rattle.educe_syntax.specs.Steps.{Gives, IsTree};
@@ -193,11 +193,9 @@ pub fn parse_derive_input(alloc: Global, tokens: &TokenStream) -> Result<DeriveI
     ensures err { IfErr result (λ e. IsRefusalOf tokens.now e) }
 
     // Where the tokens are such a definition it is answered, unless two fields have one name or
-    // memory fails: there is no other reading, and no other refusal.
+    // memory fails: there is no other reading. Only where there is none is the refusal `NotBuilt`.
     ensures only { (definition : DeriveInput) → reading.Reads tokens.now definition → IsBuilt definition
         → AreApart (map name_of (fields_of definition)) → IsDefinition definition result }
-    ensures met { (definition : DeriveInput) → reading.Reads tokens.now definition → IsBuilt definition
-        → IfErr result (λ e. e.kind ≢ Kind.NotBuilt) }
 {
     let definition = match built(alloc, tokens) {
         Ok(definition) => definition,

@@ -1,9 +1,11 @@
 //! Paths (Rust Reference, Paths).
 ghost use Rattle.std.specs.Prelude.{◌≡◌, IfOk};
+ghost use Rattle.educe_tokens.specs.Lexes.{lexemes};
+ghost use Rattle.educe_tokens.proofs.Printable.{printable-written, well_formed_from, ends_apart_from, lexes_back_from};
 
 use crate::ident::Ident;
 use crate::ty::Ty;
-use educe_tokens::{Seq, Written};
+use educe_tokens::{Seq, ToTokens, TokenStream, Written, append};
 use std::alloc::{AllocError, Global};
 
 /// A path, such as `a::B`; `leading` says that it begins with `::`.
@@ -66,4 +68,18 @@ pub struct ExprPath {
     pub self_type: Option<Ty>,
     pub path: Path,
     pub written: Written,
+}
+
+impl ToTokens for ExprPath {
+    ghost lexemes_of = { λ path. lexemes path.written.tokens };
+
+    ghost well_formed = { λ path. well_formed_from (printable-written path.written) };
+
+    ghost ends_apart = { λ path. ends_apart_from (printable-written path.written) };
+
+    ghost lexes_back = { λ path. lexes_back_from (printable-written path.written) };
+
+    fn to_tokens(&self, alloc: Global, tokens: &mut TokenStream) -> Result<(), AllocError> {
+        append(alloc, tokens, &self.written.tokens)
+    }
 }

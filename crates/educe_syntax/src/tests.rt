@@ -2,10 +2,11 @@ ghost use Rattle.std.specs.Prelude.{◌≤◌, length};
 
 use crate::attr::Meta;
 use crate::derive::DeriveInput;
+use crate::names::unraw;
 use crate::parse::parse_derive_input;
 use crate::settings::{ignores, params_of, rank_in, rank_span_in};
 use crate::traits::Trait;
-use educe_tokens::{EduceError, Kind, Span, lex};
+use educe_tokens::{EduceError, Kind, Span, Spelling, lex};
 use std::alloc::Global;
 use std::test::Fail;
 
@@ -184,5 +185,37 @@ fn copies_a_definition(rt: HostRuntime) -> Result<(), Fail> {
     let copy = definition.duplicate(alloc)?;
     assert_eq!(rt; copy.fields().len(), 1);
     assert_eq!(rt; copy.tokens.len(), 7);
+    Ok(())
+}
+
+#[test]
+fn a_leading_raw_mark_is_no_part_of_a_name(rt: HostRuntime) -> Result<(), Fail> {
+    for (text, name) in [
+        ("r#fn", "fn"),
+        ("r#é", "é"),
+        ("r#r#a", "r#a"),
+        ("r", "r"),
+        ("ra", "ra"),
+        ("R#a", "R#a"),
+        ("", ""),
+    ] {
+        let spelling = Spelling::from_str(rt.alloc(), text)?;
+        assert_eq!(rt; unraw(&spelling), name);
+    }
+    Ok(())
+}
+
+#[test]
+fn reads_raw_names(rt: HostRuntime) -> Result<(), Fail> {
+    let alloc = rt.alloc();
+    let definition = read(alloc, "struct r#S { r#fn: é }").or(Err("refused"))?;
+    assert_eq!(rt; definition.ident.unraw(), "S");
+    let field = definition.fields().get(0).ok_or("no field")?;
+    assert_eq!(rt; field.name(), "r#fn");
+    let ident = field.ident.as_ref().ok_or("no name")?;
+    assert_eq!(rt; ident.unraw(), "fn");
+    assert!(rt; is_refused(alloc, "r#struct S { a: u8 }"));
+    assert!(rt; is_refused(alloc, "struct S { r#other: u8 }"));
+    assert!(rt; is_refused(alloc, "struct S { _: u8 }"));
     Ok(())
 }

@@ -1,8 +1,10 @@
 //! Types (Rust Reference, Types).
 ghost use Rattle.std.specs.Prelude.{◌≡◌, IfOk};
+ghost use Rattle.educe_tokens.specs.Lexes.{lexemes};
+ghost use Rattle.educe_tokens.proofs.Printable.{printable-written, well_formed_from, ends_apart_from, lexes_back_from};
 
 use crate::path::Path;
-use educe_tokens::{Boxed, Written};
+use educe_tokens::{Boxed, ToTokens, TokenStream, Written, append};
 use std::alloc::{AllocError, Global};
 
 /// A type, with its tokens as they were written.
@@ -48,5 +50,19 @@ impl TypeForm {
                 Ok(TypeForm::Path(Some(self_type), path))
             }
         }
+    }
+}
+
+impl ToTokens for Ty {
+    ghost lexemes_of = { λ ty. lexemes ty.written.tokens };
+
+    ghost well_formed = { λ ty. well_formed_from (printable-written ty.written) };
+
+    ghost ends_apart = { λ ty. ends_apart_from (printable-written ty.written) };
+
+    ghost lexes_back = { λ ty. lexes_back_from (printable-written ty.written) };
+
+    fn to_tokens(&self, alloc: Global, tokens: &mut TokenStream) -> Result<(), AllocError> {
+        append(alloc, tokens, &self.written.tokens)
     }
 }

@@ -1,6 +1,6 @@
 use Rattle.std.proofs.Common.{List, ℕ, sym, subst, IsTrue}
-use Rattle.educe_tokens.specs.Pieces.{spells}
-use Rattle.educe_tokens.specs.declared.token.TokenKind.TheVariants as kind
+use Rattle.educe_pieces.specs.Pieces.{spells}
+use Rattle.educe_pieces.specs.declared.kind.TokenKind.TheVariants as kind
 use Rattle.educe_syntax.specs.TokenLaws.{name_spelled}
 use Rattle.educe_syntax.proofs.parse.ident_of.Goals as goal
 

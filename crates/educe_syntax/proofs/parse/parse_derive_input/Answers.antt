@@ -1,22 +1,17 @@
-use Rattle.std.proofs.Common.{◌≡◌, ap, sym, subst, ◌∙◌}
+use Rattle.std.proofs.Common.{ap, sym, subst, ◌∙◌}
 use Rattle.std.specs.List.{AllByRecursion}
 use Rattle.educe_tokens.specs.declared.error.EduceError.{EduceError}
-use Rattle.educe_tokens.specs.declared.error.Kind.TheVariants as kind
 use Rattle.educe_syntax.specs.Built.{IsNamed, IsRepeated, fields_of}
 use Rattle.educe_syntax.specs.Refusal.{refusal_of, IsRefusalOf}
 use Rattle.educe_syntax.proofs.Repeated.{read_named, refused, refused_name, repeated_together}
 use Rattle.educe_syntax.proofs.parse.parse_derive_input.Goals as goal
 
 pub returns-in-Err-clause-err : goal.returns-in-Err-clause-err
-returns-in-Err-clause-err c = subst (IsRefusalOf c.args.tokens.now) (sym c.refusal.ensures) (refused c.args.tokens.now c.in-Err.error)
+returns-in-Err-clause-err c = subst (IsRefusalOf c.args.tokens.now) (sym c.refusal.ensures) (refused c.args.tokens.now c.in-Err.error c.in-Err.ensures.only)
 
 pub returns-in-Err-clause-only : goal.returns-in-Err-clause-only
 returns-in-Err-clause-only c = λ definition reads built apart.
     ap (λ (e : EduceError). e.kind) (c.refusal.ensures ∙ ap refusal_of (c.in-Err.ensures.only definition reads built))
-
-pub returns-in-Err-clause-met : goal.returns-in-Err-clause-met
-returns-in-Err-clause-met c = λ definition reads built unbuilt.
-    let short : c.refusal.result.kind ≡ kind.Alloc = ap (λ (e : EduceError). e.kind) (c.refusal.ensures ∙ ap refusal_of (c.in-Err.ensures.only definition reads built)) in cc
 
 pub repeated_name-requires : goal.repeated_name-requires
 repeated_name-requires c = subst (AllByRecursion IsNamed) (sym c.fields.ensures) (read_named c.args.tokens.now c.in-Ok.definition c.in-Ok.ensures.found)
