@@ -7,6 +7,7 @@ use Rattle.std.specs.Str.{bytes_eq}
 use Rattle.std.proofs.lemmas.Slice.Eq.{bytes_eq-Decides}
 use Rattle.educe_syntax.specs.declared.data.Field.{Field}
 use Rattle.educe_syntax.specs.Built.{name_of, AreApart}
+use Rattle.educe_syntax.proofs.Apart.{written_apart}
 use Rattle.educe_body.specs.declared.value.FieldValue.{FieldValue}
 use Rattle.educe_body.specs.declared.evaluator.Flow.{Flow}
 use Rattle.educe_body.specs.declared.evaluator.Flow.TheVariants.{Gives}
@@ -66,7 +67,7 @@ part_of-at (g ∷ fields) (y ∷ values) f x apart at =
       | inl here ↦
           ap (λ (h : Field). part_of (g ∷ fields) (y ∷ values) (name_of h)) (sym here.0) ∙ part_of-first g fields y values ∙ ap (λ (z : FieldValue). Gives (Part z)) here.1
       | inr later ↦
-          part_of-past g fields y values (name_of f) (name_of-later (name_of g) fields values f x apart.0 later)
+          part_of-past g fields y values (name_of f) (name_of-later (name_of g) fields values f x (written_apart (name_of g) (map name_of fields) apart.0) later)
           ∙ part_of-at fields values f x apart.1 later
     ]
 
@@ -97,5 +98,5 @@ NamesGive-part_of [] (x ∷ values) apart same = absurd (omega arith)
 NamesGive-part_of (f ∷ fields) [] apart same = absurd (omega arith)
 NamesGive-part_of (f ∷ fields) (x ∷ values) apart same = (
   part_of-first f fields x values,
-  names_give-past f x fields values fields values apart.0 (NamesGive-part_of fields values apart.1 (omega arith)),
+  names_give-past f x fields values fields values (written_apart (name_of f) (map name_of fields) apart.0) (NamesGive-part_of fields values apart.1 (omega arith)),
 )

@@ -4,5 +4,4 @@ pub mod Steps
 pub mod Tables
 pub mod Printed
 pub mod Heads
-pub mod Written
 pub mod Spelled

@@ -18,7 +18,7 @@ ItemLexes item = LexesAside (text_of (item_lexemes item)) (item_lexemes item)
 
 -- so does the text of items
 pub spelling_lexes : (items : List Item) → AllByRecursion ItemLexes items → LexesAside (spelling items) (tokens_of items)
-spelling_lexes [] each = ([], refl, refl)
+spelling_lexes [] each = record { pieces = []; reads = refl; carried = refl; tokens_are = refl }
 spelling_lexes (item ∷ items) each =
     let text = text_of (item_lexemes item) in
     subst (λ (whole : List ℕ). LexesAside whole (tokens_of (item ∷ items))) (sym (append_assoc text (10 ∷ []) (spelling items)))

@@ -14,7 +14,7 @@ use Rattle.educe_body.specs.declared.evaluator.Flow.TheVariants.{Stuck}
 use Rattle.educe_body.specs.declared.evaluator.Referent.{Referent}
 use Rattle.educe_body.specs.declared.evaluator.Referent.TheVariants.{This, Other}
 use Rattle.educe_body.specs.declared.evaluator.Binding.{Binding}
-use Rattle.educe_body.specs.Callees.{path_of, spellings}
+use Rattle.educe_body.specs.Callees.{path_of, spellings, segment_is}
 use Rattle.educe_body.specs.Meaning.{part_of, bindings_of}
 
 and-false : (b : Bool) → (b && false) ≡ false
@@ -35,6 +35,34 @@ path_of-short tokens words i short inside =
     let none : Bor (List ℕ) = record { ref_ptr = (0, 0); now = [] } in
     rw (drop_more words i none inside)
     (is_path-short tokens (chars (get_or words i none).now) (map (λ word. chars word.now) (drop (i + 1) words)) short)
+
+-- four tests in a row are three and one
+four_tests : (p q r s : Bool) → (p && (q && (r && s))) ≡ ((p && q && r) && s)
+four_tests true true true s = refl
+four_tests true true false s = refl
+four_tests true false r s = refl
+four_tests false q r s = refl
+
+is_path-step : (tokens : List Token) (word : List ℕ) (words : List (List ℕ)) (a b c : Token) → 3 ≤ length tokens
+    → a ≡ get_or tokens 0 a → b ≡ get_or tokens 1 b → c ≡ get_or tokens 2 c
+    → pointwise bytes_eq (spellings tokens) (path_of (word ∷ words)) ≡ (segment_is a b c word && pointwise bytes_eq (spellings (drop 3 tokens)) (path_of words))
+is_path-step [] word words a b c long x y z = absurd (omega arith)
+is_path-step (t ∷ []) word words a b c long x y z = absurd (omega arith)
+is_path-step (t ∷ u ∷ []) word words a b c long x y z = absurd (omega arith)
+is_path-step (t ∷ u ∷ v ∷ more) word words a b c long x y z =
+    four_tests (bytes_eq t.spelling (codes ":")) (bytes_eq u.spelling (codes ":")) (bytes_eq v.spelling word) (pointwise bytes_eq (spellings more) (path_of words))
+    ∙ (λ i. segment_is (sym x i) (sym y i) (sym z i) word && pointwise bytes_eq (spellings more) (path_of words))
+
+-- three tokens are a path of more words where they are the first of these and the rest is a path of the others
+pub path_of-step : (tokens : List Token) (words : List (Bor (List ℕ))) (i : ℕ) (a b c : Token) → 3 ≤ length tokens → i < length words
+    → a ≡ get_or tokens 0 a → b ≡ get_or tokens 1 b → c ≡ get_or tokens 2 c
+    → pointwise bytes_eq (spellings tokens) (path_of (map (λ word. chars word.now) (drop i words)))
+    ≡ (segment_is a b c (chars (get_or words i (record { ref_ptr = (0, 0); now = [] })).now)
+    && pointwise bytes_eq (spellings (drop 3 tokens)) (path_of (map (λ word. chars word.now) (drop (i + 1) words))))
+path_of-step tokens words i a b c long inside x y z =
+    let none : Bor (List ℕ) = record { ref_ptr = (0, 0); now = [] } in
+    rw (drop_more words i none inside)
+    (is_path-step tokens (chars (get_or words i none).now) (map (λ word. chars word.now) (drop (i + 1) words)) a b c long x y z)
 
 -- no value has a name
 pub part_of-nil : (fields : List Field) (name : List ℕ) → part_of fields [] name ≡ Stuck

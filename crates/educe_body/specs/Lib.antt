@@ -4,3 +4,4 @@ pub mod Meaning
 pub mod Tokens
 pub mod BuiltIn
 pub mod Printing
+pub mod TokenLaws

@@ -1,5 +1,5 @@
 //! The paths of the functions that are built in.
-ghost use Rattle.std.specs.Prelude.{◌≡◌, IfOk, IsTrue, true, map, codes, [], ◌∷◌};
+ghost use Rattle.std.specs.Prelude.{◌≡◌, IfOk, IsTrue, true, None, map, codes, [], ◌∷◌};
 ghost use Rattle.educe_tokens.specs.Lexes.{lexemes};
 ghost use Rattle.educe_tokens.specs.Quote.{is_ascii_name, is_template, quoted};
 ghost use Rattle.educe_tokens.specs.Text.{is_written};
@@ -48,6 +48,7 @@ fn comparison_path(
     requires template { IsTrue (is_template text.now) }
     requires written { IsTrue (is_written (quoted text.now)) }
     ensures tokens { IfOk result (λ path. lexemes path.written.tokens ≡ quoted text.now) }
+    ensures unqualified { IfOk result (λ path. path.self_type ≡ None) }
     ensures leading { IfOk result (λ path. path.path.leading ≡ true) }
     ensures names { IfOk result (λ path. map (λ s. s.ident.text) path.path.segments ≡ codes "core" ∷ codes "cmp" ∷ which.now ∷ function.now ∷ []) }
 {
@@ -67,6 +68,7 @@ fn comparison_path(
 #[tactic(auto, unfolding(educe_tokens::specs::Quote::quoted))]
 pub fn built_in_path(alloc: Global, callee: &Callee) -> Result<ExprPath, AllocError>
     ensures tokens { IfOk result (λ path. lexemes path.written.tokens ≡ path_lexemes callee.now) }
+    ensures unqualified { IfOk result (λ path. path.self_type ≡ None) }
     ensures leading { IfOk result (λ path. path.path.leading ≡ true) }
     ensures names { IfOk result (λ path. map (λ s. s.ident.text) path.path.segments ≡ path_names callee.now) }
 {

@@ -2,21 +2,27 @@
 ghost use Rattle.std.specs.Prelude.{◌≡◌, OnOk, map};
 ghost use Rattle.std.specs.List.{flat_map};
 ghost use Rattle.educe_tokens.specs.Appends.{Appends, HasPrefix};
+ghost use Rattle.educe_tokens.proofs.Printable.{well_formed_from, ends_apart_from, lexes_back_from};
 ghost use Rattle.educe_body.specs.Printing.{comma_before, separated};
 ghost use Rattle.educe_body.specs.Tokens.{in_curly, in_some, known_lexemes, form_lexemes};
+ghost use Rattle.educe_body.specs.TokenLaws.{known_printable, form_printable};
 
 use crate::form::{Form, Forms, Known};
 use crate::print_orders::{push_arm_block, push_order, push_some_order};
 use educe_syntax::{ExprPath, Ident};
-use educe_tokens::{TokenStream, Word, append, push_word, quote};
+use educe_tokens::{ToTokens, TokenStream, Word, push_word, quote};
 use std::alloc::{AllocError, Global};
 
-impl Known {
-    /// Appends the tokens of the answer.
-    pub fn to_tokens(&self, alloc: Global, tokens: &mut TokenStream) -> Result<(), AllocError>
-        ensures ok { OnOk result (Appends (known_lexemes self.now) tokens.old tokens.new) }
-        ensures prefix { HasPrefix tokens.old tokens.new }
-    {
+impl ToTokens for Known {
+    ghost lexemes_of = { known_lexemes };
+
+    ghost well_formed = { λ known. well_formed_from (known_printable known) };
+
+    ghost ends_apart = { λ known. ends_apart_from (known_printable known) };
+
+    ghost lexes_back = { λ known. lexes_back_from (known_printable known) };
+
+    fn to_tokens(&self, alloc: Global, tokens: &mut TokenStream) -> Result<(), AllocError> {
         match self {
             Known::Truth(true) => quote(alloc, tokens, "true"),
             Known::Truth(false) => quote(alloc, tokens, "false"),
@@ -31,13 +37,17 @@ impl Known {
     }
 }
 
-impl Form {
-    /// Appends the tokens of the form.
+impl ToTokens for Form {
+    ghost lexemes_of = { form_lexemes };
+
+    ghost well_formed = { λ form. well_formed_from (form_printable form) };
+
+    ghost ends_apart = { λ form. ends_apart_from (form_printable form) };
+
+    ghost lexes_back = { λ form. lexes_back_from (form_printable form) };
+
     #[cycle(print)]
-    pub fn to_tokens(&self, alloc: Global, tokens: &mut TokenStream) -> Result<(), AllocError>
-        ensures ok { OnOk result (Appends (form_lexemes self.now) tokens.old tokens.new) }
-        ensures prefix { HasPrefix tokens.old tokens.new }
-    {
+    fn to_tokens(&self, alloc: Global, tokens: &mut TokenStream) -> Result<(), AllocError> {
         match self {
             Form::Local(name) => name.to_tokens(alloc, tokens),
             Form::Known(known) => known.to_tokens(alloc, tokens),
@@ -93,7 +103,7 @@ fn push_call(
         OnOk result (Appends (form_lexemes form) tokens.old tokens.new) }
     ensures prefix { HasPrefix tokens.old tokens.new }
 {
-    append(alloc, tokens, &path.written.tokens)?;
+    path.to_tokens(alloc, tokens)?;
     quote(alloc, tokens, "(")?;
     push_arguments(alloc, tokens, arguments)?;
     quote(alloc, tokens, ")")

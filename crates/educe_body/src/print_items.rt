@@ -4,12 +4,14 @@ ghost use Rattle.std.specs.List.{flat_map};
 ghost use Rattle.educe_tokens.specs.Lexes.{lexemes};
 ghost use Rattle.educe_tokens.specs.Quote.{is_template, quoted};
 ghost use Rattle.educe_tokens.specs.Appends.{Appends, HasPrefix};
+ghost use Rattle.educe_tokens.proofs.Printable.{well_formed_from, ends_apart_from, lexes_back_from};
 ghost use Rattle.educe_body.specs.Tokens.{in_round, name_lexemes, eq_head, partial_cmp_head, cmp_head, other_head, function_head, function_lexemes, trait_path, impl_lexemes, item_lexemes};
+ghost use Rattle.educe_body.specs.TokenLaws.{impl_printable, item_printable};
 
 use crate::body::{Function, Functions, ImplItem, Item, Names};
 use crate::print::push_block;
 use educe_syntax::Trait;
-use educe_tokens::{TokenStream, Word, append, push_word, quote};
+use educe_tokens::{ToTokens, TokenStream, Word, append, push_word, quote};
 use std::alloc::{AllocError, Global};
 
 impl Function {
@@ -171,19 +173,25 @@ fn push_functions(
     Ok(())
 }
 
-impl ImplItem {
-    /// Appends the tokens of the implementation, its attributes first.
-    pub fn to_tokens(&self, alloc: Global, tokens: &mut TokenStream) -> Result<(), AllocError>
-        ensures ok { OnOk result (Appends (impl_lexemes self.now) tokens.old tokens.new) }
-        ensures prefix { HasPrefix tokens.old tokens.new }
-    {
+impl ToTokens for ImplItem {
+    ghost lexemes_of = { impl_lexemes };
+
+    ghost well_formed = { λ item. well_formed_from (impl_printable item) };
+
+    ghost ends_apart = { λ item. ends_apart_from (impl_printable item) };
+
+    ghost lexes_back = { λ item. lexes_back_from (impl_printable item) };
+
+    fn to_tokens(&self, alloc: Global, tokens: &mut TokenStream) -> Result<(), AllocError> {
         self.push_head(alloc, tokens)?;
         self.ident.to_tokens(alloc, tokens)?;
         quote(alloc, tokens, "{")?;
         push_functions(alloc, tokens, self.which, &self.functions)?;
         quote(alloc, tokens, "}")
     }
+}
 
+impl ImplItem {
     /// Appends what stands before the name of the type.
     fn push_head(&self, alloc: Global, tokens: &mut TokenStream) -> Result<(), AllocError>
         ensures ok { let attributes = lexemes self.now.attributes.tokens in
@@ -199,12 +207,16 @@ impl ImplItem {
     }
 }
 
-impl Item {
-    /// Appends the tokens of the item.
-    pub fn to_tokens(&self, alloc: Global, tokens: &mut TokenStream) -> Result<(), AllocError>
-        ensures ok { OnOk result (Appends (item_lexemes self.now) tokens.old tokens.new) }
-        ensures prefix { HasPrefix tokens.old tokens.new }
-    {
+impl ToTokens for Item {
+    ghost lexemes_of = { item_lexemes };
+
+    ghost well_formed = { λ item. well_formed_from (item_printable item) };
+
+    ghost ends_apart = { λ item. ends_apart_from (item_printable item) };
+
+    ghost lexes_back = { λ item. lexes_back_from (item_printable item) };
+
+    fn to_tokens(&self, alloc: Global, tokens: &mut TokenStream) -> Result<(), AllocError> {
         match self {
             Item::Impl(item) => item.to_tokens(alloc, tokens),
         }

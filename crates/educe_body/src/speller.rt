@@ -7,7 +7,7 @@ ghost use Rattle.educe_tokens.specs.Text.{text_of, is_written};
 ghost use Rattle.educe_body.specs.Tokens.{item_lexemes, tokens_of, spelling};
 
 use crate::body::{Item, Items};
-use educe_tokens::{TokenStream, text};
+use educe_tokens::text_of_tree;
 use std::alloc::{AllocError, Global};
 
 /// Adds the text of an item, and a line feed behind it.
@@ -16,9 +16,7 @@ fn push_item(alloc: Global, out: &mut String, item: &Item) -> Result<(), AllocEr
         chars (string_bytes out.old) ++ (text_of (item_lexemes item.now) ++ 10 ∷ [])) }
     ensures lexes { let found = item_lexemes item.now in OnOk result (LexesAside (text_of found) found) }
 {
-    let mut tokens = TokenStream::new(alloc);
-    item.to_tokens(alloc, &mut tokens)?;
-    let line = text(alloc, &tokens)?;
+    let line = text_of_tree(alloc, item)?;
     out.push_str(&line)?;
     out.push('\n')?;
     Ok(())
@@ -44,7 +42,7 @@ mod tests {
     use crate::built_in::built_in_path;
     use crate::form::{Form, Forms, Known};
     use educe_syntax::{ExprPath, Ident, Path, Trait};
-    use educe_tokens::{Boxed, Seq, Span, TokenKind, Word, Written, quote};
+    use educe_tokens::{Boxed, Seq, Span, TokenKind, TokenStream, Word, Written, quote};
     use std::cmp::Ordering;
     use std::test::Fail;
 
@@ -107,6 +105,22 @@ mod tests {
             name: word(alloc, "eq")?,
             body: Body { params, block },
         })
+    }
+
+    #[test]
+    fn prints_forms_as_trees(rt: HostRuntime) -> Result<(), Fail> {
+        let alloc = rt.alloc();
+        let path = built_in_path(alloc, &Callee::Ne)?;
+        assert_eq!(rt;
+            text_of_tree(alloc, &path)?.as_str(),
+            ":: core :: cmp :: PartialEq :: ne"
+        );
+        let form = compared_field(alloc)?;
+        assert_eq!(rt;
+            text_of_tree(alloc, &form)?.as_str(),
+            "if :: core :: cmp :: PartialEq :: ne ( & self . a , & other . a ) { return false ; }"
+        );
+        Ok(())
     }
 
     #[tactic(auto, unfolding(educe_tokens::specs::Quote::quoted))]

@@ -1,6 +1,6 @@
 use Rattle.std.proofs.lemmas.Result.{on_ok_weaker}
 use Rattle.educe_tokens.proofs.Appending.{Appends-append}
-use Rattle.educe_body.proofs.body.ImplItem.to_tokens.Goals as goal
+use Rattle.educe_body.proofs.print_items.ImplItemToTokens.to_tokens.Goals as goal
 
 pub returns-clause-ok : goal.returns-clause-ok
 returns-clause-ok c =
