@@ -1,19 +1,22 @@
 -- Refusals, their causes and their places.
-use Rattle.std.proofs.Common.{◌≡◌, ◌≢◌, ◌∙◌, ℕ, Bool, true, false, ◌⊎◌, ◌==◌, List, [], ◌∷◌, map, length, Result, Ok, Err, inl, inr, refl, sym, ap, subst, arith, rules, chars, IsUtf8, ℤ, ◌<◌}
+use Rattle.std.proofs.Common.{◌≡◌, ◌≢◌, ◌∙◌, ℕ, Bool, true, false, ◌==◌, List, [], ◌∷◌, map, length, Result, Ok, Err, inl, inr, refl, sym, ap, subst, arith, rules, chars, IsUtf8, ℤ}
 use Rattle.std.specs.Prelude.{IfOk, IfErr, if◌then◌else◌}
 use Rattle.std.specs.List.{AllByRecursion, IsDistinct, filter}
 use Rattle.std.specs.Ordering.{int_eq}
 use Rattle.std.specs.Cmp.{signed_Decides}
 use Rattle.std.specs.Str.{IsCharBoundary}
-use Rattle.std.proofs.lemmas.Bool.{true≢false, false≢true}
+use Rattle.std.proofs.lemmas.Bool.{true≢false}
 use Rattle.std.proofs.lemmas.Str.{IsCharBoundary-start}
 use Rattle.educe_tokens.specs.declared.error.EduceError.{EduceError}
-use Rattle.educe_tokens.specs.declared.error.Kind.{Kind}
-use Rattle.educe_tokens.specs.declared.error.Kind.TheVariants.{NotBuilt, Alloc}
+use Rattle.educe_tokens.specs.declared.error.Kind.TheVariants.{Alloc}
 use Rattle.educe_tokens.specs.declared.span.Span.{Span}
 use Rattle.educe_tokens.specs.declared.token.Token.{Token}
 use Rattle.educe_tokens.specs.Brackets.{IsBalanced, IsShallow}
-use Rattle.educe_tokens.specs.Built.{placeless, IsUnbuiltOrAlloc, HasBuiltTokens}
+use Rattle.educe_tokens.specs.Steps.{IsReading}
+use Rattle.educe_tokens.specs.Refusals.{placeless}
+use Rattle.educe_tokens.proofs.Places as places
+use Rattle.educe_tokens.proofs.Unique.{lexes_one}
+use Rattle.educe_tokens.proofs.Uncaused.{no_cause}
 use Rattle.educe_tokens.specs.Lexes.{Lexes, lexemes}
 use Rattle.educe_tokens.specs.Message.{HasWords}
 use Rattle.educe_syntax.specs.declared.derive.DeriveInput.{DeriveInput}
@@ -51,10 +54,10 @@ pub handler_reuse : (d : DeriveInput) (e : EduceError) (rank : ℤ) (place : Spa
 handler_reuse d e rank place is reuses = subst (IsHandlerCause d) (sym is) (IsHandlerCause.reuse rank place reuses)
 
 -- what the handler refuses has a cause
-pub handler_cause : (source : List ℕ) (d : DeriveInput) (e : EduceError) → Defines (chars source) d → IsHandlerCause d e → IsCause source e
-handler_cause source d e defines (IsHandlerCause.not_set_up none) = IsCause.not_set_up d defines none
-handler_cause source d e defines (IsHandlerCause.reuse rank place reuses) = IsCause.reuse d rank place defines reuses
-handler_cause source d e defines IsHandlerCause.memory = IsCause.memory
+pub handler_cause : (source : List ℕ) (d : DeriveInput) (e : EduceError) → Defines (chars source) d → AreApart (map name_of (fields_of d)) → IsHandlerCause d e → IsCause source e
+handler_cause source d e defines apart (IsHandlerCause.not_set_up none) = IsCause.not_set_up d defines apart none
+handler_cause source d e defines apart (IsHandlerCause.reuse rank place reuses) = IsCause.reuse d rank place defines apart reuses
+handler_cause source d e defines apart IsHandlerCause.memory = IsCause.memory
 
 -- ---- ranks that are apart
 
@@ -71,7 +74,7 @@ one_of_rank rank (z ∷ zs) x y apart (inr later) (inl here) same =
     absurd (true≢false (sym ((signed_Decides (rank z) (rank x)).1 (ap rank here ∙ sym same)) ∙ differ))
 one_of_rank rank (z ∷ zs) x y apart (inr later) (inr also) same = one_of_rank rank zs x y apart.1 later also same
 
-reuse_apart : (which : Trait) (d : DeriveInput) (rank : ℤ) (place : Span) → ReusesARank which d rank place → RanksDiffer which d → ⊥
+pub reuse_apart : (which : Trait) (d : DeriveInput) (rank : ℤ) (place : Span) → ReusesARank which d rank place → RanksDiffer which d → ⊥
 reuse_apart which d rank place reuses apart =
     let kept = kept_fields which d in
     let same = one_of_rank (λ (k : Kept). k.rank) kept reuses.first reuses.later apart (In-from_Contains kept reuses.first reuses.first_kept) (In-from_Contains kept reuses.later reuses.later_kept)
@@ -83,7 +86,7 @@ filtered_step P y rest true each = each.1
 filtered_step P y rest false each = each
 
 -- what holds of each that passes holds of one that does
-each_filtered : {X : Type 0} (P : X → Type 0) (p : X → Bool) (xs : List X) (x : X) → AllByRecursion P (filter p xs) → In x xs → p x ≡ true → P x
+pub each_filtered : {X : Type 0} (P : X → Type 0) (p : X → Bool) (xs : List X) (x : X) → AllByRecursion P (filter p xs) → In x xs → p x ≡ true → P x
 each_filtered P p [] x each has passes = absurd has
 each_filtered P p (y ∷ ys) x each (inl here) passes =
     let kept : (if p y then y ∷ filter p ys else filter p ys) ≡ y ∷ filter p ys = ap (λ (b : Bool). if b then y ∷ filter p ys else filter p ys) (ap p here ∙ passes) in
@@ -116,82 +119,70 @@ given other (Err e) = other
 pub one_definition : (tokens : List Token) (d found : DeriveInput) → Reads tokens d → Reads tokens found → found ≡ d
 one_definition tokens d found reads also = ap (given d) (sym (definition_again tokens found also) ∙ definition_again tokens d reads)
 
-not_alloc : NotBuilt ≡ Alloc → ⊥
-not_alloc same = cc
-
--- what has no tokens is no definition
-pub unlexed_cause : (source : List ℕ) (e : EduceError) → IsUnbuiltOrAlloc e → ((d : DeriveInput) → Defines (chars source) d → e.kind ≡ Alloc) → IsCause source e
-unlexed_cause source e (inl is) only = subst (IsCause source) (sym is) (IsCause.unbuilt (λ d defines. not_alloc (sym (ap (λ (x : EduceError). x.kind) is) ∙ only d defines)))
-unlexed_cause source e (inr is) only = subst (IsCause source) (sym is) IsCause.memory
-
 pub memory_cause : (source : List ℕ) (e : EduceError) → e ≡ placeless Alloc → IsCause source e
 memory_cause source e is = subst (IsCause source) (sym is) IsCause.memory
 
--- the tokens of a text
-pub record AreTokens (source : List ℕ) (tokens : List Token) : Type 0 where
-  pub lexes : Lexes (chars source) tokens
-  pub balanced : IsBalanced (lexemes tokens)
-  pub shallow : IsShallow (lexemes tokens)
-  pub built_tokens : HasBuiltTokens (lexemes tokens)
-  pub only : (d : DeriveInput) → Defines (chars source) d → tokens ≡ d.tokens
-
 -- a text is the definition that its tokens are
-defined_by : (source : List ℕ) (tokens : List Token) (d : DeriveInput) → AreTokens source tokens → Reads tokens d → IsBuilt d → Defines (chars source) d
+defined_by : (source : List ℕ) (tokens : List Token) (d : DeriveInput) → IsReading (chars source) tokens → Reads tokens d → IsBuilt d → Defines (chars source) d
 defined_by source tokens d are reads built =
     let same = sym reads.whole in record {
       lexes = subst (Lexes (chars source)) same are.lexes;
       balanced = subst (λ (ts : List Token). IsBalanced (lexemes ts)) same are.balanced;
       shallow = subst (λ (ts : List Token). IsShallow (lexemes ts)) same are.shallow;
-      built_tokens = subst (λ (ts : List Token). HasBuiltTokens (lexemes ts)) same are.built_tokens;
       reads = subst (λ (ts : List Token). Reads ts d) same reads;
       built = built;
     }
 
-reads_by : (source : List ℕ) (tokens : List Token) (d : DeriveInput) → AreTokens source tokens → Defines (chars source) d → Reads tokens d
-reads_by source tokens d are defines = subst (λ (ts : List Token). Reads ts d) (sym (are.only d defines)) defines.reads
+-- the tokens of a text are those of the definition that it is
+pub reads_of : (source : List ℕ) (tokens : List Token) (d : DeriveInput) → Lexes (chars source) tokens → Defines (chars source) d → Reads tokens d
+reads_of source tokens d lexes defines = subst (λ (ts : List Token). Reads ts d) (lexes_one (chars source) d.tokens tokens defines.lexes lexes) defines.reads
 
-refused_cause : (source : List ℕ) (tokens : List Token) (e : EduceError) → AreTokens source tokens → IsRefusalOf tokens e → ((d : DeriveInput) → Reads tokens d → IsBuilt d → e.kind ≢ NotBuilt) → IsCause source e
-refused_cause source tokens e are unbuilt met = IsCause.unbuilt (λ d defines. met d (reads_by source tokens d are defines) defines.built refl)
-refused_cause source tokens e are memory met = IsCause.memory
-refused_cause source tokens e are (repeated d ident reads built repeats) met = IsCause.duplicate d ident (defined_by source tokens d are reads built) repeats
+refused_cause : (source : List ℕ) (tokens : List Token) (e : EduceError) → IsReading (chars source) tokens → IsRefusalOf tokens e → IsCause source e
+refused_cause source tokens e are (unbuilt none) = IsCause.unbuilt tokens are.lexes are.balanced are.shallow none
+refused_cause source tokens e are memory = IsCause.memory
+refused_cause source tokens e are (repeated d ident reads built repeats) = IsCause.duplicate d ident (defined_by source tokens d are reads built) repeats
 
 -- what the parser refuses has a cause
-pub parsed_cause : (source : List ℕ) (tokens : List Token) (r : Result DeriveInput EduceError) → AreTokens source tokens → IfErr r (IsRefusalOf tokens)
-    → ((d : DeriveInput) → Reads tokens d → IsBuilt d → IfErr r (λ e. e.kind ≢ NotBuilt)) → IfErr r (IsCause source)
-parsed_cause source tokens (Ok found) are refused met = tt
-parsed_cause source tokens (Err e) are refused met = refused_cause source tokens e are refused met
+pub parsed_cause : (source : List ℕ) (tokens : List Token) (r : Result DeriveInput EduceError) → IsReading (chars source) tokens → IfErr r (IsRefusalOf tokens) → IfErr r (IsCause source)
+parsed_cause source tokens (Ok found) are refused = tt
+parsed_cause source tokens (Err e) are refused = refused_cause source tokens e are refused
 
 -- a text is one definition
-pub parsed_once : (source : List ℕ) (tokens : List Token) (r : Result DeriveInput EduceError) → AreTokens source tokens → IfOk r (Reads tokens)
+pub parsed_once : (source : List ℕ) (tokens : List Token) (r : Result DeriveInput EduceError) → IsReading (chars source) tokens → IfOk r (Reads tokens)
     → IfOk r (λ found. (d : DeriveInput) → Defines (chars source) d → found ≡ d)
-parsed_once source tokens (Ok found) are reads = λ d defines. one_definition tokens d found (reads_by source tokens d are defines) reads
+parsed_once source tokens (Ok found) are reads = λ d defines. one_definition tokens d found (reads_of source tokens d are.lexes defines) reads
 parsed_once source tokens (Err e) are reads = tt
 
 -- ---- words and places
 
 pub cause_words : (source : List ℕ) (e : EduceError) → IsCause source e → HasWords e.kind e.words
-cause_words source e (IsCause.unbuilt none) = refl
-cause_words source e (IsCause.not_set_up d defines none) = refl
+cause_words source e (IsCause.lexical cause) = places.cause_words (chars source) e cause
+cause_words source e (IsCause.unbuilt tokens lexes balanced shallow none) = refl
+cause_words source e (IsCause.not_set_up d defines apart none) = refl
 cause_words source e (IsCause.duplicate d ident defines repeats) = refl
-cause_words source e (IsCause.reuse d rank place defines reuses) = refl
+cause_words source e (IsCause.reuse d rank place defines apart reuses) = refl
 cause_words source e IsCause.memory = refl
 
 pub cause_placed : (source : List ℕ) (e : EduceError) → IsUtf8 source → IsCause source e → IsCharBoundary source e.span.start
-cause_placed source e utf8 (IsCause.unbuilt none) = IsCharBoundary-start source utf8
-cause_placed source e utf8 (IsCause.not_set_up d defines none) = IsCharBoundary-start source utf8
+cause_placed source e utf8 (IsCause.lexical cause) = places.cause_placed source e utf8 cause
+cause_placed source e utf8 (IsCause.unbuilt tokens lexes balanced shallow none) = IsCharBoundary-start source utf8
+cause_placed source e utf8 (IsCause.not_set_up d defines apart none) = IsCharBoundary-start source utf8
 cause_placed source e utf8 (IsCause.duplicate d ident defines repeats) = name_is_placed source d ident utf8 defines.lexes defines.reads repeats
-cause_placed source e utf8 (IsCause.reuse d rank place defines reuses) = reuse_is_placed source d reuses.which rank place utf8 defines.lexes defines.reads reuses.reuses
+cause_placed source e utf8 (IsCause.reuse d rank place defines apart reuses) = reuse_is_placed source d reuses.which rank place utf8 defines.lexes defines.reads reuses.reuses
 cause_placed source e utf8 IsCause.memory = IsCharBoundary-start source utf8
 
 -- ---- what is done has no cause
 
 pub done_uncaused : (source : List ℕ) (d : DeriveInput) → Defines (chars source) d → ((other : DeriveInput) → Defines (chars source) other → d ≡ other)
     → AreApart (map name_of (fields_of d)) → listed d ≢ [] → HasNoCauses d → (e : EduceError) → e.kind ≢ Alloc → IsCause source e → ⊥
-done_uncaused source d defines only apart lists none e kind (IsCause.unbuilt no_definition) = no_definition d defines
-done_uncaused source d defines only apart lists none e kind (IsCause.not_set_up other other_defines lists_none) = lists (ap listed (only other other_defines) ∙ lists_none)
+done_uncaused source d defines only apart lists none e kind (IsCause.lexical cause) =
+    kind (no_cause (chars source) d.tokens defines.lexes defines.balanced defines.shallow e cause)
+done_uncaused source d defines only apart lists none e kind (IsCause.unbuilt tokens lexes balanced shallow no_definition) =
+    no_definition d (reads_of source tokens d lexes defines) defines.built
+done_uncaused source d defines only apart lists none e kind (IsCause.not_set_up other other_defines names lists_none) = lists (ap listed (only other other_defines) ∙ lists_none)
 done_uncaused source d defines only apart lists none e kind (IsCause.duplicate other ident other_defines repeats) =
     repeated_together (fields_of other) ident repeats (subst (λ (x : DeriveInput). AreApart (map name_of (fields_of x))) (only other other_defines) apart)
-done_uncaused source d defines only apart lists none e kind (IsCause.reuse other rank place other_defines reuses) =
+done_uncaused source d defines only apart lists none e kind (IsCause.reuse other rank place other_defines names reuses) =
     listed_reuse_apart other rank place reuses (subst HasNoCauses (only other other_defines) none)
 done_uncaused source d defines only apart lists none e kind IsCause.memory = kind refl
 

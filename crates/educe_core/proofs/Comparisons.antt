@@ -1,7 +1,7 @@
 -- What the bodies of the comparisons evaluate to.
 use Rattle.std.proofs.Common.{◌≡◌, ℕ, suc, ◌+◌, Bool, true, false, List, [], ◌∷◌, ◌++◌, Option, Some, None, map, length, refl, sym, ap, ◌∙◌, subst, pos}
-use Rattle.std.specs.Prelude.{if◌then◌else◌, IsSome, IsPermutation, unwrap_or, ◌&&◌, codes}
-use Rattle.std.specs.List.{AllByRecursion, AllZip, filter}
+use Rattle.std.specs.Prelude.{if◌then◌else◌, IsSome, unwrap_or, ◌&&◌, codes}
+use Rattle.std.specs.List.{AllByRecursion, AllZip}
 use Rattle.std.specs.declared.cmp.Ordering.TheVariants.{Less, Equal, Greater}
 use Rattle.std.proofs.lemmas.Bool.{false≢true}
 use Rattle.std.proofs.lemmas.List.Sorted.{IsPermutation-map}
@@ -35,14 +35,13 @@ use Rattle.educe_body.specs.declared.evaluator.Outcome.TheVariants.{Truth, Order
 use Rattle.educe_body.specs.Answering.{answer_of}
 use Rattle.educe_body.specs.BuiltIn.{path_lexemes}
 use Rattle.educe_body.specs.Callees.{callee_named, callee_of, spellings}
-use Rattle.educe_body.specs.Meaning.{Scene, value, bindings_of, look_up, part_of, form_value, list_value, call_named, call_answer, reference_value, answer_flow, if_return, match_ordering, go_on, outcome_of}
+use Rattle.educe_body.specs.Meaning.{Scene, bindings_of, look_up, part_of, form_value, list_value, call_named, call_answer, reference_value, answer_flow, if_return, match_ordering, go_on, outcome_of}
 use Rattle.educe_body.proofs.Fields.{NamesGive, NamesGive-part_of}
 use Rattle.educe_body.proofs.Rows.{form_value-Call, form_value-IfReturn, form_value-MatchOrdering}
-use Rattle.educe_core.specs.Ranks.{Rises}
 use Rattle.educe_core.specs.Settings.{Kept, is_kept, kept_at, kept_from, kept_fields}
-use Rattle.educe_core.specs.Comparing.{Compared, compared_from, compared, comparison, comparison_answer, HaveTypes, Covers, IsAnswered, opposite_truth, order_answered, partial_order_answered, says_order, says_partial_order, is_apart, differs_in_order, differs_in_partial_order, order_of, partial_order_of, equal, order, partial_order, meaning}
-use Rattle.educe_core.specs.Blocks.{IsReference, IsComparison, IsStep, step_of, last_of, IsInOrder, HasSteps, IsBody, Evaluates, scene_of}
-use Rattle.educe_core.proofs.Elements.{each_map, each_moved}
+use Rattle.educe_core.specs.Comparing.{Compared, compared_from, compared, comparison, comparison_answer, HaveTypes, IsAnswered, opposite_truth, order_answered, partial_order_answered, is_apart, differs_in_order, differs_in_partial_order, order_of, partial_order_of, equal, order, partial_order, meaning}
+use Rattle.educe_core.specs.Blocks.{IsReference, IsComparison, IsStep, step_of, last_of, IsInOrder, IsBody, Evaluates, scene_of}
+use Rattle.educe_core.proofs.Elements.{each_map}
 use Rattle.educe_core.proofs.Least.{first_where, least_by-first}
 use Rattle.educe_core.proofs.Repeats.{Rises-mapped}
 use Rattle.educe_core.proofs.Handling.{each_in_order}

@@ -1,7 +1,7 @@
 -- Facts of each element of a list.
-use Rattle.std.proofs.Common.{◌≡◌, ℕ, zero, suc, ◌+◌, ◌<◌, ◌⊎◌, inl, inr, Bool, true, false, List, [], ◌∷◌, map, length, get_or, refl, ap, subst, arith}
-use Rattle.std.specs.Prelude.{if◌then◌else◌, IsPermutation, All}
-use Rattle.std.specs.List.{filter, Contains, AllByRecursion}
+use Rattle.std.proofs.Common.{◌≡◌, ℕ, zero, suc, ◌<◌, ◌⊎◌, inl, inr, List, [], ◌∷◌, map, length, get_or, refl, ap, subst, arith}
+use Rattle.std.specs.Prelude.{IsPermutation}
+use Rattle.std.specs.List.{Contains, AllByRecursion}
 use Rattle.std.proofs.lemmas.List.Elements.{recursion_from_All, All-from_recursion}
 use Rattle.std.proofs.lemmas.List.Sorted.{Contains-permutation, All-permutation}
 

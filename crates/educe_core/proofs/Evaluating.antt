@@ -1,17 +1,13 @@
 -- The functions of the blocks evaluate to what their traits mean.
-use Rattle.std.proofs.Common.{◌≡◌, List, [], ◌∷◌, Some, None, map, refl, sym, subst}
-use Rattle.std.specs.Prelude.{IsSome}
+use Rattle.std.proofs.Common.{List, [], ◌∷◌, map, sym, subst}
 use Rattle.std.specs.List.{AllByRecursion, AllZip}
-use Rattle.educe_tokens.specs.declared.token.Token.{Token}
-use Rattle.educe_syntax.specs.declared.data.Field.{Field}
 use Rattle.educe_syntax.specs.declared.derive.DeriveInput.{DeriveInput}
 use Rattle.educe_syntax.specs.declared.traits.Trait.{Trait}
 use Rattle.educe_syntax.specs.Built.{fields_of, name_of, AreApart}
 use Rattle.educe_body.specs.declared.body.Function.{Function}
 use Rattle.educe_body.specs.declared.body.Item.{Item}
 use Rattle.educe_body.specs.declared.body.Item.TheVariants.{Impl}
-use Rattle.educe_core.specs.Listed.{listed_in_order}
-use Rattle.educe_core.specs.Blocks.{IsBlock, Evaluates, EachEvaluates, OneEach}
+use Rattle.educe_core.specs.Blocks.{IsBlock, Evaluates, EachEvaluates}
 use Rattle.educe_core.proofs.Comparisons.{body_evaluates}
 
 -- the functions of a block evaluate to what its trait means

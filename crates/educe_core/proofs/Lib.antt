@@ -7,9 +7,11 @@ pub mod Elements
 pub mod Least
 pub mod Sorting
 pub mod Kept
+pub mod Earliest
 pub mod Repeats
 pub mod Handling
 pub mod Comparisons
 pub mod Evaluating
 pub mod Places
 pub mod Causes
+pub mod Alone

@@ -1,16 +1,14 @@
 -- Characters begin where tokens do, and so where names and ranks stand.
-use Rattle.std.proofs.Common.{◌≡◌, ℕ, ◌+◌, ◌-◌, Bool, true, false, ◌&&◌, List, [], ◌∷◌, ◌++◌, Option, Some, None, map, length, refl, sym, ap, ◌∙◌, subst, arith, rules, append_assoc, length-append, chars, IsUtf8, encode_utf8_all, cond}
+use Rattle.std.proofs.Common.{ℕ, ◌+◌, ◌-◌, Bool, true, false, List, [], ◌∷◌, ◌++◌, Option, Some, None, length, sym, subst, chars, IsUtf8}
 use Rattle.std.specs.Prelude.{if◌then◌else◌, IfSome, slice_get, unwrap_or, option_and_then, codes}
-use Rattle.std.specs.List.{AllByRecursion, Contains}
+use Rattle.std.specs.List.{AllByRecursion}
 use Rattle.std.specs.Str.{IsCharBoundary, bytes_eq}
-use Rattle.std.proofs.Math.Utf8.{scalars}
-use Rattle.std.proofs.lemmas.Bool.{false≢true}
-use Rattle.std.proofs.lemmas.Str.{IsCharBoundary-start, IsCharBoundary-at_seam, encodes-append, encodes-chars, scalars-chars}
+use Rattle.std.proofs.lemmas.Str.{IsCharBoundary-start}
 use Rattle.educe_tokens.specs.declared.span.Span.{Span}
 use Rattle.educe_tokens.specs.declared.token.Token.{Token}
-use Rattle.educe_tokens.specs.declared.token.Bracket.TheVariants.{Round}
-use Rattle.educe_tokens.specs.Lexes.{Piece, Lexes, spans, is_token}
-use Rattle.educe_tokens.specs.Lexes as pieces
+use Rattle.educe_pieces.specs.declared.kind.Bracket.TheVariants.{Round}
+use Rattle.educe_tokens.specs.Lexes.{Lexes}
+use Rattle.educe_tokens.proofs.Places.{tokens_placed}
 use Rattle.educe_syntax.specs.declared.attr.Attribute.{Attribute}
 use Rattle.educe_syntax.specs.declared.attr.Meta.{Meta}
 use Rattle.educe_syntax.specs.declared.attr.Meta.TheVariants as meta
@@ -23,53 +21,12 @@ use Rattle.educe_syntax.specs.declared.terminal.Terminal.TheVariants as terminal
 use Rattle.educe_syntax.specs.declared.traits.Trait.{Trait}
 use Rattle.educe_syntax.specs.declared.traits.Trait.TheVariants.{PartialEq, PartialOrd, Ord}
 use Rattle.educe_syntax.specs.Built.{IsRepeated, fields_of, shape_fields}
-use Rattle.educe_syntax.specs.Reading.{Reads, IsAttributes, IsAttribute, IsList, IsField, IsOwn, IsStruct, Listed, span_of, between}
-use Rattle.educe_syntax.specs.Reading as reading
-use Rattle.educe_syntax.specs.Settings.{from_word, up_to_close, behind_name, params_of, rank_span_at, rank_span_in, is_minus}
+use Rattle.educe_syntax.specs.Reading.{Reads, IsAttributes, IsAttribute, IsList, IsField, IsOwn, Listed, span_of, between}
+use Rattle.educe_syntax.specs.Settings.{from_word, up_to_close, behind_name, params_of, rank_span_at, rank_span_in}
 use Rattle.educe_syntax.specs.Terminals.{accepts}
 use Rattle.educe_syntax.specs.Traits.{text_of}
 use Rattle.educe_core.specs.Settings.{Kept, is_kept, kept_at, kept_from, kept_fields, bracketed, own_params, other_params, params_for, or_else, rank_place, ReusesARank}
-use Rattle.educe_core.proofs.Elements.{each_map, In-all, In-from_Contains}
-
--- ---- tokens
-
-second_true : (a b : Bool) → (a && b) ≡ true → b ≡ true
-second_true true b both = both
-second_true false b both = absurd (false≢true both)
-
-scalar_rest : (xs ys : List ℕ) → scalars (xs ++ ys) ≡ true → scalars ys ≡ true
-scalar_rest [] ys all = all
-scalar_rest (x ∷ xs) ys all = scalar_rest xs ys (second_true _ _ all)
-
-utf8_of : (cs : List ℕ) → scalars cs ≡ true → IsUtf8 (encode_utf8_all cs)
-utf8_of cs all = search rules
-
-spans_step : (P : ℕ → Type 0) (token : Bool) (start end : ℕ) (rest : List Span) → P start → AllByRecursion (λ (s : Span). P s.start) rest
-    → AllByRecursion (λ (s : Span). P s.start) (cond token (record { start = start; end = end } ∷ rest) rest)
-spans_step P true start end rest here more = (here, more)
-spans_step P false start end rest here more = more
-
--- behind a front of whole characters each piece begins where a character does
-spans_placed : (source front text : List ℕ) (start : ℕ) (ps : List Piece) → source ≡ front ++ encode_utf8_all text → start ≡ length front → scalars text ≡ true → pieces.Reads text ps []
-    → AllByRecursion (λ (s : Span). IsCharBoundary source s.start) (spans start ps)
-spans_placed source front text start [] whole at all reads = tt
-spans_placed source front text start (p ∷ ps) whole at all reads =
-    let more = reads.0 in
-    let end = start + length (encode_utf8_all p.spelling) in
-    let here : IsCharBoundary source start = subst (IsCharBoundary source) (sym at) (IsCharBoundary-at_seam source front (encode_utf8_all text) whole (utf8_of text all)) in
-    let next : source ≡ (front ++ encode_utf8_all p.spelling) ++ encode_utf8_all more =
-    whole ∙ ap (λ (t : List ℕ). front ++ encode_utf8_all t) reads.1 ∙ ap (λ (t : List ℕ). front ++ t) (encodes-append p.spelling more)
-    ∙ sym (append_assoc front (encode_utf8_all p.spelling) (encode_utf8_all more)) in
-    let further : end ≡ length (front ++ encode_utf8_all p.spelling) = ap (λ n. n + length (encode_utf8_all p.spelling)) at ∙ sym (length-append front (encode_utf8_all p.spelling)) in
-    let rest = spans_placed source (front ++ encode_utf8_all p.spelling) more end ps next further (scalar_rest p.spelling more (subst (λ (t : List ℕ). scalars t ≡ true) reads.1 all)) reads.4 in
-    spans_step (IsCharBoundary source) (is_token p) start end (spans end ps) here rest
-
--- each token begins where a character does
-pub tokens_placed : (source : List ℕ) (tokens : List Token) → IsUtf8 source → Lexes (chars source) tokens → AllByRecursion (λ (t : Token). IsCharBoundary source t.span.start) tokens
-tokens_placed source tokens utf8 lexes =
-    each_map (λ (s : Span). IsCharBoundary source s.start) (λ (t : Token). t.span) tokens
-    (subst (AllByRecursion (λ (s : Span). IsCharBoundary source s.start)) lexes.3
-    (spans_placed source [] (chars source) 0 lexes.0 (sym (encodes-chars source utf8)) refl (scalars-chars source utf8) lexes.1))
+use Rattle.educe_core.proofs.Elements.{In-all, In-from_Contains}
 
 -- ---- the tokens of a field
 

@@ -1,10 +1,9 @@
 -- What sorting the fields by rank gives.
-use Rattle.std.proofs.Common.{◌≡◌, ℕ, zero, suc, ◌+◌, ◌<◌, ◌<ℤ◌, pos, List, [], ◌∷◌, map, length, get_or, refl, sym, ap, ◌∙◌, subst, arith, inl, inr}
-use Rattle.std.specs.Prelude.{IsPermutation}
-use Rattle.std.specs.List.{Contains, AllByRecursion}
+use Rattle.std.proofs.Common.{◌≡◌, ℕ, zero, suc, ◌+◌, ◌<◌, ◌≤◌, ◌<ℤ◌, pos, List, [], ◌∷◌, map, length, get_or, refl, sym, ap, ◌∙◌, subst, arith, inl, inr}
+use Rattle.std.specs.Prelude.{IsPermutation, IsSortedByKey}
+use Rattle.std.specs.List.{Contains}
 use Rattle.std.specs.List.Sorted.{IsStableByKey}
 use Rattle.std.specs.Ordering.{int_cmp}
-use Rattle.std.specs.Int.Signed.{<ℤ_irrefl}
 use Rattle.std.proofs.lemmas.Int.{ints}
 use Rattle.std.proofs.lemmas.List.Sorted.{IsPermutation-map, IsPermutation-sym}
 use Rattle.educe_syntax.specs.declared.derive.DeriveInput.{DeriveInput}
@@ -12,12 +11,13 @@ use Rattle.educe_syntax.specs.declared.traits.Trait.{Trait}
 use Rattle.educe_syntax.specs.Built.{fields_of}
 use Rattle.educe_core.specs.declared.ranks.Ranked.{Ranked}
 use Rattle.educe_core.specs.Ranked.{kept_of}
-use Rattle.educe_core.specs.Ranks.{Rises, AreRanksApart, IsRepeatAt}
-use Rattle.educe_core.specs.Settings.{Kept, kept_fields, rank_place, RanksDiffer, ReusesARank}
+use Rattle.educe_core.specs.Ranks.{Rises, IsRepeatAt, IsEarliestRepeat}
+use Rattle.educe_core.specs.Settings.{Kept, kept_fields, rank_place, RanksDiffer, IsEarliest, ReusesARank}
 use Rattle.educe_core.specs.Blocks.{IsByRank}
-use Rattle.educe_core.proofs.Elements.{In, In-permutation, Contains-from_In, In-mapped, each_map, each_mapped}
-use Rattle.educe_core.proofs.Sorting.{apart_from_Rises, rises_among_ties}
+use Rattle.educe_core.proofs.Elements.{In, In-permutation, In-from_Contains, Contains-from_In, In-mapped, each_map, each_mapped}
+use Rattle.educe_core.proofs.Sorting.{apart_from_Rises, rises_among_ties, second_from_sort}
 use Rattle.educe_core.proofs.Kept.{places_rise}
+use Rattle.educe_core.proofs.Earliest.{same_at}
 
 pub Rises-mapped : {X Y : Type 0} (rank : Y → _) (f : X → Y) (xs : List X) → Rises (λ x. rank (f x)) xs → Rises rank (map f xs)
 Rises-mapped rank f [] rises = tt
@@ -31,6 +31,15 @@ In-get : {X : Type 0} (xs : List X) (k : ℕ) (d : X) → k < length xs → In (
 In-get [] k d less = absurd (omega arith)
 In-get (x ∷ xs) zero d less = inl refl
 In-get (x ∷ xs) (suc k) d less = inr (In-get xs k d (omega arith))
+
+-- an element of an image is made of one
+In-image : {X Y : Type 0} (f : X → Y) (xs : List X) (y : Y) → In y (map f xs) → (x : X) × In x xs × (f x ≡ y)
+In-image f [] y found = absurd found
+In-image f (x ∷ xs) y found =
+    elim found [
+      | inl here ↦ (x, inl refl, here)
+      | inr later ↦ (let rest = In-image f xs y later in (rest.0, inr rest.1, rest.2))
+    ]
 
 module _ (which : Trait) (d : DeriveInput) (old new : List Ranked) (gathered : map kept_of old ≡ kept_fields which d) (moved : IsPermutation old new) where
   -- the fields that take part, in another order
@@ -47,12 +56,36 @@ module _ (which : Trait) (d : DeriveInput) (old new : List Ranked) (gathered : m
   takes_part r found =
       Contains-from_In (kept_fields which d) (kept_of r) (In-permutation (map kept_of new) (kept_fields which d) (kept_of r) (IsPermutation-sym (kept_fields which d) (map kept_of new) moved_fields) (In-mapped kept_of new r found))
 
+  -- the places rose before
+  places : Rises (λ (r : Ranked). pos r.place) old
+  places = Rises-map (λ (k : Kept). pos k.place) kept_of old (subst (Rises (λ (k : Kept). pos k.place)) (sym gathered) (places_rise which (fields_of d)))
+
+  -- a field that takes part is one of those
+  moved_to : (x : Kept) → Contains (kept_fields which d) x → (r : Ranked) × In r new × (kept_of r ≡ x)
+  moved_to x found = In-image kept_of new x (In-permutation (kept_fields which d) (map kept_of new) x moved_fields (In-from_Contains (kept_fields which d) x found))
+
+  -- of the fields that have the rank of an earlier one, the one behind an earliest repeat is written first
+  earliest_in_sort : (k : ℕ) (later : Ranked) → IsSortedByKey (λ (r : Ranked). r.rank) int_cmp new → IsStableByKey (λ (r : Ranked). r.rank) int_cmp old new
+      → IsEarliestRepeat (λ (r : Ranked). r.rank) (λ r. r.place) new k → k + 1 < length new → later ≡ get_or new (k + 1) later → IsEarliest which d later.place
+  earliest_in_sort k later up stable least within is a b has_a has_b written same =
+      let one = moved_to a has_a in
+      let two = moved_to b has_b in
+      let other : Ranked = two.0 in
+      let place_a : one.0.place ≡ a.place = ap (λ (x : Kept). x.place) one.2 in
+      let place_b : other.place ≡ b.place = ap (λ (x : Kept). x.place) two.2 in
+      let ranks : one.0.rank ≡ other.rank = ap (λ (x : Kept). x.rank) one.2 ∙ same ∙ sym (ap (λ (x : Kept). x.rank) two.2) in
+      let lower : pos one.0.place <ℤ pos other.place = omega (arith, ints, written, place_a, place_b) in
+      let second = second_from_sort (λ (r : Ranked). r.rank) (λ (r : Ranked). pos r.place) old new places moved up stable one.0 other one.1 two.1 ranks lower in
+      let bound : (get_or new (k + 1) other).place ≤ (get_or new (second.before + 1) other).place = least second.before other second.within second.same in
+      let from : later.place ≡ (get_or new (k + 1) other).place = ap (λ (r : Ranked). r.place) (is ∙ same_at new (k + 1) later other within) in
+      let to : (get_or new (second.before + 1) other).place ≡ b.place = ap (λ (r : Ranked). r.place) second.here ∙ place_b in
+      subst (λ (n : ℕ). n ≤ b.place) (sym from) (subst (λ (n : ℕ). (get_or new (k + 1) other).place ≤ n) to bound)
+
   -- neighbours of one rank use it again, the second one later
-  pub ReusesARank-from_sort : (k : ℕ) (later : Ranked) → IsStableByKey (λ (r : Ranked). r.rank) int_cmp old new → IsRepeatAt (λ (r : Ranked). r.rank) new k → later ≡ get_or new (k + 1) later
-      → ReusesARank which d later.rank (rank_place which later.field.now)
-  ReusesARank-from_sort k later stable repeats is =
+  pub ReusesARank-from_sort : (k : ℕ) (later : Ranked) → IsSortedByKey (λ (r : Ranked). r.rank) int_cmp new → IsStableByKey (λ (r : Ranked). r.rank) int_cmp old new → IsRepeatAt (λ (r : Ranked). r.rank) new k
+      → IsEarliestRepeat (λ (r : Ranked). r.rank) (λ r. r.place) new k → later ≡ get_or new (k + 1) later → ReusesARank which d later.rank (rank_place which later.field.now)
+  ReusesARank-from_sort k later up stable repeats least is =
       let first : Ranked = get_or new k later in
-      let places = Rises-map (λ (k : Kept). pos k.place) kept_of old (subst (Rises (λ (k : Kept). pos k.place)) (sym gathered) (places_rise which (fields_of d))) in
       let rises = rises_among_ties (λ (r : Ranked). pos r.place) (λ (r : Ranked). r.rank) old new places moved stable k later repeats.within (repeats.same later) in
       let here : pos first.place <ℤ pos later.place = subst (λ (r : Ranked). pos first.place <ℤ pos r.place) (sym is) rises in
       record {
@@ -64,4 +97,5 @@ module _ (which : Trait) (d : DeriveInput) (old new : List Ranked) (gathered : m
         first_rank = subst (λ (r : Ranked). first.rank ≡ r.rank) (sym is) (repeats.same later);
         later_rank = refl;
         place_is = refl;
+        earliest = earliest_in_sort k later up stable least repeats.within is;
       }

@@ -1,5 +1,5 @@
 -- A list that is sorted by rank rises where no two neighbours have one rank.
-use Rattle.std.proofs.Common.{◌≡◌, ◌≢◌, ℕ, zero, suc, ◌+◌, ◌<◌, ◌<ℤ◌, ◌≤ℤ◌, Bool, true, false, List, [], ◌∷◌, map, length, get_or, refl, sym, ◌∙◌, subst, arith, ℤ}
+use Rattle.std.proofs.Common.{◌≡◌, ◌≢◌, ℕ, zero, suc, ◌+◌, ◌<◌, ◌<ℤ◌, ◌≤ℤ◌, ◌⊎◌, inl, inr, true, false, List, [], ◌∷◌, map, length, get_or, refl, ap, sym, ◌∙◌, subst, arith, ℤ}
 use denote.Param.Members.{Mut}
 use denote.Ref.{Bor}
 use Rattle.std.specs.Fn.{Called, ComputesKey}
@@ -8,7 +8,7 @@ use Rattle.std.proofs.lemmas.Map.Keys.{IsDistinct-IsPermutation}
 use Rattle.std.proofs.lemmas.List.Sorted.{IsPermutation-map, IsPermutation-sym}
 use Rattle.std.specs.Int.Signed.{<ℤ_irrefl, ≤ℤ_refl, clash_ℤ}
 use Rattle.std.specs.Prelude.{IsSortedByKey, IsPermutation, ◌&&◌, not}
-use Rattle.std.specs.List.Sorted.{IsStableByKey, ties}
+use Rattle.std.specs.List.Sorted.{IsStableByKey}
 use Rattle.std.proofs.lemmas.Int.{ints}
 use Rattle.std.proofs.lemmas.Cmp.{int_cmp_total}
 use Rattle.std.proofs.lemmas.List.MinMax.{ranks_by}
@@ -20,7 +20,7 @@ use Rattle.std.specs.declared.cmp.Ordering.TheVariants.{Less, Equal, Greater}
 use Rattle.std.specs.Cmp.{int_ranks, int_chain, int_eq_equiv, signed_Decides}
 use Rattle.std.proofs.lemmas.Bool.{true≢false, false_from_ne_true}
 use Rattle.educe_core.specs.Ranks.{Rises, AreRanksApart, NeighboursDiffer}
-use Rattle.educe_core.proofs.Elements.{each_weaker}
+use Rattle.educe_core.proofs.Elements.{In, In-all, each_weaker}
 
 greater_case : (o : Ordering) (P Q R : Type 0) → is_lt o ≡ false → (Q → ⊥) → MatchOrdering o P Q R → R
 greater_case Less P Q R not_less not_equal m = absurd (true≢false not_less)
@@ -74,6 +74,12 @@ module _ {X : Type 0} (rank : X → ℤ) where
       → ((key : X → ℤ) → ComputesKey g key f → IsStableByKey key int_cmp xs ys)
       → ((a : Bor X × Unit {0}) (r : ℤ) (f' : F) → Called g f a r f' → (r ≡ rank a.0.now) × (f' ≡ f)) → IsStableByKey rank int_cmp xs ys
   IsStableByKey-from_sort {g = g} {f = f} xs ys stable computes = stable rank (always_returns_same g (λ a r. r ≡ rank a.0.now) f computes)
+
+  -- what `sort_by_key` ensures at a signed key on its order
+  pub IsSortedByKey-from_sort : {F : Type 0} {g : Mut F (Bor X × Unit {0}) ℤ} {f : F} (ys : List X)
+      → ((key : X → ℤ) → ComputesKey g key f → IsSortedByKey key int_cmp ys)
+      → ((a : Bor X × Unit {0}) (r : ℤ) (f' : F) → Called g f a r f' → (r ≡ rank a.0.now) × (f' ≡ f)) → IsSortedByKey rank int_cmp ys
+  IsSortedByKey-from_sort {g = g} {f = f} ys up computes = up rank (always_returns_same g (λ a r. r ≡ rank a.0.now) f computes)
 
   repeated : (xs : List X) (k : ℕ) (d : X) → k + 1 < length xs → rank (get_or xs k d) ≡ rank (get_or xs (k + 1) d) → AreRanksApart rank xs → ⊥
   unfolding IsDistinct
@@ -129,3 +135,89 @@ rises_among_ties {X} place rank xs ys rises moved stable k d less same =
     (ties_stay_sorted (λ x y. is_lt (int_cmp (place x) (place y))) (λ x y. is_lt (int_cmp (rank x) (rank y))) (ranks_by int_cmp_total place) (ranks_by int_cmp_total rank)
     xs ys (sorted_if_rises place xs rises) stable k d less (tie_if_same (rank (get_or ys k d)) (rank (get_or ys (k + 1) d)) same))
     apart
+
+-- ---- elements of one rank
+
+module _ {X : Type 0} (rank place : X → ℤ) where
+  -- of a lower rank, or of the same rank and a lower place
+  abbrev IsBelow : X → X → Type 0
+  IsBelow x y = (rank x <ℤ rank y) ⊎ ((rank x ≡ rank y) × (place x <ℤ place y))
+
+  -- each element is below all later ones
+  abbrev Climbs : List X → Type 0
+  Climbs [] = Unit {0}
+  Climbs (x ∷ xs) = AllByRecursion (IsBelow x) xs × Climbs xs
+
+  below_chain : (x y z : X) → IsBelow x y → IsBelow y z → IsBelow x z
+  below_chain x y z (inl h) (inl k) = inl (int_chain (rank x) (rank y) (rank z) h k)
+  below_chain x y z (inl h) (inr k) = inl (subst (λ r. rank x <ℤ r) k.0 h)
+  below_chain x y z (inr h) (inl k) = inl (subst (λ r. r <ℤ rank z) (sym h.0) k)
+  below_chain x y z (inr h) (inr k) = inr (h.0 ∙ k.0, int_chain (place x) (place y) (place z) h.1 k.1)
+
+  climbs_after : (x y : X) (rest : List X) → IsBelow x y → Climbs (y ∷ rest) → Climbs (x ∷ y ∷ rest)
+  climbs_after x y rest below climbs = ((below, each_weaker (IsBelow y) (IsBelow x) (λ z above. below_chain x y z below above) rest climbs.0), climbs)
+
+  climbs_from_neighbours : (xs : List X) → ((k : ℕ) (d : X) → k + 1 < length xs → IsBelow (get_or xs k d) (get_or xs (k + 1) d)) → Climbs xs
+  climbs_from_neighbours [] below = tt
+  climbs_from_neighbours (x ∷ []) below = (tt, tt)
+  climbs_from_neighbours (x ∷ y ∷ rest) below =
+      climbs_after x y rest (below 0 x (omega arith)) (climbs_from_neighbours (y ∷ rest) (λ k d less.
+      let next : suc k + 1 ≡ suc (k + 1) = omega arith in
+      subst (λ (n : ℕ). IsBelow (get_or (y ∷ rest) k d) (get_or (x ∷ y ∷ rest) n d)) next (below (suc k) d (omega arith))))
+
+  -- an element of the same rank whose place is lower does not come later
+  not_later : (x y : X) → IsBelow x y → rank y ≡ rank x → place y <ℤ place x → ⊥
+  not_later x y (inl h) same lower = <ℤ_irrefl (subst (λ r. rank x <ℤ r) same h)
+  not_later x y (inr h) same lower = <ℤ_irrefl (int_chain (place x) (place y) (place x) h.1 lower)
+
+  -- what stands between two elements of one rank has it too, and a lower place than the second
+  between_same : (x y z : X) → IsBelow x y → IsBelow y z → rank x ≡ rank z → (rank y ≡ rank z) × (place y <ℤ place z)
+  between_same x y z (inl h) (inl k) same = absurd (<ℤ_irrefl (subst (λ r. r <ℤ rank z) same (int_chain (rank x) (rank y) (rank z) h k)))
+  between_same x y z (inl h) (inr k) same = absurd (<ℤ_irrefl (subst (λ r. rank x <ℤ r) (k.0 ∙ sym same) h))
+  between_same x y z (inr h) (inl k) same = absurd (<ℤ_irrefl (subst (λ r. r <ℤ rank z) (sym h.0 ∙ same) k))
+  between_same x y z (inr h) (inr k) same = k
+
+  -- the element is at this place, and the one before it has its rank
+  pub record IsSecond (xs : List X) (x : X) : Type 0 where
+    pub before : ℕ
+    pub within : before + 1 < length xs
+    pub here : get_or xs (before + 1) x ≡ x
+    pub same : rank (get_or xs before x) ≡ rank (get_or xs (before + 1) x)
+
+  second_later : (x y : X) (xs : List X) → IsSecond xs y → IsSecond (x ∷ xs) y
+  second_later x y xs second =
+      let next : suc second.before + 1 ≡ suc (second.before + 1) = omega arith in record {
+        before = suc second.before;
+        within = omega (arith, second.within);
+        here = ap (λ (n : ℕ). get_or (x ∷ xs) n y) next ∙ second.here;
+        same = second.same ∙ ap (λ (n : ℕ). rank (get_or (x ∷ xs) n y)) (sym next);
+      }
+
+  -- of two elements of one rank, the one of greater place stands behind another of that rank
+  stands_second : (xs : List X) → Climbs xs → (a b : X) → In a xs → In b xs → rank a ≡ rank b → place a <ℤ place b → IsSecond xs b
+  stands_second [] climbs a b has_a has_b same lower = absurd has_a
+  stands_second (x ∷ xs) climbs a b (inl here) (inl also) same lower = absurd (<ℤ_irrefl (subst (λ z. place a <ℤ place z) (sym also ∙ here) lower))
+  stands_second (x ∷ xs) climbs a b (inr later) (inl also) same lower =
+      absurd (not_later x a (In-all (IsBelow x) xs a climbs.0 later) (same ∙ ap rank (sym also)) (subst (λ z. place a <ℤ place z) (sym also) lower))
+  stands_second (x ∷ xs) climbs a b (inr later) (inr also) same lower = second_later x b xs (stands_second xs climbs.1 a b later also same lower)
+  stands_second (x ∷ []) climbs a b (inl here) (inr also) same lower = absurd also
+  stands_second (x ∷ y ∷ rest) climbs a b (inl here) (inr (inl also)) same lower =
+      record { before = 0; within = omega arith; here = also; same = ap rank here ∙ same ∙ ap rank (sym also) }
+  stands_second (x ∷ y ∷ rest) climbs a b (inl here) (inr (inr also)) same lower =
+      let next = between_same x y b climbs.0.0 (In-all (IsBelow y) rest b climbs.1.0 also) (ap rank here ∙ same) in
+      second_later x b (y ∷ rest) (stands_second (y ∷ rest) climbs.1 y b (inl refl) (inr also) next.0 next.1)
+
+  below_neighbour : (x y : X) → is_lt (int_cmp (rank y) (rank x)) ≡ false → (rank x ≡ rank y → place x <ℤ place y) → IsBelow x y
+  below_neighbour x y not_less tie = by_order (int_cmp (rank y) (rank x)) not_less (int_ranks (rank y) (rank x))
+    where
+      by_order : (o : Ordering) → is_lt o ≡ false → MatchOrdering o (rank y <ℤ rank x) (rank y ≡ rank x) (rank x <ℤ rank y) → IsBelow x y
+      by_order Less not_less m = absurd (true≢false not_less)
+      by_order Equal not_less m = inr (sym m, tie (sym m))
+      by_order Greater not_less m = inl m
+
+  -- the same in a list that a stable sort by rank made of one in which the places rose
+  pub second_from_sort : (xs ys : List X) → Rises place xs → IsPermutation xs ys → IsSortedByKey rank int_cmp ys → IsStableByKey rank int_cmp xs ys
+      → (a b : X) → In a ys → In b ys → rank a ≡ rank b → place a <ℤ place b → IsSecond ys b
+  second_from_sort xs ys rises moved up stable a b has_a has_b same lower =
+      stands_second ys (climbs_from_neighbours ys (λ k d less. below_neighbour (get_or ys k d) (get_or ys (k + 1) d) (up k d (omega arith) less)
+      (λ tie. rises_among_ties place rank xs ys rises moved stable k d less tie))) a b has_a has_b same lower

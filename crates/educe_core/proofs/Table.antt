@@ -9,6 +9,7 @@ use Rattle.educe_core.specs.Devices.{Change, IsUnchanged}
 use Rattle.educe_core.specs.Status.{Delivers, whole, fault, short}
 use Rattle.educe_core.specs.Run.{Answers, IsLine, IsText, ReadsAll, Refuses, refusal_line, expand_words}
 use Rattle.educe_core.specs.Headline.{IsCause, IsValid}
+use Rattle.educe_core.proofs.Alone.{alone}
 
 -- a text that goes to the sink
 pub Answers-text : (source sink notes : Change) (text : List ℕ) (status : Status) → IsText source text → Delivers sink text Done status → IsUnchanged notes → Answers expand_words source sink notes status
@@ -33,6 +34,6 @@ Answers-line words source sink notes answer line status stands (short runs) kept
 pub Answers-refusal : (source sink notes : Change) (input : List ℕ) (error : EduceError) (status : Status) → ReadsAll source input → IsUtf8 input → IsCause input error → (IsValid input → error.kind ≡ Alloc) → Refuses notes input error status → IsUnchanged sink → Answers expand_words source sink notes status
 Answers-refusal source sink notes input error status reads utf8 cause valid (inl (kind, delivers)) kept =
     Answers-line expand_words source sink notes (Refused error) (refusal_line input error) status
-    (refl, record { input = input; whole = reads; utf8 = utf8; kind = kind; cause = cause; invalid = λ v. kind (valid v); is = refl }) delivers kept
+    (refl, record { input = input; whole = reads; utf8 = utf8; kind = kind; cause = cause; alone = λ other differs stands. alone input error cause other kind differs stands; invalid = λ v. kind (valid v); is = refl }) delivers kept
 Answers-refusal source sink notes input error status reads utf8 cause valid (inr (notes_kept, is)) kept =
     subst (λ s. Answers expand_words source sink notes s) (sym is) (inl (reads.faults, record { sink_kept = kept; notes_kept = notes_kept }))

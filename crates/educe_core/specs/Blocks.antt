@@ -1,9 +1,8 @@
 -- What the block of a derived trait holds.
-use Rattle.std.specs.Prelude.{ℕ, ℤ, IsTrue, ◌≡◌, ◌≢◌, true, false, List, [], ◌∷◌, ◌++◌, Some, IsSome, IsPermutation, codes}
-use Rattle.std.specs.List.{AllByRecursion, AllZip}
+use Rattle.std.specs.Prelude.{ℕ, ℤ, IsTrue, ◌≡◌, ◌≢◌, true, false, List, [], ◌∷◌, ◌++◌, map, Some, None, IsPermutation, codes}
+use Rattle.std.specs.List.{AllByRecursion, AllZip, filter}
 use Rattle.std.specs.declared.cmp.Ordering.TheVariants.{Less, Equal, Greater}
 use Rattle.educe_tokens.specs.declared.span.Span.{Span}
-use Rattle.educe_tokens.specs.declared.token.Token.{Token}
 use Rattle.educe_tokens.specs.declared.word.Word.{Word}
 use Rattle.educe_tokens.specs.Quote.{quoted}
 use Rattle.educe_tokens.specs.Lexes.{lexemes}
@@ -13,7 +12,7 @@ use Rattle.educe_syntax.specs.declared.data.Field.{Field}
 use Rattle.educe_syntax.specs.declared.derive.DeriveInput.{DeriveInput}
 use Rattle.educe_syntax.specs.declared.traits.Trait.{Trait}
 use Rattle.educe_syntax.specs.declared.traits.Trait.TheVariants.{PartialEq, PartialOrd, Ord}
-use Rattle.educe_syntax.specs.Built.{name_of}
+use Rattle.educe_syntax.specs.Built.{IsNotNamed, name_of}
 use Rattle.educe_syntax.specs.Traits.{is_listed}
 use Rattle.educe_body.specs.declared.form.Form.{Form, Reference, Call, IfReturn, MatchOrdering}
 use Rattle.educe_body.specs.declared.form.Form as form
@@ -26,11 +25,11 @@ use Rattle.educe_body.specs.declared.body.Item.{Item}
 use Rattle.educe_body.specs.declared.body.Item.TheVariants.{Impl}
 use Rattle.educe_body.specs.declared.answers.Answers.{Answers}
 use Rattle.educe_body.specs.declared.value.Value.{Value}
-use Rattle.educe_body.specs.BuiltIn.{path_lexemes}
+use Rattle.educe_body.specs.BuiltIn.{path_lexemes, path_names}
 use Rattle.educe_body.specs.Meaning.{Scene, value}
 use Rattle.educe_core.specs.declared.handler_error.HandlerError.{HandlerError}
 use Rattle.educe_core.specs.declared.handler_error.HandlerError.TheVariants.{ReuseARank, Memory}
-use Rattle.educe_core.specs.Listed.{listed, listed_in_order}
+use Rattle.educe_core.specs.Listed.{listed, listed_in_order, traits_before}
 use Rattle.educe_core.specs.Ranks.{Rises}
 use Rattle.educe_core.specs.Settings.{Kept, kept_fields, RanksDiffer, ReusesARank}
 use Rattle.educe_core.specs.Comparing.{comparison, Covers, meaning}
@@ -43,6 +42,12 @@ pub record IsReference (base : List ℕ) (field : Field) (x : Form) : Type 0 whe
   pub base_is : base_name.text ≡ base
   pub field_is : field_name.text ≡ name_of field
 
+-- the tree of a path has these names, the first one first, behind `::` and no type
+pub record HasNames (path : ExprPath) (names : List (List ℕ)) : Type 0 where
+  pub unqualified : path.self_type ≡ None
+  pub leading : path.path.leading ≡ true
+  pub names_are : map (λ s. s.ident.text) path.path.segments ≡ names
+
 -- `comparison ( & self . name , & other . name )`: the trait's comparison of this field of both values
 pub record IsComparison (which : Trait) (other : List ℕ) (field : Field) (x : Form) : Type 0 where
   pub path : ExprPath
@@ -50,6 +55,7 @@ pub record IsComparison (which : Trait) (other : List ℕ) (field : Field) (x : 
   pub others : Form
   pub is : x ≡ Call path (own ∷ others ∷ [])
   pub path_is : lexemes path.written.tokens ≡ path_lexemes (comparison which)
+  pub path_has : HasNames path (path_names (comparison which))
   pub own_is : IsReference (codes "self") field own
   pub others_is : IsReference other field others
 
@@ -89,13 +95,13 @@ pub record HasSteps (which : Trait) (other : List ℕ) (ordered : List Kept) (bl
   pub steps_are : AllZip (λ k step. IsStep which other k.field step) ordered steps
   pub block_is : block ≡ steps ++ form.Known (last_of which) ∷ []
 
--- the body of a comparison: its parameter is no word of the input, and its block has one step for each field that
--- takes part, in the order of the trait
+-- the body of a comparison: its parameter is no identifier of the input, a leading `r#` aside, and its block has one step
+-- for each field that takes part, in the order of the trait
 pub record IsBody (which : Trait) (definition : DeriveInput) (body : Body) : Type 0 where
   pub param : Word
   pub params_are : body.params ≡ param ∷ []
   pub param_is : param.text ≡ codes "other"
-  pub no_word : AllByRecursion (λ (t : Token). t.spelling ≢ param.text) definition.tokens
+  pub no_word : AllByRecursion (IsNotNamed param.text) definition.tokens
   pub ordered : List Kept
   pub ordered_is : IsInOrder which (kept_fields which definition) ordered
   pub block_has : HasSteps which param.text ordered body.block
@@ -139,12 +145,18 @@ IsTraitCause Ord definition e = IsRankCause Ord definition e
 abbrev pub HasNoCauses : DeriveInput → Type 0
 HasNoCauses definition = AllByRecursion (λ which. HasNoCause which definition) (listed_in_order definition)
 
--- two fields that take part in a listed order have this rank, and this is the place of the later one's
+-- no cause stands for which a listed trait before this one in the fixed order is refused
+abbrev pub HasNoCausesBefore : Trait → DeriveInput → Type 0
+HasNoCausesBefore which definition = AllByRecursion (λ earlier. HasNoCause earlier definition) (filter (is_listed (listed definition)) (traits_before which))
+
+-- two fields that take part in a listed order have this rank, and this is the place of the later one's; of the listed
+-- orders in which a rank is used again it is the first
 pub record ReusesListedRank (definition : DeriveInput) (rank : ℤ) (place : Span) : Type 0 where
   pub which : Trait
   pub is_order : which ≢ PartialEq
   pub lists : IsTrue (is_listed (listed definition) which)
   pub reuses : ReusesARank which definition rank place
+  pub none_before : HasNoCausesBefore which definition
 
 -- why the blocks of the listed traits are refused
 abbrev pub IsListedCause : DeriveInput → HandlerError → Type 0

@@ -1,5 +1,5 @@
 -- What a text is expanded to, and why a text is refused.
-use Rattle.std.specs.Prelude.{ℤ, ◌≡◌, ◌≢◌, ℕ, ◌-◌, List, [], ◌∷◌, map, Option, Some, None, length, slice_get, chars, encode_utf8_all}
+use Rattle.std.specs.Prelude.{ℤ, ◌≡◌, ◌≢◌, ℕ, ◌-◌, List, [], map, Option, Some, None, length, slice_get, chars, encode_utf8_all}
 use Rattle.std.specs.List.{AllByRecursion}
 use Rattle.educe_tokens.specs.declared.span.Span.{Span}
 use Rattle.educe_tokens.specs.declared.token.Token.{Token}
@@ -7,7 +7,8 @@ use Rattle.educe_tokens.specs.declared.error.EduceError.{EduceError}
 use Rattle.educe_tokens.specs.declared.error.Kind.TheVariants.{NotBuilt, DeriveAttributeNotSetUpYet, ReuseARank, Alloc}
 use Rattle.educe_tokens.specs.Lexes.{Lexes, LexesAside, lexemes}
 use Rattle.educe_tokens.specs.Brackets.{IsBalanced, IsShallow}
-use Rattle.educe_tokens.specs.Built.{HasBuiltTokens, placeless}
+use Rattle.educe_tokens.specs.Causes.{IsLexicalCause}
+use Rattle.educe_tokens.specs.Refusals.{placeless}
 use Rattle.educe_syntax.specs.declared.derive.DeriveInput.{DeriveInput}
 use Rattle.educe_syntax.specs.Reading.{Reads}
 use Rattle.educe_syntax.specs.declared.ident.Ident.{Ident}
@@ -23,7 +24,6 @@ pub record Defines (text : List ℕ) (definition : DeriveInput) : Type 0 where
   pub lexes : Lexes text definition.tokens
   pub balanced : IsBalanced (lexemes definition.tokens)
   pub shallow : IsShallow (lexemes definition.tokens)
-  pub built_tokens : HasBuiltTokens (lexemes definition.tokens)
   pub reads : Reads definition.tokens definition
   pub built : IsBuilt definition
 
@@ -62,15 +62,19 @@ pub data IsHandlerCause (definition : DeriveInput) : EduceError → Type 0 where
   reuse : (rank : ℤ) (place : Span) → ReusesListedRank definition rank place → IsHandlerCause definition (reuse_of rank place)
   memory : IsHandlerCause definition (placeless Alloc)
 
--- why a text is refused, for each kind of refusal with its place and words: it is no definition of the form that is
--- built so far; it lists no trait; two fields have one name; two fields that take part in a listed order have one
--- rank. Want of memory has no cause.
+-- why a text is refused, for each kind of refusal with its place and words: it has no tokens whose brackets close in
+-- order, not too deep, or a literal that is not carried; it has such tokens, and they are no definition of the form that
+-- is built so far; two fields have one name; or else it lists no trait; or two fields that take part in a listed order
+-- have one rank. Want of memory has no cause.
 pub data IsCause (source : List ℕ) : EduceError → Type 0 where
-  unbuilt : ((definition : DeriveInput) → Defines (chars source) definition → ⊥) → IsCause source (placeless NotBuilt)
-  not_set_up : (definition : DeriveInput) → Defines (chars source) definition → listed definition ≡ [] → IsCause source (not_set_up_of definition)
+  lexical : {e : EduceError} → IsLexicalCause (chars source) e → IsCause source e
+  unbuilt : (tokens : List Token) → Lexes (chars source) tokens → IsBalanced (lexemes tokens) → IsShallow (lexemes tokens)
+      → ((definition : DeriveInput) → Reads tokens definition → IsBuilt definition → ⊥) → IsCause source (placeless NotBuilt)
+  not_set_up : (definition : DeriveInput) → Defines (chars source) definition → AreApart (map name_of (fields_of definition)) → listed definition ≡ []
+      → IsCause source (not_set_up_of definition)
   duplicate : (definition : DeriveInput) (ident : Ident) → Defines (chars source) definition → IsRepeated ident (fields_of definition) → IsCause source (duplicate_of ident)
-  reuse : (definition : DeriveInput) (rank : ℤ) (place : Span) → Defines (chars source) definition → ReusesListedRank definition rank place
-      → IsCause source (reuse_of rank place)
+  reuse : (definition : DeriveInput) (rank : ℤ) (place : Span) → Defines (chars source) definition → AreApart (map name_of (fields_of definition))
+      → ReusesListedRank definition rank place → IsCause source (reuse_of rank place)
   memory : IsCause source (placeless Alloc)
 
 -- A source is expanded to these items, written as these bytes: the bytes are the spelling of the items,

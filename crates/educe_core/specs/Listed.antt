@@ -1,6 +1,6 @@
 -- The traits that a definition lists.
 use Rattle.std.specs.Prelude.{ℕ, List, [], ◌∷◌, Option, Some, None, if◌then◌else◌, codes}
-use Rattle.std.specs.List.{filter, filter_map, flat_map}
+use Rattle.std.specs.List.{before_first, filter, filter_map, flat_map}
 use Rattle.std.specs.Str.{bytes_eq}
 use Rattle.std.specs.Cmp.Lexicographic.{pointwise}
 use Rattle.educe_tokens.specs.declared.token.Token.{Token}
@@ -10,7 +10,7 @@ use Rattle.educe_syntax.specs.declared.attr.Meta.TheVariants as meta
 use Rattle.educe_syntax.specs.declared.derive.DeriveInput.{DeriveInput}
 use Rattle.educe_syntax.specs.declared.traits.Trait.{Trait}
 use Rattle.educe_syntax.specs.declared.traits.Trait.TheVariants.{PartialEq, PartialOrd, Ord}
-use Rattle.educe_syntax.specs.Traits.{is_listed}
+use Rattle.educe_syntax.specs.Traits.{is_listed, same_trait}
 use Rattle.educe_body.specs.Callees.{spellings}
 
 -- the trait of this name
@@ -37,3 +37,7 @@ fixed_order = PartialEq ∷ PartialOrd ∷ Ord ∷ []
 -- the listed traits in the fixed order
 abbrev pub listed_in_order : DeriveInput → List Trait
 listed_in_order definition = filter (is_listed (listed definition)) fixed_order
+
+-- the traits before this one in the fixed order
+abbrev pub traits_before : Trait → List Trait
+traits_before which = before_first (same_trait which) fixed_order

@@ -1,5 +1,5 @@
 -- The order of ranks.
-use Rattle.std.specs.Prelude.{ℕ, ℤ, ◌≡◌, ◌≢◌, ◌+◌, ◌<◌, ◌<ℤ◌, slice_index_or, length, List, [], ◌∷◌, Option, Some, None, map, int_lt, if◌then◌else◌}
+use Rattle.std.specs.Prelude.{ℕ, ℤ, ◌≡◌, ◌≢◌, ◌+◌, ◌<◌, ◌≤◌, ◌<ℤ◌, slice_index_or, length, List, [], ◌∷◌, Option, Some, None, map, int_lt, if◌then◌else◌}
 use Rattle.std.specs.List.{AllByRecursion, IsDistinct}
 use Rattle.std.specs.Ordering.{int_eq}
 
@@ -29,3 +29,9 @@ NeighboursDiffer {X} rank xs = (k : ℕ) (d : X) → k + 1 < length xs → rank 
 pub record IsRepeatAt {X : Type 0} (rank : X → ℤ) (xs : List X) (k : ℕ) : Type 0 where
   pub within : k + 1 < length xs
   pub same : (d : X) → rank (slice_index_or xs k d) ≡ rank (slice_index_or xs (k + 1) d)
+
+-- where two neighbours have one rank, the second one has no lower place than the element behind this one
+abbrev pub IsEarliestRepeat : {X : Type 0} → (X → ℤ) → (X → ℕ) → List X → ℕ → Type 0
+IsEarliestRepeat {X} rank place xs k =
+    (j : ℕ) (d : X) → j + 1 < length xs → rank (slice_index_or xs j d) ≡ rank (slice_index_or xs (j + 1) d)
+    → place (slice_index_or xs (k + 1) d) ≤ place (slice_index_or xs (j + 1) d)

@@ -55,13 +55,14 @@ pub record IsText (source : Change) (text : List ℕ) : Type 0 where
   pub expands : IsExpansion input items text
   pub uncaused : (e : EduceError) → e.kind ≢ Alloc → IsCause input e → ⊥
 
--- the line of a refusal whose cause stands in the whole input, which is not valid
+-- the line of a refusal whose cause stands in the whole input, and that of no other refusal does; the input is not valid
 pub record IsRefusal (source : Change) (error : EduceError) (line : List ℕ) : Type 0 where
   pub input : List ℕ
   pub whole : ReadsAll source input
   pub utf8 : IsUtf8 input
   pub kind : error.kind ≢ Alloc
   pub cause : IsCause input error
+  pub alone : (other : EduceError) → other.kind ≢ Alloc → IsCause input other → other ≡ error
   pub invalid : IsValid input → ⊥
   pub is : line ≡ refusal_line input error
 

@@ -1,5 +1,5 @@
 -- What the attributes of a field say of it to a trait.
-use Rattle.std.specs.Prelude.{ℕ, ℤ, pos, ◌-ℤ◌, ◌+◌, ◌^◌, ◌<◌, ◌≡◌, Bool, true, not, List, [], ◌∷◌, Option, Some, None, if◌then◌else◌, unwrap_or, option_and_then}
+use Rattle.std.specs.Prelude.{ℕ, ℤ, pos, ◌-ℤ◌, ◌+◌, ◌^◌, ◌<◌, ◌≤◌, ◌≡◌, Bool, true, not, List, [], ◌∷◌, Option, Some, None, if◌then◌else◌, unwrap_or, option_and_then}
 use Rattle.std.specs.List.{Contains}
 use Rattle.educe_tokens.specs.declared.span.Span.{Span}
 use Rattle.educe_tokens.specs.declared.token.Token.{Token}
@@ -80,7 +80,14 @@ kept_fields which definition = kept_from which 0 (fields_of definition)
 abbrev pub RanksDiffer : Trait → DeriveInput → Type 0
 RanksDiffer which definition = AreRanksApart (λ k. k.rank) (kept_fields which definition)
 
--- two fields that take part have this rank, and this is the place of the later one's
+-- where two fields that take part have one rank, the later of them is not written before this place
+abbrev pub IsEarliest : Trait → DeriveInput → ℕ → Type 0
+IsEarliest which definition place =
+    (first later : Kept) → Contains (kept_fields which definition) first → Contains (kept_fields which definition) later
+    → first.place < later.place → first.rank ≡ later.rank → place ≤ later.place
+
+-- two fields that take part have this rank, and this is the place of the later one's; of such later fields it is the
+-- one that is written first
 pub record ReusesARank (which : Trait) (definition : DeriveInput) (rank : ℤ) (place : Span) : Type 0 where
   pub first : Kept
   pub later : Kept
@@ -90,3 +97,4 @@ pub record ReusesARank (which : Trait) (definition : DeriveInput) (rank : ℤ) (
   pub first_rank : first.rank ≡ rank
   pub later_rank : later.rank ≡ rank
   pub place_is : place ≡ rank_place which later.field
+  pub earliest : IsEarliest which definition later.place

@@ -56,9 +56,9 @@ fn read(alloc: Global, source: &str) -> Result<DeriveInput, EduceError>
     }
 }
 
-/// The expansion of a definition with `educe` attributes. Refused where the source is none of the
-/// form that is built so far, lists no trait, gives two fields one name, or two fields that take
-/// part in an order one rank.
+/// The expansion of a definition with `educe` attributes. Refused where the source does not lex, is
+/// no definition of the form that is built so far, lists no trait, gives two fields one name, or two
+/// fields that take part in an order one rank.
 pub fn expand(alloc: Global, source: &str) -> Result<Expansion, EduceError>
     requires { length source.now ≤ SOURCE_LIMIT }
     ensures done { IfOk result (λ e.
@@ -68,6 +68,9 @@ pub fn expand(alloc: Global, source: &str) -> Result<Expansion, EduceError>
     ensures valid { IsValid source.now → IfErr result (λ e. e.kind ≡ Kind.Alloc) }
     ensures invalid { IfOk result (λ _. (e : EduceError) → e.kind ≢ Kind.Alloc →
         IsCause source.now e → ⊥) }
+    // No other refusal than the one that is answered has a cause, want of memory aside.
+    ensures alone { IfErr result (λ e. (f : EduceError) → e.kind ≢ Kind.Alloc →
+        f.kind ≢ Kind.Alloc → IsCause source.now f → f ≡ e) }
     // Its refusal can be shown.
     ensures words { IfErr result (λ e. HasWords e.kind e.words) }
     ensures placed { IfErr result (λ e. IsCharBoundary source.now e.span.start) }

@@ -1,8 +1,8 @@
 //! The fields that take part in a trait, and their ranks.
 ghost use Rattle.std.specs.Prelude.{◌≡◌, ◌+◌, ◌<◌, ◌⊎◌, length, map, Some, IfOk, IfErr, IfSome, IfNone};
-ghost use Rattle.educe_core.specs.Ranks.{NeighboursDiffer, IsRepeatAt};
+ghost use Rattle.educe_core.specs.Ranks.{NeighboursDiffer, IsRepeatAt, IsEarliestRepeat};
 ghost use Rattle.educe_core.specs.Settings as spec;
-ghost use Rattle.educe_core.specs.Ranked.{kept_of};
+ghost use Rattle.educe_core.specs.Ranked.{kept_of, IsNoLater};
 ghost use Rattle.educe_core.specs.Blocks.{IsByRank, IsRankCause};
 ghost use Rattle.educe_core.specs.declared.ranks.Ranked.{Ranked};
 ghost use Rattle.educe_core.specs.declared.handler_error.HandlerError.TheVariants.{ReuseARank};
@@ -43,7 +43,9 @@ pub fn kept_fields<'a>(
 fn earlier(sorted: &[Ranked<'_>], found: Option<usize>, at: usize) -> usize
     requires found { IfSome found (λ other. other + 1 < length sorted.now) }
     requires at { at + 1 < length sorted.now }
-    ensures { (result ≡ at) ⊎ (found ≡ Some result) }
+    ensures one { (result ≡ at) ⊎ (found ≡ Some result) }
+    ensures at { IsNoLater sorted.now result at }
+    ensures found { IfSome found (IsNoLater sorted.now result) }
 {
     match found {
         Some(other) if sorted[other + 1].place < sorted[at + 1].place => other,
@@ -56,6 +58,7 @@ fn earlier(sorted: &[Ranked<'_>], found: Option<usize>, at: usize) -> usize
 fn repeat_at(sorted: &[Ranked<'_>]) -> Option<usize>
     ensures none { IfNone result (NeighboursDiffer (λ (f : Ranked). f.rank) sorted.now) }
     ensures some { IfSome result (IsRepeatAt (λ (f : Ranked). f.rank) sorted.now) }
+    ensures earliest { IfSome result (IsEarliestRepeat (λ (f : Ranked). f.rank) (λ f. f.place) sorted.now) }
 {
     let mut found = None;
     for i in 1..sorted.len() {

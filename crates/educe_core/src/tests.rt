@@ -64,11 +64,25 @@ fn a_struct_is_expanded(rt: HostRuntime) -> Result<(), Fail> {
 }
 
 #[test]
+fn comments_are_left_out(rt: HostRuntime) -> Result<(), Fail> {
+    let input = b"#[educe(PartialEq)] struct S { /* other */ a: u8 } // a";
+    Case::of(input, 0, ONE_FIELD, "").check(&rt, rt.alloc())
+}
+
+#[test]
+fn a_raw_name_stays_as_it_is_written(rt: HostRuntime) -> Result<(), Fail> {
+    let input = b"#[educe(PartialEq)] struct r#S { r#fn: \xc3\xa9 }";
+    let text =
+        "# [ automatically_derived ] impl :: core :: cmp :: PartialEq for r#S { fn eq ( & self , other : & Self ) -> :: core :: primitive :: bool { if :: core :: cmp :: PartialEq :: ne ( & self . r#fn , & other . r#fn ) { return false ; } true } }\n";
+    Case::of(input, 0, text, "").check(&rt, rt.alloc())
+}
+
+#[test]
 fn refusals_have_a_line(rt: HostRuntime) -> Result<(), Fail> {
     let not_set_up =
         "1:1: you are using `Educe` in the `derive` attribute, but it has not been set up yet\n";
     let not_built = "1:1: not built yet\n";
-    let cases: [(&[u8], &str); 8] = [
+    let cases: [(&[u8], &str); 18] = [
         (b"struct S { f1: u8 }", not_set_up),
         (b"", not_built),
         (b"#[educe(PartialEq)] struct S { other: u8 }", not_built),
@@ -82,7 +96,38 @@ fn refusals_have_a_line(rt: HostRuntime) -> Result<(), Fail> {
             not_built,
         ),
         (b"#[educe(PartialEq)] enum S {}", not_built),
-        (b"#[educe(PartialEq)] struct S { a: u8 } // a", not_built),
+        (
+            b"#[educe(PartialEq)] struct S { a: u8",
+            "1:37: syntax error\n",
+        ),
+        (b"struct S { a: u8 )", "1:18: syntax error\n"),
+        (
+            b"#[educe(PartialEq)] struct S { a: u8, r#a: u8 }",
+            "1:39: the name `r#a` is defined more than once\n",
+        ),
+        (
+            b"#[educe(PartialEq)] struct S { r#a: u8, a: u8 }",
+            "1:41: the name `a` is defined more than once\n",
+        ),
+        (b"struct S { r#other: u8 }", not_built),
+        (b"struct S { a: r#other }", not_built),
+        (b"struct fn { a: u8 }", not_built),
+        (
+            b"#[educe(Ord)] struct S { #[educe(Ord(rank = 1.5))] a: u8 }",
+            "1:45: `1.5` is not supported\n",
+        ),
+        (
+            b"#[educe(Default)] struct S { #[educe(Default = 1.5)] a: u8 }",
+            "1:48: `1.5` is not supported\n",
+        ),
+        (
+            b"#[educe(Ord)] struct S { #[educe(Ord(rank = \"other\"))] a: u8 }",
+            not_built,
+        ),
+        (
+            b"#[educe(Ord)] struct S { #[educe(Ord(rank = 0x1_u8))] a: u8, #[educe(Ord(rank = 0b1))] b: u8 }",
+            "1:74: the rank `1` is repeatedly used\n",
+        ),
     ];
     for (input, notes) in cases {
         Case::of(input, 1, "", notes).check(&rt, rt.alloc())?;

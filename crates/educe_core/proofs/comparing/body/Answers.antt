@@ -1,6 +1,6 @@
-use Rattle.std.proofs.Common.{◌≡◌, ◌≢◌, ℕ, List, map, sym, subst}
+use Rattle.std.proofs.Common.{ℕ, List, map, sym, subst}
 use Rattle.std.specs.List.{AllByRecursion}
-use Rattle.educe_tokens.specs.declared.token.Token.{Token}
+use Rattle.educe_syntax.specs.Built.{IsNotNamed}
 use Rattle.educe_core.specs.Ranked.{kept_of}
 use Rattle.educe_core.specs.Blocks.{HasSteps}
 use Rattle.educe_core.proofs.Lists.{one_pushed}
@@ -11,7 +11,7 @@ returns c =
     let tokens = c.args.ast.now.tokens in
     let ordered = map kept_of c.args.fields.now in
     let name = c.in_ok-from_name.ensures in
-    let IsNoWord : List ℕ → Type 0 = λ param. AllByRecursion (λ (t : Token). t.spelling ≢ param) tokens in
+    let IsNoWord : List ℕ → Type 0 = λ param. AllByRecursion (IsNotNamed param) tokens in
     let Stepped : List ℕ → Type 0 = λ param. HasSteps c.args.which param ordered c.in_ok-block.block in
     record {
       param = c.in_ok-from_name.field-0;

@@ -1,4 +1,4 @@
-use Rattle.std.proofs.Common.{◌≡◌, Bool, true, false, List, get_or, refl, sym, ap, ◌∙◌, subst}
+use Rattle.std.proofs.Common.{◌≡◌, Bool, true, false, List, get_or, refl, sym, ap, ◌∙◌}
 use Rattle.educe_syntax.specs.declared.traits.Trait.{Trait}
 use Rattle.educe_syntax.specs.declared.traits.Trait.TheVariants.{PartialEq}
 use Rattle.educe_body.specs.declared.body.Item.{Item}

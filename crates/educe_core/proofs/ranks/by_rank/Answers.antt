@@ -1,9 +1,9 @@
-use Rattle.std.proofs.Common.{◌≡◌, rules, sym, subst}
+use Rattle.std.proofs.Common.{rules, sym, subst}
 use Rattle.educe_core.specs.declared.ranks.Ranked.{Ranked}
 use Rattle.educe_core.specs.declared.handler_error.HandlerError.{HandlerError}
-use Rattle.educe_core.specs.Ranks.{Rises, NeighboursDiffer, IsRepeatAt}
+use Rattle.educe_core.specs.Ranks.{Rises}
 use Rattle.educe_core.specs.Blocks.{IsRankCause}
-use Rattle.educe_core.proofs.Sorting.{Rises-from_sort, IsStableByKey-from_sort}
+use Rattle.educe_core.proofs.Sorting.{Rises-from_sort, IsStableByKey-from_sort, IsSortedByKey-from_sort}
 use Rattle.educe_core.proofs.Repeats.{IsByRank-from_sort, RanksDiffer-from_sort, ReusesARank-from_sort}
 use Rattle.educe_core.proofs.ranks.by_rank.Goals as goal
 
@@ -17,8 +17,10 @@ returns-in-Some-clause-err c =
     let sorted = c.sort_by_key.new.self.items in
     let later = c.index.result.now in
     let stable = IsStableByKey-from_sort (λ (f : Ranked). f.rank) c.in_ok-sorted.sorted.items sorted c.in_ok-sort_by_key.ensures.stable (λ a r q k. search rules) in
+    let up = IsSortedByKey-from_sort (λ (f : Ranked). f.rank) sorted c.in_ok-sort_by_key.ensures.sorted (λ a r q k. search rules) in
     let repeats = rw c.deref.ensures.value at c.in-Some.ensures.some in
-    let reuses = ReusesARank-from_sort c.args.which c.args.ast.now c.in_ok-sorted.sorted.items sorted c.in_ok-sorted.ensures c.in_ok-sort_by_key.ensures.permutation c.in-Some.at later stable repeats c.index.ensures in
+    let least = rw c.deref.ensures.value at c.in-Some.ensures.earliest in
+    let reuses = ReusesARank-from_sort c.args.which c.args.ast.now c.in_ok-sorted.sorted.items sorted c.in_ok-sorted.ensures c.in_ok-sort_by_key.ensures.permutation c.in-Some.at later up stable repeats least c.index.ensures in
     let IsCause : HandlerError → Type 0 = λ e. IsRankCause c.args.which c.args.ast.now e in
     subst IsCause (sym c.reuse.ensures) reuses
 

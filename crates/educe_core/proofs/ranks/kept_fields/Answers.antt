@@ -1,6 +1,4 @@
-use Rattle.std.proofs.Common.{◌≡◌, refl, sym, ap, ◌∙◌, rules, true, false, map}
-use Rattle.educe_core.specs.Ranked.{kept_of}
-use Rattle.educe_core.specs.Settings.{Kept, kept_at}
+use Rattle.std.proofs.Common.{sym, ◌∙◌, rules}
 use Rattle.educe_core.proofs.Kept.{kept_pushed, kept_skipped}
 use Rattle.educe_core.proofs.ranks.kept_fields.Goals.{then-is_kept+in_ok-push, else-is_kept}
 use Rattle.educe_core.proofs.ranks.kept_fields.Goals as goal
