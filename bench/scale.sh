@@ -5,7 +5,8 @@
 #
 # Makes inputs of 16, 32, 64 and 128 KiB of each shape, runs the built program on each, and prints a
 # line for each: the bytes, the least seconds of five runs and the peak memory in MB, with valgrind also the
-# millions of instructions, and the ratio to the line before. A ratio above 2.3 is marked.
+# millions of instructions, and the ratios to the line before. A ratio of instructions above 2.2 is marked. Some
+# shapes are texts that are refused, once they have been read as tokens.
 set -eu
 program=${1:?usage: bench/scale.sh PROGRAM}
 folder=$(mktemp -d)
@@ -50,6 +51,19 @@ def blanks(size):
     text = "#[educe(PartialEq)] struct S { a: u8 }"
     return " " * (size - len(text)) + text
 
+def repeated(front, part, back):
+    """As many equal parts as fit, between a front and a back."""
+    def make(size):
+        room = size - len((front + back).encode())
+        return front + part * (room // len(part.encode())) + back
+    return make
+
+SMALL = "#[educe(PartialEq)] struct S { a: u8 }"
+
+def script_names(size):
+    """Long names in another script."""
+    return struct(size // 2, lambda n: f"{'ж' * 1000}{n}")
+
 shapes = [
     ("fields", fields),
     ("ord", ranked("Ord")),
@@ -57,6 +71,13 @@ shapes = [
     ("all", ranked("PartialEq,PartialOrd,Ord")),
     ("long_names", long_names),
     ("blanks", blanks),
+    ("small_tokens", repeated("", "a+1;'b\"\".", "")),
+    ("comment", repeated("/*", " * / ", "*/" + SMALL)),
+    ("nested", repeated(SMALL, "/*", "")),
+    ("string", repeated('"', "a\\n", '"')),
+    ("raw_string", repeated('r##"', '"#a', '"##')),
+    ("brackets", repeated("", "([{" * 40 + "}])" * 40, "")),
+    ("script", script_names),
 ]
 for name, make in shapes:
     for kib in (16, 32, 64, 128):
@@ -64,18 +85,19 @@ for name, make in shapes:
             out.write(make(kib * 1024))
 PY
 
+# The ratio of two numbers; one above the bound, if there is one, is marked.
 ratio() {
-  awk -v now="$1" -v before="$2" 'BEGIN { if (before > 0) { r = now / before; printf "%.2f%s", r, (r > 2.3 ? "!" : "") } else printf "-" }'
+  awk -v now="$1" -v before="$2" -v bound="${3:-}" 'BEGIN { if (before > 0) { r = now / before; printf "%.2f%s", r, (bound != "" && r > bound ? "!" : "") } else printf "-" }'
 }
 
 printf '%-12s %7s %8s %7s %10s %7s %9s\n' shape bytes seconds ratio 'Minstr' ratio 'peak MB'
-for name in fields ord partial_ord all long_names blanks; do
+for name in fields ord partial_ord all long_names blanks small_tokens comment nested string raw_string brackets script; do
   seconds_before=0
   count_before=0
   for kib in 16 32 64 128; do
     input=$folder/$name.$kib
     for _ in 1 2 3 4 5; do
-      /usr/bin/env time -f '%e %M' -o "$folder/cost" "$program" expand < "$input" > "$folder/text" || echo "status $?" >&2
+      /usr/bin/env time -f '%e %M' -o "$folder/cost" "$program" expand < "$input" > "$folder/text" 2> "$folder/notes" || true
       tail -n 1 "$folder/cost"
     done | sort -n > "$folder/costs"
     read -r seconds memory < "$folder/costs"
@@ -86,7 +108,7 @@ for name in fields ord partial_ord all long_names blanks; do
     fi
     printf '%-12s %7d %8.3f %7s %10.1f %7s %9.1f\n' "$name" "$(stat -c %s "$input")" "$seconds" \
       "$(ratio "$seconds" "$seconds_before")" "$(awk -v c="${count:-0}" 'BEGIN { print c / 1e6 }')" \
-      "$(ratio "${count:-0}" "$count_before")" "$(awk -v m="$memory" 'BEGIN { print m / 1024 }')"
+      "$(ratio "${count:-0}" "$count_before" 2.2)" "$(awk -v m="$memory" 'BEGIN { print m / 1024 }')"
     seconds_before=$seconds
     count_before=${count:-0}
   done
