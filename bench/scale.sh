@@ -17,34 +17,26 @@ import sys
 
 folder = sys.argv[1]
 
-def struct(size, name):
-    """A struct of as many fields as fit, named by their number."""
-    head, tail, parts, used = "#[educe(PartialEq)] struct S {", "}", [], 0
+def filled(size, traits, field):
+    """A struct of as many fields as fit, each of which its number makes."""
+    head, tail, parts, used = f"#[educe({traits})] struct S {{", "}", [], 0
     while True:
-        part = f"{name(len(parts))}:u8,"
+        part = field(len(parts))
         if len(head) + used + len(part) + len(tail) > size:
             return head + "".join(parts) + tail
         parts.append(part)
         used += len(part)
 
 def fields(size):
-    return struct(size, lambda n: f"f{n}")
+    return filled(size, "PartialEq", lambda n: f"f{n}:u8,")
 
 def long_names(size):
-    return struct(size, lambda n: f"{'x' * 1000}{n}")
+    return filled(size, "PartialEq", lambda n: f"{'x' * 1000}{n}:u8,")
 
 def ranked(traits):
     """Fields of which each has a rank, the last one the least."""
     own = traits.split(",")[-1]
-    def make(size):
-        head, tail, parts, used = f"#[educe({traits})] struct S {{", "}", [], 0
-        while True:
-            part = f"#[educe({own}(rank=-{len(parts)}))]f{len(parts)}:u8,"
-            if len(head) + used + len(part) + len(tail) > size:
-                return head + "".join(parts) + tail
-            parts.append(part)
-            used += len(part)
-    return make
+    return lambda size: filled(size, traits, lambda n: f"#[educe({own}(rank=-{n}))]f{n}:u8,")
 
 def blanks(size):
     """A small struct behind blanks."""
@@ -62,7 +54,7 @@ SMALL = "#[educe(PartialEq)] struct S { a: u8 }"
 
 def script_names(size):
     """Long names in another script."""
-    return struct(size // 2, lambda n: f"{'ж' * 1000}{n}")
+    return filled(size // 2, "PartialEq", lambda n: f"{'ж' * 1000}{n}:u8,")
 
 shapes = [
     ("fields", fields),
