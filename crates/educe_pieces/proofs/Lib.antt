@@ -1,6 +1,5 @@
 pub mod Classes
 pub mod Lists
-pub mod Fitting
 pub mod WordLaws
 pub mod NumberParts
 pub mod IntegerValues
@@ -20,14 +19,7 @@ pub mod RawStrings
 pub mod RawValues
 pub mod CommentLaws
 pub mod DocValues
-pub mod FrontFits
-pub mod FrontFinds
-pub mod Front
-pub mod Readings
-pub mod Following
 pub mod BlockLaws
 pub mod NumberCuts
 pub mod FloatSpells
 pub mod IntegerSpells
-pub mod SpellLaws
-pub mod Wholes

@@ -7,8 +7,8 @@ use Rattle.std.proofs.lemmas.List.Sums.{prefix_len-le-length}
 use Rattle.unicode_ident.specs.Ident.{is_xid_continue}
 use Rattle.educe_pieces.specs.Chars.{begins, is_word_start}
 use Rattle.educe_pieces.specs.Words.{is_word, is_never_raw, word_len, if_raw, raw_word_len}
+use Rattle.educe_pieces.specs.Fits.{FrontPasses}
 use Rattle.educe_pieces.proofs.Classes.{prefix_len-append, list_all-prefix}
-use Rattle.educe_pieces.proofs.Fitting.{FrontPasses}
 
 -- what is found at the front is a word
 pub word_is : (text : List ℕ) → FrontPasses is_word text (word_len text)

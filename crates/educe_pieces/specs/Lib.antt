@@ -10,8 +10,5 @@ pub mod Comments
 pub mod CommentScan
 pub mod Pieces
 pub mod Numbers
-pub mod Joining
 pub mod Fits
-pub mod Reading
-pub mod Scan
 pub mod Spells

@@ -12,7 +12,7 @@ use Rattle.educe_pieces.specs.Quotes.{closing, is_single, is_bytes, top_digit, i
 
 -- behind a part
 abbrev pub behind_part : Quote → Within
-behind_part q = cond (is_single q) (Close q) (Open q)
+behind_part quote = cond (is_single quote) (Close quote) (Open quote)
 
 -- space, tab, line feed and carriage return
 abbrev pub is_space_character : ℕ → Bool
@@ -20,49 +20,49 @@ is_space_character c = (c == 32) || (c == 9) || (c == 10) || (c == 13)
 
 -- before a part or the mark at the end
 abbrev pub open_step : Quote → ℕ → Next
-open_step q c =
-    cond ((c == closing q) && not (is_single q)) End
-    (cond (c == 92) (Go (Escape q))
-    (cond (is_plain q c) (Go (behind_part q)) Stop))
+open_step quote c =
+    cond ((c == closing quote) && not (is_single quote)) End
+    (cond (c == 92) (Go (Escape quote))
+    (cond (is_plain quote c) (Go (behind_part quote)) Stop))
 
 -- behind a `\`
 abbrev pub escape_step : Quote → ℕ → Next
-escape_step q c =
-    cond (is_escape c) (Go (behind_part q))
-    (cond (c == 120) (Go (High q))
-    (cond ((c == 117) && not (is_bytes q)) (Go (Brace q))
-    (cond ((c == 10) && not (is_single q)) (Go (Break q))
-    (cond ((c == 13) && not (is_single q)) (Go (Return q)) Stop))))
+escape_step quote c =
+    cond (is_escape c) (Go (behind_part quote))
+    (cond (c == 120) (Go (High quote))
+    (cond ((c == 117) && not (is_bytes quote)) (Go (Brace quote))
+    (cond ((c == 10) && not (is_single quote)) (Go (Break quote))
+    (cond ((c == 13) && not (is_single quote)) (Go (Return quote)) Stop))))
 
 -- behind `\u{` and digits
 abbrev pub code_step : Quote → ℕ → ℕ → ℕ → Next
-code_step q digits value c =
-    cond (c == 125) (cond (nat_lt 0 digits && is_scalar value) (Go (behind_part q)) Stop)
-    (cond (c == 95) (cond (nat_lt 0 digits) (Go (Code q digits value)) Stop)
-    (cond (is_hex c && nat_lt digits 6) (Go (Code q (digits + 1) (value * 16 + digit_value c))) Stop))
+code_step quote digits value c =
+    cond (c == 125) (cond (nat_lt 0 digits && is_scalar value) (Go (behind_part quote)) Stop)
+    (cond (c == 95) (cond (nat_lt 0 digits) (Go (Code quote digits value)) Stop)
+    (cond (is_hex c && nat_lt digits 6) (Go (Code quote (digits + 1) (value * 16 + digit_value c))) Stop))
 
 abbrev pub step : Within → ℕ → Next
-step (Open q) c = open_step q c
-step (Break q) c = cond (is_space_character c) (Go (Break q)) (open_step q c)
-step (Escape q) c = escape_step q c
-step (Return q) c = cond (c == 10) (Go (Break q)) Stop
-step (High q) c = cond (is_hex c && nat_le (digit_value c) (top_digit q)) (Go (Low q (digit_value c))) Stop
-step (Low q high) c = cond (is_hex c) (Go (behind_part q)) Stop
-step (Brace q) c = cond (c == 123) (Go (Code q 0 0)) Stop
-step (Code q digits value) c = code_step q digits value c
-step (Close q) c = cond (c == closing q) End Stop
+step (Open quote) c = open_step quote c
+step (Break quote) c = cond (is_space_character c) (Go (Break quote)) (open_step quote c)
+step (Escape quote) c = escape_step quote c
+step (Return quote) c = cond (c == 10) (Go (Break quote)) Stop
+step (High quote) c = cond (is_hex c && nat_le (digit_value c) (top_digit quote)) (Go (Low quote (digit_value c))) Stop
+step (Low quote high) c = cond (is_hex c) (Go (behind_part quote)) Stop
+step (Brace quote) c = cond (c == 123) (Go (Code quote 0 0)) Stop
+step (Code quote digits value) c = code_step quote digits value c
+step (Close quote) c = cond (c == closing quote) End Stop
 
 -- the characters of the value that a character completes
 abbrev pub gives : Within → ℕ → List ℕ
-gives (Open q) c = cond ((c == closing q) || (c == 92)) [] (c ∷ [])
-gives (Break q) c = cond (is_space_character c || ((c == closing q) || (c == 92))) [] (c ∷ [])
-gives (Escape q) c = cond (is_escape c) (escape_value c ∷ []) []
-gives (Return q) c = []
-gives (High q) c = []
-gives (Low q high) c = (high * 16 + digit_value c) ∷ []
-gives (Brace q) c = []
-gives (Code q digits value) c = cond (c == 125) (value ∷ []) []
-gives (Close q) c = []
+gives (Open quote) c = cond ((c == closing quote) || (c == 92)) [] (c ∷ [])
+gives (Break quote) c = cond (is_space_character c || ((c == closing quote) || (c == 92))) [] (c ∷ [])
+gives (Escape quote) c = cond (is_escape c) (escape_value c ∷ []) []
+gives (Return quote) c = []
+gives (High quote) c = []
+gives (Low quote high) c = (high * 16 + digit_value c) ∷ []
+gives (Brace quote) c = []
+gives (Code quote digits value) c = cond (c == 125) (value ∷ []) []
+gives (Close quote) c = []
 
 -- the last of these characters is the first at which the literal ends
 abbrev pub ends : Within → List ℕ → Bool
@@ -85,13 +85,13 @@ end_at within (c ∷ cs) = elim (step within c) [ Go more ↦ plus 1 (end_at mor
 
 -- a quote, and the rest of the literal
 abbrev pub is_quoted : Quote → ℕ → List ℕ → Bool
-is_quoted q mark [] = false
-is_quoted q mark (c ∷ cs) = (c == mark) && ends (Open q) cs
+is_quoted quote mark [] = false
+is_quoted quote mark (c ∷ cs) = (c == mark) && ends (Open quote) cs
 
 -- a `b` or `c`, a quote, and the rest of the literal
 abbrev pub is_prefixed : ℕ → Quote → ℕ → List ℕ → Bool
-is_prefixed letter q mark [] = false
-is_prefixed letter q mark (c ∷ cs) = (c == letter) && is_quoted q mark cs
+is_prefixed letter quote mark [] = false
+is_prefixed letter quote mark (c ∷ cs) = (c == letter) && is_quoted quote mark cs
 
 abbrev pub is_str : List ℕ → Bool
 is_str cs = is_quoted Str 34 cs

@@ -91,28 +91,28 @@ is_line_control c = (c == 10) || (c == 13) || (c == 9)
 -- a character that stands for itself: neither the mark at the end nor `\`; in bytes ASCII; and where it stands alone,
 -- neither a line feed, a carriage return nor a tab
 abbrev pub is_plain : Quote → ℕ → Bool
-is_plain q c =
-    (not (c == closing q) && not (c == 92))
-    && ((not (is_bytes q) || is_ascii c) && not (is_single q && is_line_control c))
+is_plain quote c =
+    (not (c == closing quote) && not (c == 92))
+    && ((not (is_bytes quote) || is_ascii c) && not (is_single quote && is_line_control c))
 
 -- the part may stand in such a literal
 abbrev pub may_hold : Quote → Part → Bool
-may_hold q (Plain c) = is_plain q c
-may_hold q (Escape c) = is_escape c
-may_hold q (Hex high low) = (is_hex high && nat_le (digit_value high) (top_digit q)) && is_hex low
-may_hold q (Unicode digits) = not (is_bytes q) && (is_code digits && is_scalar (code_value digits))
-may_hold q Break = not (is_single q)
-may_hold q ReturnBreak = not (is_single q)
+may_hold quote (Plain c) = is_plain quote c
+may_hold quote (Escape c) = is_escape c
+may_hold quote (Hex high low) = (is_hex high && nat_le (digit_value high) (top_digit quote)) && is_hex low
+may_hold quote (Unicode digits) = not (is_bytes quote) && (is_code digits && is_scalar (code_value digits))
+may_hold quote Break = not (is_single quote)
+may_hold quote ReturnBreak = not (is_single quote)
 
 -- one part, where the literal is a single character or byte
 abbrev pub has_count : Quote → List Part → Bool
-has_count q parts = not (is_single q) || (length parts == 1)
+has_count quote parts = not (is_single quote) || (length parts == 1)
 
 -- the text is these parts, and then the mark at the end
-pub record IsBody (q : Quote) (text : List ℕ) (parts : List Part) : Type 0 where
-  pub hold : IsTrue (list_all (may_hold q) parts)
-  pub count : IsTrue (has_count q parts)
-  pub is : text ≡ flat_map spelled parts ++ closing q ∷ []
+pub record IsBody (quote : Quote) (text : List ℕ) (parts : List Part) : Type 0 where
+  pub hold : IsTrue (list_all (may_hold quote) parts)
+  pub count : IsTrue (has_count quote parts)
+  pub is : text ≡ flat_map spelled parts ++ closing quote ∷ []
 
 -- the `\` before the end of a line, which has no value
 abbrev pub is_break : Part → Bool

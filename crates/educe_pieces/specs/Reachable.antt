@@ -6,12 +6,12 @@ use Rattle.educe_pieces.specs.declared.quotes.Within.TheVariants.{Open, Break, E
 
 -- the first digit of `\x` is below 16; behind `\u{` stand at most six digits, and their value is one of so many
 abbrev pub is_reachable : Within → Bool
-is_reachable (Open q) = true
-is_reachable (Break q) = true
-is_reachable (Escape q) = true
-is_reachable (Return q) = true
-is_reachable (High q) = true
-is_reachable (Low q high) = nat_lt high 16
-is_reachable (Brace q) = true
-is_reachable (Code q digits value) = nat_le digits 6 && nat_lt value (16 ^ digits)
-is_reachable (Close q) = true
+is_reachable (Open quote) = true
+is_reachable (Break quote) = true
+is_reachable (Escape quote) = true
+is_reachable (Return quote) = true
+is_reachable (High quote) = true
+is_reachable (Low quote high) = nat_lt high 16
+is_reachable (Brace quote) = true
+is_reachable (Code quote digits value) = nat_le digits 6 && nat_lt value (16 ^ digits)
+is_reachable (Close quote) = true

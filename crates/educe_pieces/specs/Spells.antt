@@ -121,11 +121,11 @@ pub record IsFloat (text : List ℕ) : Type 0 where
   pub makes : IsTail tail
 
 -- letters, the quote, parts that such a literal may hold, and the quote again
-pub record IsQuoted (letters : List ℕ) (q : Quote) (text : List ℕ) : Type 0 where
+pub record IsQuoted (letters : List ℕ) (quote : Quote) (text : List ℕ) : Type 0 where
   pub body : List ℕ
   pub parts : List Part
-  pub is : text ≡ letters ++ closing q ∷ body
-  pub holds : IsBody q body parts
+  pub is : text ≡ letters ++ closing quote ∷ body
+  pub holds : IsBody quote body parts
 
 -- letters before a raw string
 pub record IsRaw (letters text : List ℕ) : Type 0 where

@@ -114,8 +114,9 @@ fn block_at(rest: &[char]) -> Option<(PieceKind, usize)>
 }
 
 /// The comment or the outer documentation at the front of a text, and how many characters it has;
-/// none where inner documentation stands there, or a block that doesn't end.
-pub(crate) fn comment_at(text: &[char]) -> Option<(PieceKind, usize)>
+/// none where inner documentation stands there, or a block that doesn't end (Rust Reference,
+/// Comments).
+pub fn comment_at(text: &[char]) -> Option<(PieceKind, usize)>
     ensures value { result ≡ comment_at text.now }
     ensures within { IfSome result (λ found. found.1 ≤ length text.now) }
 {
@@ -133,8 +134,8 @@ pub(crate) fn comment_at(text: &[char]) -> Option<(PieceKind, usize)>
     }
 }
 
-/// Whether a comment or documentation opens here.
-pub(crate) fn opens_comment(rest: &[char]) -> bool
+/// Whether a comment or documentation opens here, with `//` or `/*` (Rust Reference, Comments).
+pub fn opens_comment(rest: &[char]) -> bool
     ensures { result ≡ opens_comment rest.now }
 {
     match rest {
@@ -161,8 +162,9 @@ fn begins_in_line(rest: &[char]) -> bool
     }
 }
 
-/// Whether a comment or documentation may stand before a rest.
-pub(crate) fn ends_line_before(spelling: &[char], rest: &[char]) -> bool
+/// Whether a comment or documentation may stand before a rest: one of a line only before its end
+/// (Rust Reference, Comments).
+pub fn ends_line_before(spelling: &[char], rest: &[char]) -> bool
     requires { IsTrue (is_comment spelling.now || is_doc spelling.now) }
     ensures { result ≡ ends_line_before spelling.now rest.now }
 {

@@ -1,4 +1,5 @@
-//! The pieces of Rust texts: what spells one, and the one at the front of a text.
+//! The families of pieces of Rust texts: what spells one of each, what may follow it, and the values
+//! of literals.
 #![tactic(auto)]
 
 mod chars;
@@ -7,19 +8,19 @@ mod floats;
 mod integers;
 mod kind;
 mod numbers;
-mod preceding;
 mod quote_value;
 mod quotes;
 mod raw_strings;
-mod scan;
-mod spelling;
 mod words;
 
-pub use comments::doc_value;
+pub use chars::{begins_slash_or_star, begins_with, is_blank, is_punct, is_word_start};
+pub use comments::{comment_at, doc_value, ends_line_before, opens_comment};
 pub use integers::{Base, int_value};
 pub use kind::{Bracket, LiteralKind, PieceKind, TokenKind, UncarriedKind};
+pub use numbers::{may_follow_float, may_follow_int, number_at};
 pub use quote_value::str_value;
-pub use quotes::{Next, Quote, Within, is_body};
-pub use raw_strings::raw_value;
-pub use scan::piece_at;
-pub use spelling::is_piece;
+pub use quotes::{Next, Quote, Within, is_body, quote_end};
+pub use raw_strings::{raw_len, raw_value};
+pub use words::{
+    continue_len, ends_word_before, raw_word_len, touches_lifetime, touches_word, word_len,
+};

@@ -34,8 +34,8 @@ fn int_at(text: &[char], len: usize) -> Option<(PieceKind, usize)>
 }
 
 /// The number at the front of a text that begins with a decimal digit: its kind, and how many
-/// characters it has. None where no number fits.
-pub(crate) fn number_at(text: &[char]) -> Option<(PieceKind, usize)>
+/// characters it has. None where no number fits (Rust Reference, Number literals).
+pub fn number_at(text: &[char]) -> Option<(PieceKind, usize)>
     ensures value { result ≡ number_at text.now }
     ensures within { IfSome result (λ found. found.1 ≤ length text.now) }
 {
@@ -49,15 +49,17 @@ pub(crate) fn number_at(text: &[char]) -> Option<(PieceKind, usize)>
     }
 }
 
-/// An integer may stand before this: without a suffix it may not become a float.
-pub(crate) fn may_follow_int(spelling: &[char], rest: &[char]) -> bool
+/// An integer may stand before this: without a suffix it may not become a float (Rust Reference,
+/// Integer literals).
+pub fn may_follow_int(spelling: &[char], rest: &[char]) -> bool
     ensures { result ≡ may_follow_int spelling.now rest.now }
 {
     ends_word_before(rest) && (!suffix_of(spelling).is_empty() || !makes_float(rest))
 }
 
-/// A float may stand before this: its last `.` may not become one of two.
-pub(crate) fn may_follow_float(spelling: &[char], rest: &[char]) -> bool
+/// A float may stand before this: its last `.` may not become one of two (Rust Reference,
+/// Floating-point literals).
+pub fn may_follow_float(spelling: &[char], rest: &[char]) -> bool
     ensures { result ≡ may_follow_float spelling.now rest.now }
 {
     ends_word_before(rest) && !(ends_with_dot(spelling) && matches!(rest, ['.', ..]))

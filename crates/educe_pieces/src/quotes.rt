@@ -129,54 +129,54 @@ fn is_scalar(value: u32) -> bool
     value < 0xD800 || (0xE000 <= value && value < 0x11_0000)
 }
 
-fn is_plain(q: Quote, c: char) -> bool
-    ensures { result ≡ is_plain q c }
+fn is_plain(quote: Quote, c: char) -> bool
+    ensures { result ≡ is_plain quote c }
 {
-    c != q.closing()
+    c != quote.closing()
         && c != '\\'
-        && (!q.is_bytes() || c.is_ascii())
-        && !(q.is_single() && is_line_control(c))
+        && (!quote.is_bytes() || c.is_ascii())
+        && !(quote.is_single() && is_line_control(c))
 }
 
-fn open_step(q: Quote, c: char) -> Next
-    ensures { result ≡ open_step q c }
+fn open_step(quote: Quote, c: char) -> Next
+    ensures { result ≡ open_step quote c }
 {
-    if c == q.closing() && !q.is_single() {
+    if c == quote.closing() && !quote.is_single() {
         Next::End
     } else if c == '\\' {
-        Next::Go(Within::Escape(q))
-    } else if is_plain(q, c) {
-        Next::Go(q.behind_part())
+        Next::Go(Within::Escape(quote))
+    } else if is_plain(quote, c) {
+        Next::Go(quote.behind_part())
     } else {
         Next::Stop
     }
 }
 
-fn escape_step(q: Quote, c: char) -> Next
-    ensures { result ≡ escape_step q c }
+fn escape_step(quote: Quote, c: char) -> Next
+    ensures { result ≡ escape_step quote c }
 {
     if is_escape(c) {
-        Next::Go(q.behind_part())
+        Next::Go(quote.behind_part())
     } else if c == 'x' {
-        Next::Go(Within::High(q))
-    } else if c == 'u' && !q.is_bytes() {
-        Next::Go(Within::Brace(q))
-    } else if c == '\n' && !q.is_single() {
-        Next::Go(Within::Break(q))
-    } else if c == '\r' && !q.is_single() {
-        Next::Go(Within::Return(q))
+        Next::Go(Within::High(quote))
+    } else if c == 'u' && !quote.is_bytes() {
+        Next::Go(Within::Brace(quote))
+    } else if c == '\n' && !quote.is_single() {
+        Next::Go(Within::Break(quote))
+    } else if c == '\r' && !quote.is_single() {
+        Next::Go(Within::Return(quote))
     } else {
         Next::Stop
     }
 }
 
-fn high_step(q: Quote, c: char) -> Next
-    ensures { result ≡ step (Within.High q) c }
+fn high_step(quote: Quote, c: char) -> Next
+    ensures { result ≡ step (Within.High quote) c }
 {
     match c.to_digit(16) {
         Some(high) => {
-            if high <= q.top_digit() {
-                Next::Go(Within::Low(q, high))
+            if high <= quote.top_digit() {
+                Next::Go(Within::Low(quote, high))
             } else {
                 Next::Stop
             }
@@ -185,14 +185,14 @@ fn high_step(q: Quote, c: char) -> Next
     }
 }
 
-fn digit_step(q: Quote, digits: u32, value: u32, c: char) -> Next
-    requires { IsTrue (is_reachable (Within.Code q digits value)) }
-    ensures { c ≢ 125 → c ≢ 95 → result ≡ code_step q digits value c }
+fn digit_step(quote: Quote, digits: u32, value: u32, c: char) -> Next
+    requires { IsTrue (is_reachable (Within.Code quote digits value)) }
+    ensures { c ≢ 125 → c ≢ 95 → result ≡ code_step quote digits value c }
 {
     match c.to_digit(16) {
         Some(digit) => {
             if digits < 6 {
-                Next::Go(Within::Code(q, digits + 1, value * 16 + digit))
+                Next::Go(Within::Code(quote, digits + 1, value * 16 + digit))
             } else {
                 Next::Stop
             }
@@ -201,24 +201,24 @@ fn digit_step(q: Quote, digits: u32, value: u32, c: char) -> Next
     }
 }
 
-fn code_step(q: Quote, digits: u32, value: u32, c: char) -> Next
-    requires { IsTrue (is_reachable (Within.Code q digits value)) }
-    ensures { result ≡ code_step q digits value c }
+fn code_step(quote: Quote, digits: u32, value: u32, c: char) -> Next
+    requires { IsTrue (is_reachable (Within.Code quote digits value)) }
+    ensures { result ≡ code_step quote digits value c }
 {
     if c == '}' {
         if digits > 0 && is_scalar(value) {
-            Next::Go(q.behind_part())
+            Next::Go(quote.behind_part())
         } else {
             Next::Stop
         }
     } else if c == '_' {
         if digits > 0 {
-            Next::Go(Within::Code(q, digits, value))
+            Next::Go(Within::Code(quote, digits, value))
         } else {
             Next::Stop
         }
     } else {
-        digit_step(q, digits, value, c)
+        digit_step(quote, digits, value, c)
     }
 }
 
@@ -228,34 +228,34 @@ pub(crate) fn step(within: Within, c: char) -> Next
     ensures { result ≡ step within c }
 {
     match within {
-        Within::Open(q) => open_step(q, c),
-        Within::Break(q) => {
+        Within::Open(quote) => open_step(quote, c),
+        Within::Break(quote) => {
             if is_space(c) {
-                Next::Go(Within::Break(q))
+                Next::Go(Within::Break(quote))
             } else {
-                open_step(q, c)
+                open_step(quote, c)
             }
         }
-        Within::Escape(q) => escape_step(q, c),
-        Within::Return(q) => match c {
-            '\n' => Next::Go(Within::Break(q)),
+        Within::Escape(quote) => escape_step(quote, c),
+        Within::Return(quote) => match c {
+            '\n' => Next::Go(Within::Break(quote)),
             _ => Next::Stop,
         },
-        Within::High(q) => high_step(q, c),
-        Within::Low(q, _) => {
+        Within::High(quote) => high_step(quote, c),
+        Within::Low(quote, _) => {
             if c.is_digit(16) {
-                Next::Go(q.behind_part())
+                Next::Go(quote.behind_part())
             } else {
                 Next::Stop
             }
         }
-        Within::Brace(q) => match c {
-            '{' => Next::Go(Within::Code(q, 0, 0)),
+        Within::Brace(quote) => match c {
+            '{' => Next::Go(Within::Code(quote, 0, 0)),
             _ => Next::Stop,
         },
-        Within::Code(q, digits, value) => code_step(q, digits, value, c),
-        Within::Close(q) => {
-            if c == q.closing() {
+        Within::Code(quote, digits, value) => code_step(quote, digits, value, c),
+        Within::Close(quote) => {
+            if c == quote.closing() {
                 Next::End
             } else {
                 Next::Stop
@@ -264,10 +264,10 @@ pub(crate) fn step(within: Within, c: char) -> Next
     }
 }
 
-fn open_gives(q: Quote, c: char) -> Option<char>
-    ensures { option_to_list result ≡ gives (Within.Open q) c }
+fn open_gives(quote: Quote, c: char) -> Option<char>
+    ensures { option_to_list result ≡ gives (Within.Open quote) c }
 {
-    if c == q.closing() || c == '\\' {
+    if c == quote.closing() || c == '\\' {
         None
     } else {
         Some(c)
@@ -300,8 +300,14 @@ pub(crate) fn gives(within: Within, c: char) -> Option<char>
     ensures { (more : Within) → step within c ≡ Next.Go more → option_to_list result ≡ gives within c }
 {
     match within {
-        Within::Open(q) => open_gives(q, c),
-        Within::Break(q) => { if is_space(c) { None } else { open_gives(q, c) } }
+        Within::Open(quote) => open_gives(quote, c),
+        Within::Break(quote) => {
+            if is_space(c) {
+                None
+            } else {
+                open_gives(quote, c)
+            }
+        }
         Within::Escape(_) => {
             if is_escape(c) {
                 Some(escape_value(c))
@@ -316,12 +322,12 @@ pub(crate) fn gives(within: Within, c: char) -> Option<char>
 }
 
 /// How many characters of a text behind the opening quote the literal takes, with the mark at its
-/// end: None where no such literal stands there.
-pub(crate) fn quote_end(q: Quote, text: &[char]) -> Option<usize>
-    ensures value { result ≡ end_at (Within.Open q) text.now }
+/// end: None where no such literal stands there (Rust Reference, Literal expressions).
+pub fn quote_end(quote: Quote, text: &[char]) -> Option<usize>
+    ensures value { result ≡ end_at (Within.Open quote) text.now }
     ensures within { IfSome result (λ n. n ≤ length text.now) }
 {
-    let mut within = Within::Open(q);
+    let mut within = Within::Open(quote);
     for (i, c) in text.iter().enumerate() {
         match step(within, *c) {
             Next::Go(more) => within = more,
@@ -334,13 +340,13 @@ pub(crate) fn quote_end(q: Quote, text: &[char]) -> Option<usize>
 
 /// Whether the text, which stands behind an opening quote, is the rest of such a literal: its parts
 /// and the mark at the end (Rust Reference, Literal expressions). Its parts have one value only.
-pub fn is_body(q: Quote, text: &[char]) -> bool
-    ensures value { result ≡ ends (Within.Open q) text.now }
-    ensures is { IsTrue result → (parts : List Part) × IsBody q text.now parts }
-    ensures only { (parts : List Part) → IsBody q text.now parts → IsTrue result }
-    ensures one_value { (a : List Part) → (b : List Part) → IsBody q text.now a → IsBody q text.now b → value_of a ≡ value_of b }
+pub fn is_body(quote: Quote, text: &[char]) -> bool
+    ensures value { result ≡ ends (Within.Open quote) text.now }
+    ensures is { IsTrue result → (parts : List Part) × IsBody quote text.now parts }
+    ensures only { (parts : List Part) → IsBody quote text.now parts → IsTrue result }
+    ensures one_value { (a : List Part) → (b : List Part) → IsBody quote text.now a → IsBody quote text.now b → value_of a ≡ value_of b }
 {
-    quote_end(q, text) == Some(text.len())
+    quote_end(quote, text) == Some(text.len())
 }
 
 #[cfg(test)]
@@ -349,13 +355,13 @@ mod tests {
     use std::alloc::Global;
     use std::test::Fail;
 
-    fn fits(alloc: Global, q: Quote, literal: &str) -> Result<bool, Fail> {
-        let prefix = match q {
+    fn fits(alloc: Global, quote: Quote, literal: &str) -> Result<bool, Fail> {
+        let prefix = match quote {
             Quote::Str | Quote::Char => 1,
             Quote::ByteStr | Quote::CStr | Quote::Byte => 2,
         };
         let text: Vec<char> = literal.chars().skip(prefix).collect(alloc)?;
-        Ok(is_body(q, &text))
+        Ok(is_body(quote, &text))
     }
 
     #[test]
@@ -406,7 +412,7 @@ mod tests {
 
     #[test]
     fn bytes_and_c_strings(rt: HostRuntime) -> Result<(), Fail> {
-        for (q, literal, fit) in [
+        for (quote, literal, fit) in [
             (Quote::Str, r#""\u{1_F600}""#, true),
             (Quote::Str, r#""\u{D800}""#, false),
             (Quote::ByteStr, r#"b"a\x80\xff\'""#, true),
@@ -424,7 +430,7 @@ mod tests {
             (Quote::Byte, r"b'é'", false),
             (Quote::Byte, "b'\n'", false),
         ] {
-            assert_eq!(rt; fits(rt.alloc(), q, literal)?, fit, "{literal}");
+            assert_eq!(rt; fits(rt.alloc(), quote, literal)?, fit, "{literal}");
         }
         Ok(())
     }

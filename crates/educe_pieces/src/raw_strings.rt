@@ -32,8 +32,8 @@ fn raw_closing_len(marks: usize, text: &[char]) -> Option<usize>
 }
 
 /// How many characters the raw text at the front has, from its first `#` or `"` on; none where no
-/// such text stands there.
-pub(crate) fn raw_len(text: &[char]) -> Option<usize>
+/// such text stands there (Rust Reference, Raw string literals).
+pub fn raw_len(text: &[char]) -> Option<usize>
     ensures value { result ≡ raw_len text.now }
     ensures within { IfSome result (λ n. n ≤ length text.now) }
 {

@@ -20,16 +20,16 @@ fn is_never_raw(text: &[char]) -> bool
         || text == ['_'].as_slice()
 }
 
-/// How many characters at the front go on with a word.
-pub(crate) fn continue_len(text: &[char]) -> usize
+/// How many characters at the front go on with a word: XID_Continue (Rust Reference, Identifiers).
+pub fn continue_len(text: &[char]) -> usize
     ensures value { result ≡ continue_len text.now }
     ensures within { result ≤ length text.now }
 {
     text.iter().take_while(|c| is_xid_continue(**c)).count()
 }
 
-/// How many characters the word at the front has, where one is there.
-pub(crate) fn word_len(text: &[char]) -> Option<usize>
+/// How many characters the word at the front has, where one is there (Rust Reference, Identifiers).
+pub fn word_len(text: &[char]) -> Option<usize>
     ensures value { result ≡ word_len text.now }
     ensures within { IfSome result (λ len. len ≤ length text.now) }
 {
@@ -41,8 +41,9 @@ pub(crate) fn word_len(text: &[char]) -> Option<usize>
     }
 }
 
-/// How many characters the word behind `r#` has, where it may be raw.
-pub(crate) fn raw_word_len(text: &[char]) -> Option<usize>
+/// How many characters the word behind `r#` has, where it may be raw (Rust Reference, Raw
+/// identifiers).
+pub fn raw_word_len(text: &[char]) -> Option<usize>
     ensures value { result ≡ raw_word_len text.now }
     ensures within { IfSome result (λ len. len ≤ length text.now) }
 {
@@ -58,8 +59,8 @@ pub(crate) fn raw_word_len(text: &[char]) -> Option<usize>
     }
 }
 
-/// Whether no character follows that goes on with a word.
-pub(crate) fn ends_word_before(rest: &[char]) -> bool
+/// Whether no character follows that goes on with a word (Rust Reference, Identifiers).
+pub fn ends_word_before(rest: &[char]) -> bool
     ensures { result ≡ ends_word_before rest.now }
 {
     match rest {
@@ -68,8 +69,9 @@ pub(crate) fn ends_word_before(rest: &[char]) -> bool
     }
 }
 
-/// Whether what follows makes a word before it no piece.
-pub(crate) fn touches_word(rest: &[char]) -> bool
+/// Whether what follows makes a word before it no piece: a character that goes on with it, `"`,
+/// `'` or `#` (Rust Reference, Reserved prefixes).
+pub fn touches_word(rest: &[char]) -> bool
     ensures { result ≡ begins touches_word rest.now }
 {
     match rest {
@@ -78,8 +80,9 @@ pub(crate) fn touches_word(rest: &[char]) -> bool
     }
 }
 
-/// Whether what follows makes a lifetime before it no piece.
-pub(crate) fn touches_lifetime(rest: &[char]) -> bool
+/// Whether what follows makes a lifetime before it no piece: a character that goes on with it, or
+/// `'` (Rust Reference, Lifetimes and loop labels).
+pub fn touches_lifetime(rest: &[char]) -> bool
     ensures { result ≡ begins touches_lifetime rest.now }
 {
     match rest {

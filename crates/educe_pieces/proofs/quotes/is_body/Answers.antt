@@ -8,17 +8,17 @@ use Rattle.educe_pieces.proofs.Bodies.{body_ends, ends_body, one_value}
 use Rattle.educe_pieces.proofs.quotes.is_body.Goals as goal
 
 -- the test is whether the text ends as such a literal
-is_end : (c : goal.After-eq) → c.eq.result ≡ ends (Open c.args.q) c.args.text.now
-is_end c = c.eq.ensures ∙ ap (λ o. option_eq nat_eq o (Some (length c.args.text.now))) c.quote_end.ensures.value ∙ whole_ends c.args.text.now (Open c.args.q)
+is_end : (c : goal.After-eq) → c.eq.result ≡ ends (Open c.args.quote) c.args.text.now
+is_end c = c.eq.ensures ∙ ap (λ o. option_eq nat_eq o (Some (length c.args.text.now))) c.quote_end.ensures.value ∙ whole_ends c.args.text.now (Open c.args.quote)
 
 pub returns-clause-value : goal.returns-clause-value
 returns-clause-value c = is_end c
 
 pub returns-clause-is : goal.returns-clause-is
-returns-clause-is c = λ h. ends_body c.args.q c.args.text.now (sym (is_end c) ∙ h)
+returns-clause-is c = λ h. ends_body c.args.quote c.args.text.now (sym (is_end c) ∙ h)
 
 pub returns-clause-only : goal.returns-clause-only
-returns-clause-only c = λ parts b. is_end c ∙ (body_ends c.args.q c.args.text.now parts b).0
+returns-clause-only c = λ parts b. is_end c ∙ (body_ends c.args.quote c.args.text.now parts b).0
 
 pub returns-clause-one_value : goal.returns-clause-one_value
-returns-clause-one_value c = one_value c.args.q c.args.text.now
+returns-clause-one_value c = one_value c.args.quote c.args.text.now

@@ -6,6 +6,6 @@ use Rattle.educe_pieces.proofs.quotes.quote_end.Given as goal
 
 abbrev pub invariant-loop-i : goal.invariant-loop-i
 invariant-loop-i l = record {
-  found : end_at (Open l.fn.q) l.text ≡ plus l.i (end_at l.within (drop l.i l.text));
+  found : end_at (Open l.fn.quote) l.text ≡ plus l.i (end_at l.within (drop l.i l.text));
   reachable : is_reachable l.within ≡ true;
 }

@@ -14,10 +14,10 @@ use Rattle.educe_pieces.specs.Chars.{is_punct, is_slash_or_star}
 use Rattle.educe_pieces.specs.Words.{touches_word, touches_lifetime}
 use Rattle.educe_pieces.specs.Comments.{opens_comment}
 use Rattle.educe_pieces.specs.Pieces.{is_joint, spells, is_piece, may_precede}
-use Rattle.educe_pieces.specs.Joining.{stands_apart}
 use Rattle.educe_pieces.proofs.Lists.{begins-append}
 use Rattle.educe_pieces.proofs.NumberRests.{space_no_continue, line_feed_no_continue, int_before_space, int_before_end, ends_word_before-line_feed, may_follow_int-line_feed, may_follow_float-line_feed}
 use Rattle.educe_pieces.proofs.CommentLaws.{ends_line-feed_behind}
+use Rattle.educe_scan.specs.Joining.{stands_apart}
 
 -- each literal may stand before a space
 literal_before_space : (kind : LiteralKind) (s r : List ℕ) → may_precede (Token (Literal kind)) s (32 ∷ r) ≡ true

@@ -1,17 +1,16 @@
 //! The piece at the front of a text.
-ghost use Rattle.std.specs.Prelude.{◌≡◌, ◌≤◌, ◌<◌, ◌+◌, ◌^◌, ◌==◌, length, take, IfSome};
+ghost use Rattle.std.specs.Prelude.{◌≡◌, ◌≤◌, ◌<◌, ◌+◌, ◌^◌, ◌==◌, None, length, drop, IfSome};
 ghost use Rattle.std.specs.List.{list_all};
 ghost use Rattle.std.specs.Char.{is_ascii};
-ghost use Rattle.educe_pieces.specs.Scan.{bracket_of, longer_by, punct_at, plain_word, opens_raw, opens_prefixed_raw, opens_raw_word, raw_ascii_len, by_r, by_b, by_c, by_word, by_quote, by_sign, candidate, piece_at};
+ghost use Rattle.educe_scan.specs.Reading.{front_piece, IsPiece, IsLongest, FitsNone};
+ghost use Rattle.educe_scan.specs.Scan.{bracket_of, longer_by, punct_at, plain_word, opens_raw, opens_prefixed_raw, opens_raw_word, raw_ascii_len, raw_or_word, byte_or_word, c_string_or_word, by_word, by_quote, by_sign, candidate, piece_at};
 
-use crate::chars::{begins_with, is_blank, is_punct, is_word_start};
-use crate::comments::{comment_at, opens_comment};
-use crate::kind::{Bracket, LiteralKind, PieceKind, TokenKind, UncarriedKind};
-use crate::numbers::number_at;
 use crate::preceding::{is_joint, may_precede};
-use crate::quotes::{Quote, quote_end};
-use crate::raw_strings::raw_len;
-use crate::words::{continue_len, raw_word_len, word_len};
+use educe_pieces::{
+    Bracket, LiteralKind, PieceKind, Quote, TokenKind, UncarriedKind, begins_with, comment_at,
+    continue_len, is_blank, is_punct, is_word_start, number_at, opens_comment, quote_end, raw_len,
+    raw_word_len, word_len,
+};
 
 fn bracket_of(c: char) -> Option<TokenKind>
     ensures { result ≡ bracket_of c }
@@ -79,8 +78,8 @@ fn opens_raw_word(rest: &[char]) -> bool
     }
 }
 
-fn by_r(rest: &[char]) -> Option<(PieceKind, usize)>
-    ensures value { result ≡ by_r rest.now }
+fn raw_or_word(rest: &[char]) -> Option<(PieceKind, usize)>
+    ensures value { result ≡ raw_or_word rest.now }
     ensures within { IfSome result (λ found. found.1 ≤ length rest.now + 1) }
 {
     if opens_raw(rest) {
@@ -120,8 +119,8 @@ fn raw_ascii_len(text: &[char]) -> Option<usize>
     }
 }
 
-fn by_b(rest: &[char]) -> Option<(PieceKind, usize)>
-    ensures value { result ≡ by_b rest.now }
+fn byte_or_word(rest: &[char]) -> Option<(PieceKind, usize)>
+    ensures value { result ≡ byte_or_word rest.now }
     ensures within { IfSome result (λ found. found.1 ≤ length rest.now + 1) }
 {
     let string = PieceKind::Token(TokenKind::Literal(LiteralKind::ByteStr));
@@ -137,8 +136,8 @@ fn by_b(rest: &[char]) -> Option<(PieceKind, usize)>
     }
 }
 
-fn by_c(rest: &[char]) -> Option<(PieceKind, usize)>
-    ensures value { result ≡ by_c rest.now }
+fn c_string_or_word(rest: &[char]) -> Option<(PieceKind, usize)>
+    ensures value { result ≡ c_string_or_word rest.now }
     ensures within { IfSome result (λ found. found.1 ≤ length rest.now + 1) }
 {
     let string = PieceKind::Uncarried(UncarriedKind::CStr);
@@ -156,9 +155,9 @@ fn by_word(first: char, rest: &[char]) -> Option<(PieceKind, usize)>
     ensures within { IfSome result (λ found. found.1 ≤ length rest.now + 1) }
 {
     match first {
-        'r' => by_r(rest),
-        'b' => by_b(rest),
-        'c' => by_c(rest),
+        'r' => raw_or_word(rest),
+        'b' => byte_or_word(rest),
+        'c' => c_string_or_word(rest),
         _ => plain_word(rest),
     }
 }
@@ -219,6 +218,9 @@ pub(crate) fn candidate(text: &[char]) -> Option<(PieceKind, usize)>
 pub fn piece_at(text: &[char]) -> Option<(PieceKind, usize)>
     ensures value { result ≡ piece_at text.now }
     ensures within { IfSome result (λ found. found.1 ≤ length text.now) }
+    ensures stands { IfSome result (λ found. IsPiece (front_piece text.now found) (drop found.1 text.now)) }
+    ensures longest { IfSome result (λ found. IsLongest (front_piece text.now found) text.now) }
+    ensures none { result ≡ None → FitsNone text.now }
 {
     let (kind, len) = candidate(text)?;
     let (spelling, rest) = text.split_at(len);

@@ -1,22 +1,18 @@
 -- Readings of a text, one piece at a time.
-use Rattle.std.proofs.Common.{◌≡◌, ℕ, ◌<◌, ◌≤◌, Option, Some, None, List, [], ◌∷◌, ◌++◌, length, take, drop, refl, sym, ap, ◌∙◌, subst, arith}
+use Rattle.std.proofs.Common.{◌≡◌, ℕ, ◌<◌, ◌≤◌, Bool, cond, Option, Some, None, List, [], ◌∷◌, ◌++◌, length, take, drop, refl, sym, ap, ◌∙◌, subst, arith, take-append-drop}
 use Rattle.std.proofs.Math.Seq.{take-append_seam, drop-append_seam}
 use Rattle.std.proofs.lemmas.Bool.{and_parts, and_from, cond_both}
 use Rattle.educe_pieces.specs.declared.kind.PieceKind.{PieceKind}
 use Rattle.educe_pieces.specs.Pieces.{is_piece, may_precede}
 use Rattle.educe_pieces.specs.Fits.{Fits}
-use Rattle.educe_pieces.specs.Scan.{candidate, checked, piece_at}
-use Rattle.educe_pieces.specs.Reading.{Piece, IsPiece, IsLongest, Reads, FitsNone}
-use Rattle.educe_pieces.proofs.Front.{candidate_fits, candidate_finds}
-
--- the piece that the scan found
-abbrev pub found_piece : List ℕ → PieceKind → ℕ → Piece
-found_piece text kind n = record { kind = kind; spelling = take n text }
+use Rattle.educe_scan.specs.Scan.{candidate, checked, piece_at}
+use Rattle.educe_scan.specs.Reading.{Piece, front_piece, IsPiece, IsLongest, Reads, FitsNone}
+use Rattle.educe_scan.proofs.Front.{candidate_fits, candidate_finds}
 
 -- what the scan found is a piece before the rest, and not empty
 abbrev pub IsFound : List ℕ → Option (PieceKind × ℕ) → Type 0
 IsFound text None = Unit {0}
-IsFound text (Some found) = IsPiece (found_piece text found.0 found.1) (drop found.1 text) × (0 < found.1) × (found.1 ≤ length text)
+IsFound text (Some found) = IsPiece (front_piece text found) (drop found.1 text) × (0 < found.1) × (found.1 ≤ length text)
 
 -- a candidate that passes the check is found
 checked_found : (text : List ℕ) (o : Option (PieceKind × ℕ)) → Fits text o → IsFound text (checked text o)
@@ -103,3 +99,19 @@ no_reading text rest ps qs a more none b = let on = reads_on text rest ps qs a b
 -- where no piece is found, no front of the text is one
 pub fits_none : (rest : List ℕ) → piece_at rest ≡ None → FitsNone rest
 fits_none rest none p more e h = none_not_found _ (sym none ∙ ap piece_at e ∙ piece_finds p more h)
+
+-- where there is no candidate, no piece is found
+pub none_found : (text : List ℕ) → candidate text ≡ None → piece_at text ≡ None
+unfolding piece_at
+none_found text h = ap (checked text) h
+
+-- a candidate is found where it may stand before the rest
+pub candidate_found : (text spelling rest : List ℕ) (found : PieceKind × ℕ) (b : Bool) → candidate text ≡ Some found → spelling ≡ take found.1 text → rest ≡ drop found.1 text → may_precede found.0 spelling rest ≡ b
+    → piece_at text ≡ cond b (Some found) None
+unfolding piece_at
+candidate_found text spelling rest found b h front back m =
+    ap (checked text) h ∙ ap (λ (x : Bool). cond x (Some found) None) ((λ i. may_precede found.0 (sym front i) (sym back i)) ∙ m)
+
+-- what is found is the longest piece
+pub found_longest : (text : List ℕ) (found : PieceKind × ℕ) → IsFound text (Some found) → IsLongest (front_piece text found) text
+found_longest text found h = piece_longest (front_piece text found) text (drop found.1 text) (sym (take-append-drop found.1 text)) h.0

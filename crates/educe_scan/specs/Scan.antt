@@ -65,8 +65,8 @@ opens_raw_word [] = false
 opens_raw_word (c ∷ cs) = (c == 35) && begins is_word_start cs
 
 -- what an `r` begins
-abbrev pub by_r : List ℕ → Option (PieceKind × ℕ)
-by_r cs =
+abbrev pub raw_or_word : List ℕ → Option (PieceKind × ℕ)
+raw_or_word cs =
     cond (opens_raw cs) (longer_by 1 (Token (Literal Str)) (raw_len cs))
     (cond (opens_raw_word cs) (longer_by 2 (Token Ident) (raw_word_len (drop 1 cs)))
     (plain_word cs))
@@ -81,23 +81,23 @@ abbrev pub raw_ascii_len : List ℕ → Option ℕ
 raw_ascii_len text = if_ascii text (raw_len text)
 
 -- what a `b` begins
-abbrev pub by_b : List ℕ → Option (PieceKind × ℕ)
-by_b cs =
+abbrev pub byte_or_word : List ℕ → Option (PieceKind × ℕ)
+byte_or_word cs =
     cond (begins (λ c. c == 39) cs) (longer_by 2 (Token (Literal Byte)) (end_at (Open InByte) (drop 1 cs)))
     (cond (begins (λ c. c == 34) cs) (longer_by 2 (Token (Literal ByteStr)) (end_at (Open InByteStr) (drop 1 cs)))
     (cond (opens_prefixed_raw cs) (longer_by 2 (Token (Literal ByteStr)) (raw_ascii_len (drop 1 cs)))
     (plain_word cs)))
 
 -- what a `c` begins
-abbrev pub by_c : List ℕ → Option (PieceKind × ℕ)
-by_c cs =
+abbrev pub c_string_or_word : List ℕ → Option (PieceKind × ℕ)
+c_string_or_word cs =
     cond (begins (λ c. c == 34) cs) (longer_by 2 (Uncarried CStr) (end_at (Open InCStr) (drop 1 cs)))
     (cond (opens_prefixed_raw cs) (longer_by 2 (Uncarried CStr) (raw_len (drop 1 cs)))
     (plain_word cs))
 
 -- what the first character of a word begins
 abbrev pub by_word : ℕ → List ℕ → Option (PieceKind × ℕ)
-by_word c cs = cond (c == 114) (by_r cs) (cond (c == 98) (by_b cs) (cond (c == 99) (by_c cs) (plain_word cs)))
+by_word c cs = cond (c == 114) (raw_or_word cs) (cond (c == 98) (byte_or_word cs) (cond (c == 99) (c_string_or_word cs) (plain_word cs)))
 
 -- behind a `'`: the character that ends so, or else a lifetime
 abbrev pub or_lifetime : List ℕ → Option ℕ → Option (PieceKind × ℕ)

@@ -26,10 +26,10 @@ use Rattle.educe_pieces.proofs.Classes.{at_equal, only_is}
 use Rattle.educe_pieces.proofs.Bodies.{body_ends, ends_body}
 use Rattle.educe_pieces.proofs.Quoted.{quoted_parts, prefixed_parts, quoted_from, prefixed_from}
 use Rattle.educe_pieces.proofs.RawStrings.{raw_str_of, raw_str_from}
-use Rattle.educe_pieces.proofs.FrontFinds.{raw_word_parts}
 use Rattle.educe_pieces.proofs.IntegerSpells.{int_spelled, int_tested, wide_int_spelled, wide_int_tested}
 use Rattle.educe_pieces.proofs.FloatSpells.{float_spelled, float_tested}
 use Rattle.educe_pieces.proofs.BlockLaws.{block_closes, closes_counted}
+use Rattle.educe_scan.proofs.FrontFinds.{raw_word_parts}
 
 -- what the test finds to be a word is one
 word_spelled : (s : List ℕ) → is_word s ≡ true → IsWord s

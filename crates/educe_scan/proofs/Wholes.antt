@@ -10,11 +10,11 @@ use Rattle.educe_pieces.specs.declared.kind.PieceKind.{PieceKind}
 use Rattle.educe_pieces.specs.declared.kind.PieceKind.TheVariants.{Blank, Comment, Token, Uncarried}
 use Rattle.educe_pieces.specs.Pieces.{is_piece, may_precede}
 use Rattle.educe_pieces.specs.Fits.{Fits}
-use Rattle.educe_pieces.specs.Joining.{unjoined}
-use Rattle.educe_pieces.specs.Scan.{candidate}
 use Rattle.educe_pieces.proofs.CommentLaws.{ends_line-nil}
 use Rattle.educe_pieces.proofs.NumberRests.{int_before_end, float_before_end}
-use Rattle.educe_pieces.proofs.Front.{candidate_fits, candidate_finds}
+use Rattle.educe_scan.specs.Joining.{unjoined}
+use Rattle.educe_scan.specs.Scan.{candidate}
+use Rattle.educe_scan.proofs.Front.{candidate_fits, candidate_finds}
 
 -- each kind may end the text, where a punct is joint with nothing
 ends_text : (kind : PieceKind) (s : List ℕ) → may_precede (unjoined kind) s [] ≡ true

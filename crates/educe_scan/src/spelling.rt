@@ -1,12 +1,12 @@
 //! Whether a text is one piece of a kind (Rust Reference, Lexical structure).
 ghost use Rattle.std.specs.Prelude.{◌≡◌, Some, IsTrue, length};
-ghost use Rattle.educe_pieces.specs.Joining.{unjoined};
 ghost use Rattle.educe_pieces.specs.Pieces.{is_piece};
-ghost use Rattle.educe_pieces.specs.Scan.{candidate};
 ghost use Rattle.educe_pieces.specs.Spells.{IsPieceOf};
+ghost use Rattle.educe_scan.specs.Joining.{unjoined};
+ghost use Rattle.educe_scan.specs.Scan.{candidate};
 
-use crate::kind::{PieceKind, TokenKind};
 use crate::scan::candidate;
+use educe_pieces::{PieceKind, TokenKind};
 
 /// The kind at the end of a text, where no punctuation character is joint.
 fn unjoined(kind: PieceKind) -> PieceKind
@@ -42,7 +42,7 @@ pub fn is_piece(kind: PieceKind, text: &[char]) -> bool
 #[cfg(test)]
 mod tests {
     use super::*;
-    use crate::kind::{LiteralKind, UncarriedKind};
+    use educe_pieces::{LiteralKind, UncarriedKind};
     use std::alloc::{AllocError, Global};
     use std::test::Fail;
 

@@ -20,13 +20,13 @@ use Rattle.educe_pieces.specs.Words.{is_word, word_len, raw_word_len}
 use Rattle.educe_pieces.specs.RawStrings.{is_raw, raw_len}
 use Rattle.educe_pieces.specs.Machine.{ends, end_at, is_str, is_byte_str, is_c_str}
 use Rattle.educe_pieces.specs.Pieces.{is_piece}
-use Rattle.educe_pieces.specs.Fits.{Fits}
-use Rattle.educe_pieces.specs.Scan.{bracket_of, one_long, longer_by, plain_word, opens_raw, opens_prefixed_raw, opens_raw_word, if_ascii, raw_ascii_len, by_r, by_b, by_c, by_word, or_lifetime, by_quote, by_sign}
+use Rattle.educe_pieces.specs.Fits.{Fits, FrontPasses}
 use Rattle.educe_pieces.proofs.Classes.{word_start-ascii, at_equal, list_all-prefix}
-use Rattle.educe_pieces.proofs.Fitting.{FrontPasses, longer_fits, behind_one, behind_two}
 use Rattle.educe_pieces.proofs.WordLaws.{word_is, is_rawable, raw_word_is}
 use Rattle.educe_pieces.proofs.Ends.{end_at_ends}
 use Rattle.educe_pieces.proofs.RawStrings.{raw_is}
+use Rattle.educe_scan.specs.Scan.{bracket_of, one_long, longer_by, plain_word, opens_raw, opens_prefixed_raw, opens_raw_word, if_ascii, raw_ascii_len, raw_or_word, byte_or_word, c_string_or_word, by_word, or_lifetime, by_quote, by_sign}
+use Rattle.educe_scan.proofs.Fitting.{longer_fits, behind_one, behind_two}
 
 -- a raw text of ASCII characters
 abbrev pub is_raw_ascii : List ℕ → Bool
@@ -64,7 +64,7 @@ raw_word_fits (d ∷ cs) h =
     (behind_two is_rawable (Token Ident) 114 35 cs (raw_word_len cs) (raw_word_is cs) (λ s e. or_right _ _ e)) (and_parts (d == 35) _ h).0
 
 -- what an `r` begins fits
-r_fits : (cs : List ℕ) → Fits (114 ∷ cs) (by_r cs)
+r_fits : (cs : List ℕ) → Fits (114 ∷ cs) (raw_or_word cs)
 r_fits cs =
     let P : Option (PieceKind × ℕ) → Type 0 = Fits (114 ∷ cs) in
     cond_both (opens_raw cs) _ _ P (λ _. behind_one is_raw (Token (Literal Str)) 114 cs (raw_len cs) (raw_is cs) (λ s e. or_right (is_str (114 ∷ s)) _ e)) (λ _.
@@ -86,7 +86,7 @@ prefixed_raw_fits test len kind letter (d ∷ cs) passes f h =
     at_equal (λ x. Fits (letter ∷ x ∷ cs) (longer_by 2 kind (len cs))) d 114 (behind_two test kind letter 114 cs (len cs) (passes cs) f) (and_parts (d == 114) _ h).0
 
 -- what a `b` begins fits
-b_fits : (cs : List ℕ) → Fits (98 ∷ cs) (by_b cs)
+b_fits : (cs : List ℕ) → Fits (98 ∷ cs) (byte_or_word cs)
 b_fits cs =
     let P : Option (PieceKind × ℕ) → Type 0 = Fits (98 ∷ cs) in
     cond_both (begins (λ c. c == 39) cs) _ _ P (λ e. prefixed_fits (Token (Literal Byte)) (Open InByte) 98 39 cs (λ s h. h) e) (λ _.
@@ -95,7 +95,7 @@ b_fits cs =
     plain_fits 98 cs (word_start-ascii 98 (omega arith)))))
 
 -- what a `c` begins fits
-c_fits : (cs : List ℕ) → Fits (99 ∷ cs) (by_c cs)
+c_fits : (cs : List ℕ) → Fits (99 ∷ cs) (c_string_or_word cs)
 c_fits cs =
     let P : Option (PieceKind × ℕ) → Type 0 = Fits (99 ∷ cs) in
     cond_both (begins (λ c. c == 34) cs) _ _ P (λ e. prefixed_fits (Uncarried CStr) (Open InCStr) 99 34 cs (λ s h. or_left _ _ h) e) (λ _.
@@ -106,9 +106,9 @@ c_fits cs =
 pub word_fits : (c : ℕ) (cs : List ℕ) → is_word_start c ≡ true → Fits (c ∷ cs) (by_word c cs)
 word_fits c cs w =
     let P : Option (PieceKind × ℕ) → Type 0 = Fits (c ∷ cs) in
-    cond_both (c == 114) _ _ P (at_equal (λ x. Fits (x ∷ cs) (by_r cs)) c 114 (r_fits cs)) (λ _.
-    cond_both (c == 98) _ _ P (at_equal (λ x. Fits (x ∷ cs) (by_b cs)) c 98 (b_fits cs)) (λ _.
-    cond_both (c == 99) _ _ P (at_equal (λ x. Fits (x ∷ cs) (by_c cs)) c 99 (c_fits cs)) (λ _.
+    cond_both (c == 114) _ _ P (at_equal (λ x. Fits (x ∷ cs) (raw_or_word cs)) c 114 (r_fits cs)) (λ _.
+    cond_both (c == 98) _ _ P (at_equal (λ x. Fits (x ∷ cs) (byte_or_word cs)) c 98 (b_fits cs)) (λ _.
+    cond_both (c == 99) _ _ P (at_equal (λ x. Fits (x ∷ cs) (c_string_or_word cs)) c 99 (c_fits cs)) (λ _.
     plain_fits c cs w)))
 
 -- a character that ends, or else a lifetime, fits

@@ -2,11 +2,11 @@
 ghost use Rattle.std.specs.Prelude.{◌≡◌, ◌==◌, IsTrue};
 ghost use Rattle.educe_pieces.specs.Pieces.{is_joint, is_piece, spells, spells_uncarried, may_precede};
 
-use crate::chars::{begins_slash_or_star, is_punct};
-use crate::comments::{ends_line_before, opens_comment};
-use crate::kind::{LiteralKind, PieceKind, TokenKind, UncarriedKind};
-use crate::numbers::{may_follow_float, may_follow_int};
-use crate::words::{ends_word_before, touches_lifetime, touches_word};
+use educe_pieces::{
+    LiteralKind, PieceKind, TokenKind, UncarriedKind, begins_slash_or_star, ends_line_before,
+    ends_word_before, is_punct, may_follow_float, may_follow_int, opens_comment, touches_lifetime,
+    touches_word,
+};
 
 /// Whether a punct is joint before a rest (Rust Reference, Punctuation).
 pub(crate) fn is_joint(rest: &[char]) -> bool

@@ -24,14 +24,14 @@ use Rattle.educe_pieces.specs.Comments.{opens_comment}
 use Rattle.educe_pieces.specs.CommentScan.{comment_at}
 use Rattle.educe_pieces.specs.Numbers.{number_at}
 use Rattle.educe_pieces.specs.Pieces.{opener, closer}
-use Rattle.educe_pieces.specs.Scan.{longer_by, punct_at, plain_word, is_quote_or_hash, opens_raw, opens_prefixed_raw, opens_raw_word, if_ascii, raw_ascii_len, by_word, or_lifetime, by_quote, candidate}
 use Rattle.educe_pieces.proofs.Classes.{word_start-ascii, at_equal, word_no_blank, digit_no_blank, digit_no_word, word_continues, continue_no_mark, mark_parts, punct_no_blank, punct_no_digit, punct_no_word, punct_no_quote, prefix_len-append}
-use Rattle.educe_pieces.proofs.Fitting.{behind_one_found, behind_two_found}
 use Rattle.educe_pieces.proofs.WordLaws.{is_rawable, word_found, raw_word_found}
 use Rattle.educe_pieces.proofs.Ends.{ends_found}
 use Rattle.educe_pieces.proofs.Quoted.{str_parts, byte_str_parts, c_str_parts, char_parts, byte_parts, char_none}
 use Rattle.educe_pieces.proofs.RawStrings.{raw_found, raw_begins, raw_str_parts, raw_byte_str_parts, raw_c_str_parts}
 use Rattle.educe_pieces.proofs.Lists.{same_length}
+use Rattle.educe_scan.specs.Scan.{longer_by, punct_at, plain_word, is_quote_or_hash, opens_raw, opens_prefixed_raw, opens_raw_word, if_ascii, raw_ascii_len, by_word, or_lifetime, by_quote, candidate}
+use Rattle.educe_scan.proofs.Fitting.{behind_one_found, behind_two_found}
 
 -- where a blank begins the text, it is the candidate
 pub at_blank : (c : ℕ) (cs : List ℕ) → is_blank c ≡ true → candidate (c ∷ cs) ≡ Some (Blank, 1)

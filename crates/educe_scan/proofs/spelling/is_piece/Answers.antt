@@ -1,8 +1,8 @@
 use Rattle.std.proofs.Common.{◌≡◌, ◌∙◌, sym, subst}
 use Rattle.educe_pieces.specs.Pieces.{is_piece}
-use Rattle.educe_pieces.proofs.SpellLaws.{piece_sound, piece_complete}
-use Rattle.educe_pieces.proofs.Wholes.{IsWhole, whole_value}
-use Rattle.educe_pieces.proofs.spelling.is_piece.Goals as goal
+use Rattle.educe_scan.proofs.SpellLaws.{piece_sound, piece_complete}
+use Rattle.educe_scan.proofs.Wholes.{IsWhole, whole_value}
+use Rattle.educe_scan.proofs.spelling.is_piece.Goals as goal
 
 -- the answer is that of the test
 is_test : (c : goal.After-is_whole) → c.is_whole.result ≡ is_piece c.args.kind c.args.text.now

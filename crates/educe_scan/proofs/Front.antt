@@ -13,13 +13,13 @@ use Rattle.educe_pieces.specs.Chars.{is_blank, is_punct, is_word_start}
 use Rattle.educe_pieces.specs.Comments.{opens_comment}
 use Rattle.educe_pieces.specs.Pieces.{opener, closer, is_joint, is_piece, may_precede}
 use Rattle.educe_pieces.specs.Fits.{Fits}
-use Rattle.educe_pieces.specs.Scan.{candidate}
 use Rattle.educe_pieces.proofs.Classes.{only_is}
 use Rattle.educe_pieces.proofs.CommentLaws.{comment_fits, comment_finds, doc_finds, comment_opens, doc_opens}
 use Rattle.educe_pieces.proofs.NumberLaws.{number_fits, int_finds, wide_int_finds, float_finds, int_begins, wide_int_begins, float_begins}
-use Rattle.educe_pieces.proofs.FrontFits.{word_fits, sign_fits}
-pub use Rattle.educe_pieces.proofs.FrontFinds.{at_punct}
-use Rattle.educe_pieces.proofs.FrontFinds as finds
+use Rattle.educe_scan.specs.Scan.{candidate}
+use Rattle.educe_scan.proofs.FrontFits.{word_fits, sign_fits}
+pub use Rattle.educe_scan.proofs.FrontFinds.{at_punct}
+use Rattle.educe_scan.proofs.FrontFinds as finds
 
 -- the candidate fits
 pub candidate_fits : (text : List ℕ) → Fits text (candidate text)

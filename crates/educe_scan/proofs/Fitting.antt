@@ -1,15 +1,10 @@
--- Fronts of a text that pass a test, and the pieces that they make with what stands before them.
-use Rattle.std.proofs.Common.{◌≡◌, ℕ, suc, ◌+◌, ◌<◌, ◌≤◌, Bool, true, Option, Some, None, List, ◌∷◌, ◌++◌, length, take, sym, ap, ◌∙◌, subst, arith}
+-- Pieces that fronts of a text make with what stands before them.
+use Rattle.std.proofs.Common.{◌≡◌, ℕ, suc, ◌+◌, ◌≤◌, Bool, true, Option, Some, None, List, ◌∷◌, ◌++◌, length, take, sym, ap, ◌∙◌, subst, arith}
 use Rattle.educe_pieces.specs.declared.kind.PieceKind.{PieceKind}
 use Rattle.educe_pieces.specs.Pieces.{is_piece}
-use Rattle.educe_pieces.specs.Fits.{Fits}
-use Rattle.educe_pieces.specs.Scan.{longer_by, candidate}
+use Rattle.educe_pieces.specs.Fits.{Fits, FrontPasses}
 use Rattle.educe_pieces.proofs.Lists.{same_length}
-
--- what was found is the length of a front of the text that passes, and is not empty
-abbrev pub FrontPasses : (List ℕ → Bool) → List ℕ → Option ℕ → Type 0
-FrontPasses test text None = Unit {0}
-FrontPasses test text (Some n) = (test (take n text) ≡ true) × (0 < n) × (n ≤ length text)
+use Rattle.educe_scan.specs.Scan.{longer_by, candidate}
 
 -- a character and the next ones fit, where they are a piece
 pub longer_fits : (kind : PieceKind) (c : ℕ) (cs : List ℕ) (n : ℕ) → n ≤ length cs → is_piece kind (c ∷ take n cs) ≡ true → Fits (c ∷ cs) (Some (kind, 1 + n))
