@@ -6,9 +6,9 @@ use Rattle.educe_pieces.specs.declared.kind.TokenKind.{TokenKind}
 use Rattle.educe_pieces.specs.declared.kind.TokenKind.TheVariants.{Start}
 use Rattle.educe_pieces.specs.declared.kind.UncarriedKind.{UncarriedKind}
 use Rattle.educe_pieces.specs.declared.kind.PieceKind.TheVariants.{Uncarried}
-use Rattle.educe_pieces.specs.Scan.{piece_at}
-use Rattle.educe_pieces.specs.Reading.{Piece, IsPiece, Reads, FitsNone}
-use Rattle.educe_pieces.proofs.Readings.{one_piece, piece_finds, none_not_found, no_piece_at_end}
+use Rattle.educe_scan.specs.Scan.{piece_at}
+use Rattle.educe_scan.specs.Reading.{Piece, IsPiece, Reads, FitsNone}
+use Rattle.educe_scan.proofs.Readings.{one_piece, piece_finds, none_not_found, no_piece_at_end}
 use Rattle.educe_tokens.specs.declared.error.EduceError.{EduceError}
 use Rattle.educe_tokens.specs.declared.error.Kind.TheVariants.{Alloc}
 use Rattle.educe_tokens.specs.declared.token.Token.{Token}

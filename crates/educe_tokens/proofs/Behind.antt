@@ -5,9 +5,9 @@ use Rattle.std.proofs.lemmas.List.{map-append}
 use Rattle.std.proofs.lemmas.List.Elements.{filter-append}
 use Rattle.educe_pieces.specs.declared.kind.PieceKind.TheVariants.{Blank}
 use Rattle.educe_pieces.specs.Pieces.{is_piece}
-use Rattle.educe_pieces.specs.Reading.{Piece, IsPiece, Reads}
-use Rattle.educe_pieces.proofs.Following.{may_precede-line_feed}
-use Rattle.educe_pieces.proofs.Readings.{piece_longest}
+use Rattle.educe_scan.specs.Reading.{Piece, IsPiece, Reads}
+use Rattle.educe_scan.proofs.Following.{may_precede-line_feed}
+use Rattle.educe_scan.proofs.Readings.{piece_longest}
 use Rattle.educe_tokens.specs.Lexes.{Lexeme, LexesAside, is_token, is_carried, are_carried, piece_of}
 
 -- a piece stays a piece with a line feed behind the rest

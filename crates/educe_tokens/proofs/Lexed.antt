@@ -8,9 +8,9 @@ use Rattle.educe_tokens.specs.declared.span.Span.{Span}
 use Rattle.educe_tokens.specs.declared.token.Token.{Token}
 use Rattle.educe_pieces.specs.declared.kind.PieceKind.{PieceKind}
 use Rattle.educe_pieces.specs.declared.kind.PieceKind.TheVariants.{Blank, Comment, Token as TokenPiece, Uncarried}
-use Rattle.educe_pieces.specs.Reading.{Piece, Reads}
-use Rattle.educe_pieces.specs.Scan.{piece_at}
-use Rattle.educe_pieces.proofs.Readings.{found_piece, IsFound, reads_push, fits_none}
+use Rattle.educe_scan.specs.Reading.{Piece, front_piece, Reads}
+use Rattle.educe_scan.specs.Scan.{piece_at}
+use Rattle.educe_scan.proofs.Readings.{IsFound, reads_push, fits_none}
 use Rattle.educe_tokens.specs.Causes.{empty_at, last_of, IsLexicalCause}
 use Rattle.educe_tokens.specs.Lexes.{lexeme_of, lexemes, Lexes, is_token, is_carried, are_carried, piece_of, end_of, span_at, spans}
 use Rattle.educe_tokens.specs.Refusals.{syntax_at, not_carried_at}
@@ -109,7 +109,7 @@ front_within text rest front tokens start n b e =
 module _ (text rest : List ℕ) (old : List Token) (start : ℕ) (kind : PieceKind) (n : ℕ) (span : Span) (b : Before text rest old start) (found : IsFound rest (Some (kind, n)))
     (starts : span.start ≡ start) (ends : span.end ≡ start + length (encode_utf8_all (take n rest))) where
   abbrev p : Piece
-  p = found_piece rest kind n
+  p = front_piece rest (kind, n)
 
   -- the reading goes on by it
   reads : Reads text (b.ps ++ p ∷ []) (drop n rest)

@@ -9,6 +9,7 @@ pub mod Bracketed
 pub mod Places
 pub mod Few
 pub mod Joined
+pub mod Parts
 pub mod TextLexes
 pub mod Behind
 pub mod Printed
@@ -16,6 +17,7 @@ pub mod Quoting
 pub mod Appending
 pub mod Ascii
 pub mod Writing
+pub mod Copying
 pub mod Words
 pub mod StringValues
 pub mod Limits

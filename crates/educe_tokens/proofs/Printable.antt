@@ -14,6 +14,8 @@ use Rattle.educe_tokens.specs.Brackets.{kinds}
 use Rattle.educe_tokens.specs.Text.{IsWellFormed, is_well_formed, ends_apart, is_written}
 use Rattle.educe_tokens.specs.Quote.{is_name_start, is_template_word, is_template, template_words, word_lexeme, word_lexemes, quoted}
 use Rattle.educe_tokens.specs.ToTokens.{EndsApart, LexesBack}
+use Rattle.educe_tokens.specs.WrittenLexemes.{written_lexemes}
+use Rattle.educe_tokens.proofs.Copying.{written-copied, copied_spelled}
 use Rattle.educe_tokens.proofs.Tokens.{is_lexeme, tokens_spelled}
 use Rattle.educe_tokens.proofs.TextLexes.{text_of_lexes}
 use Rattle.educe_tokens.proofs.Writing.{written_joins, written-one, written-word, written-append, written-brackets}
@@ -46,8 +48,11 @@ pub printable-nil : IsPrintable []
 printable-nil = record { written = refl; spelled = refl }
 
 -- tokens as they were written
-pub printable-written : (written : Written) → IsPrintable (lexemes written.tokens)
-printable-written written = record { written = written.written; spelled = tokens_spelled written.tokens }
+pub printable-written : (written : Written) → IsPrintable (written_lexemes written)
+printable-written written = record {
+  written = written-copied (lexemes written.tokens) written.written;
+  spelled = copied_spelled (lexemes written.tokens) ∙ tokens_spelled written.tokens;
+}
 
 -- one identifier
 pub printable-ident : (text : List ℕ) → IsTrue (spells Ident text) → IsPrintable (record { kind = Ident; spelling = text } ∷ [])

@@ -11,7 +11,7 @@ use Rattle.educe_pieces.specs.declared.kind.TokenKind.TheVariants.{Doc}
 use Rattle.educe_pieces.specs.declared.kind.PieceKind.{PieceKind}
 use Rattle.educe_pieces.specs.declared.kind.PieceKind.TheVariants.{Blank, Comment, Token as TokenPiece, Uncarried}
 use Rattle.educe_pieces.specs.Pieces.{spells}
-use Rattle.educe_pieces.specs.Reading.{Piece}
+use Rattle.educe_scan.specs.Reading.{Piece}
 use Rattle.educe_tokens.specs.Lexes.{Lexeme, lexeme_of, lexemes, piece_of}
 
 -- the spelling is one token of the kind

@@ -7,8 +7,8 @@ use Rattle.educe_pieces.specs.declared.kind.TokenKind.TheVariants.{Start}
 use Rattle.educe_pieces.specs.declared.kind.UncarriedKind.{UncarriedKind}
 use Rattle.educe_pieces.specs.declared.kind.PieceKind.{PieceKind}
 use Rattle.educe_pieces.specs.declared.kind.PieceKind.TheVariants.{Uncarried}
-use Rattle.educe_pieces.specs.Reading.{Piece, Reads, FitsNone}
-use Rattle.educe_pieces.proofs.Readings.{reads_on}
+use Rattle.educe_scan.specs.Reading.{Piece, Reads, FitsNone}
+use Rattle.educe_scan.proofs.Readings.{reads_on}
 use Rattle.educe_tokens.specs.declared.error.EduceError.{EduceError}
 use Rattle.educe_tokens.specs.declared.error.Kind.TheVariants.{TooDeep, Alloc}
 use Rattle.educe_tokens.specs.declared.token.Token.{Token}

@@ -116,7 +116,7 @@ pub written_from : (xs : List Lexeme) → closes [] (kinds xs) ≡ true → join
 written_from xs c j = and_from _ _ (and_from _ _ c j) (joins_well-apart (kinds xs) j)
 
 -- its brackets close
-written_closes : (xs : List Lexeme) → IsTrue (is_written xs) → closes [] (kinds xs) ≡ true
+pub written_closes : (xs : List Lexeme) → IsTrue (is_written xs) → closes [] (kinds xs) ≡ true
 written_closes xs h = (and_parts (closes [] (kinds xs)) _ (and_parts _ (ends_apart (kinds xs)) h).0).0
 
 -- and it joins well
@@ -162,7 +162,7 @@ written-append xs ys h g =
     (ap joins_well both ∙ joins_well-append (kinds xs) (kinds ys) (written_joins xs h) (written_joins ys g))
 
 -- a bracket closes one of its own sort
-closes-bracket : (b : Bracket) → closes (b ∷ []) (Stop b ∷ []) ≡ true
+pub closes-bracket : (b : Bracket) → closes (b ∷ []) (Stop b ∷ []) ≡ true
 closes-bracket Round = refl
 closes-bracket Square = refl
 closes-bracket Curly = refl

@@ -1,5 +1,5 @@
 -- What stands at the end of a token list that was not there before.
-use Rattle.std.specs.Prelude.{◌≡◌, List, ◌++◌}
+use Rattle.std.specs.Prelude.{◌≡◌, List, ◌++◌, map}
 use Rattle.std.specs.List.{AllByRecursion}
 use Rattle.educe_tokens.specs.declared.span.Span.{Span}
 use Rattle.educe_tokens.specs.declared.token.Token.{Token}
@@ -15,6 +15,12 @@ pub record Appends (found : List Lexeme) (old new : List Token) : Type 0 where
 pub record HasPrefix (old new : List Token) : Type 0 where
   pub more : List Token
   pub joined : new ≡ old ++ more
+
+-- the new list is the old one and then tokens that lie at these places
+pub record AppendsAt (places : List Span) (old new : List Token) : Type 0 where
+  pub more : List Token
+  pub joined : new ≡ old ++ more
+  pub placed : map (λ t. t.span) more ≡ places
 
 -- the span of what the program makes
 abbrev pub no_place : Span

@@ -8,7 +8,7 @@ use Rattle.educe_pieces.specs.declared.kind.TokenKind.{TokenKind}
 use Rattle.educe_pieces.specs.declared.kind.TokenKind.TheVariants.{Start}
 use Rattle.educe_pieces.specs.declared.kind.UncarriedKind.{UncarriedKind}
 use Rattle.educe_pieces.specs.declared.kind.PieceKind.TheVariants.{Uncarried}
-use Rattle.educe_pieces.specs.Reading.{Piece, Reads, FitsNone}
+use Rattle.educe_scan.specs.Reading.{Piece, Reads, FitsNone}
 use Rattle.educe_tokens.specs.declared.span.Span.{Span}
 use Rattle.educe_tokens.specs.declared.token.Token.{Token}
 use Rattle.educe_tokens.specs.declared.error.EduceError.{EduceError}

@@ -3,7 +3,7 @@ use Rattle.std.specs.Prelude.{◌≡◌, ℕ, ◌+◌, Bool, true, false, cond, 
 use Rattle.std.specs.List.{filter, list_all}
 use Rattle.educe_pieces.specs.declared.kind.TokenKind.{TokenKind}
 use Rattle.educe_pieces.specs.declared.kind.PieceKind.TheVariants.{Blank, Comment, Token as TokenPiece, Uncarried}
-use Rattle.educe_pieces.specs.Reading.{Piece, Reads}
+use Rattle.educe_scan.specs.Reading.{Piece, Reads}
 use Rattle.educe_tokens.specs.declared.span.Span.{Span}
 use Rattle.educe_tokens.specs.declared.token.Token.{Token}
 

@@ -3,6 +3,7 @@ pub mod Span
 pub mod Lexes
 pub mod Brackets
 pub mod Text
+pub mod Copied
 pub mod Refusals
 pub mod Causes
 pub mod Steps
@@ -13,3 +14,4 @@ pub mod Message
 pub mod IntValue
 pub mod StringValue
 pub mod ToTokens
+pub mod WrittenLexemes

@@ -1,23 +1,33 @@
 //! Growing a token list at its end.
-ghost use Rattle.std.specs.Prelude.{◌≡◌, IsTrue, OnOk, [], ◌∷◌, ◌++◌, chars};
+ghost use Rattle.std.specs.Prelude.{IsTrue, OnOk, [], ◌∷◌, map, chars};
 ghost use Rattle.educe_pieces.specs.Pieces.{spells};
-ghost use Rattle.educe_tokens.specs.Appends.{Appends, AppendsNowhere, HasPrefix};
+ghost use Rattle.educe_tokens.specs.Appends.{Appends, AppendsAt, AppendsNowhere, HasPrefix};
 ghost use Rattle.educe_tokens.specs.Quote.{word_lexeme};
+ghost use Rattle.educe_tokens.specs.WrittenLexemes.{written_lexemes};
 
+use crate::copied::copied_token;
 use crate::span::Span;
 use crate::spelling::Spelling;
 use crate::token::{Token, TokenStream};
 use crate::word::Word;
+use crate::written::Written;
 use educe_pieces::TokenKind;
 use std::alloc::{AllocError, Global};
 
-/// Appends copies of tokens, their spans included.
-pub fn append(alloc: Global, tokens: &mut TokenStream, more: &TokenStream) -> Result<(), AllocError>
-    ensures ok { OnOk result (tokens.new ≡ tokens.old ++ more.now) }
+/// Appends copies of tokens as they were written, their spans kept.
+pub fn append_written(
+    alloc: Global,
+    tokens: &mut TokenStream,
+    written: &Written,
+) -> Result<(), AllocError>
+    ensures ok { OnOk result (Appends (written_lexemes written.now) tokens.old tokens.new) }
+    ensures places { OnOk result (AppendsAt (map (λ t. t.span) written.now.tokens) tokens.old tokens.new) }
     ensures prefix { HasPrefix tokens.old tokens.new }
 {
-    for token in more.as_slice() {
-        tokens.push(token.duplicate(alloc)?)?;
+    let mut rest = written.tokens.as_slice();
+    while let [first, behind @ ..] = rest {
+        tokens.push(copied_token(alloc, first, behind)?)?;
+        rest = behind;
     }
     Ok(())
 }
@@ -51,4 +61,33 @@ pub(crate) fn push_spelled(
         spelling,
     })?;
     Ok(())
+}
+
+#[cfg(test)]
+mod tests {
+    use super::*;
+    use crate::seq::Seq;
+    use crate::slice::TokenSlice;
+    use crate::template::quote;
+    use std::test::Fail;
+
+    // The part `a:` of `a::b`.
+    #[test]
+    fn a_copy_ends_apart(rt: HostRuntime) -> Result<(), Fail> {
+        let alloc = rt.alloc();
+        let mut tokens = Seq::new(alloc);
+        quote(alloc, &mut tokens, "a :: b")?;
+        let all = TokenSlice::new(alloc, tokens)?;
+        assert!(rt; all.len() == 4);
+        let written = Written::new(all.part(0, 2)?).duplicate()?;
+        let last = written.tokens().as_slice().last().ok_or("no token")?;
+        assert_eq!(rt; last.kind, TokenKind::Punct(':', true));
+        let mut copies = Seq::new(alloc);
+        append_written(alloc, &mut copies, &written)?;
+        assert_eq!(rt; copies.len(), 2);
+        let copy = copies.get(1).ok_or("no copy")?;
+        assert_eq!(rt; copy.kind, TokenKind::Punct(':', false));
+        assert_eq!(rt; copy.span, last.span);
+        Ok(())
+    }
 }

@@ -16,7 +16,8 @@ use crate::seq::Seq;
 use crate::span::{SOURCE_LIMIT, Span};
 use crate::spelling::Spelling;
 use crate::token::{Token, TokenStream};
-use educe_pieces::{PieceKind, TokenKind, UncarriedKind, piece_at};
+use educe_pieces::{PieceKind, TokenKind, UncarriedKind};
+use educe_scan::piece_at;
 use std::alloc::{AllocError, Global};
 
 fn spelling_of(alloc: Global, text: &[char]) -> Result<Spelling, AllocError>

@@ -3,11 +3,13 @@
 
 mod boxed;
 mod brackets;
+mod copied;
 mod error;
 mod growing;
 mod lexer;
 mod printer;
 mod seq;
+mod slice;
 mod span;
 mod spelling;
 mod template;
@@ -20,12 +22,14 @@ mod word;
 mod written;
 
 pub use boxed::Boxed;
+pub use copied::copying_laws;
 pub use educe_pieces::{Bracket, LiteralKind, TokenKind};
 pub use error::{EduceError, Kind, Texts};
-pub use growing::{append, push_word};
+pub use growing::{append_written, push_word};
 pub use lexer::lex;
 pub use printer::{have_no_doc, text};
 pub use seq::Seq;
+pub use slice::TokenSlice;
 pub use span::{SOURCE_LIMIT, Span};
 pub use spelling::Spelling;
 pub use template::quote;

@@ -68,18 +68,20 @@ fn mark_kind(byte: u8) -> TokenKind
 #[cfg(test)]
 mod tests {
     use super::*;
-    use crate::growing::append;
+    use crate::growing::append_written;
     use crate::seq::Seq;
     use crate::span::Span;
+    use crate::written::Written;
     use std::test::Fail;
 
     #[test]
+    #[tactic(auto, unfolding(crate::specs::Quote::quoted))]
     fn quotes_and_appends(rt: HostRuntime) -> Result<(), Fail> {
         let alloc = rt.alloc();
         let mut tokens = Seq::new(alloc);
         quote(alloc, &mut tokens, "fn f_1 ( & self ) -> :: X { _ }")?;
-        let copy = tokens.duplicate(alloc)?;
-        append(alloc, &mut tokens, &copy)?;
+        let copy = Written::from_template(alloc, "fn f_1 ( & self ) -> :: X { _ }")?;
+        append_written(alloc, &mut tokens, &copy)?;
         let pieces = [
             ("fn", TokenKind::Ident),
             ("f_1", TokenKind::Ident),

@@ -1,5 +1,7 @@
 //! What `lex` answers for each kind of piece: where it fits, where it is a character short, and where
-//! it is a character too long. The answers are those of the Rust Reference and of `rustc`.
+//! it is a character too long. The answers are those of the Rust Reference. Where `rustc` reads a text
+//! as pieces that are carried, it gives the same kinds and the same jointness, but for the differences
+//! that `docs/DECISIONS.md` names.
 
 use super::*;
 use std::alloc::Global;

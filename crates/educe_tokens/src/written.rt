@@ -1,26 +1,28 @@
-//! Token lists that stand for themselves wherever they are printed.
+//! Token lists that may be printed anywhere.
 ghost use Rattle.std.specs.Prelude.{◌≡◌, IsTrue, IfOk};
 ghost use Rattle.educe_tokens.specs.Appends.{LieNowhere};
+ghost use Rattle.educe_tokens.specs.Copied.{copied, may_be_copied};
 ghost use Rattle.educe_tokens.specs.Text.{is_written};
 ghost use Rattle.educe_tokens.specs.Lexes.{lexemes};
 ghost use Rattle.educe_tokens.specs.Quote.{quoted, is_template};
 
 use crate::seq::Seq;
+use crate::slice::TokenSlice;
 use crate::template::quote;
-use crate::token::TokenStream;
 use std::alloc::{AllocError, Global};
 
-/// Tokens as they were written: a well-formed list whose last token is not joint. It may be empty.
+/// Tokens as they were written: their brackets close in order, and none is documentation. There may
+/// be none, and the last may be joint: it is not where it is printed.
 #[derive(Drop)]
 pub struct Written {
-    pub tokens: TokenStream,
-    pub ghost written: { IsTrue (is_written (lexemes tokens)) },
+    pub tokens: TokenSlice,
+    pub ghost written: { IsTrue (may_be_copied (lexemes tokens)) },
 }
 
 impl Written {
-    /// The list as it is.
-    pub fn new(tokens: TokenStream) -> Written
-        requires { IsTrue (is_written (lexemes tokens)) }
+    /// The tokens as they are.
+    pub fn new(tokens: TokenSlice) -> Written
+        requires { IsTrue (may_be_copied (lexemes tokens)) }
         ensures { result.tokens ≡ tokens }
     {
         Written { tokens }
@@ -31,25 +33,27 @@ impl Written {
         requires is_template { IsTrue (is_template template.now) }
         requires written { IsTrue (is_written (quoted template.now)) }
         ensures quoted { IfOk result (λ written. lexemes written.tokens ≡ quoted template.now) }
+        ensures printed { IfOk result (λ written. copied (lexemes written.tokens) ≡ quoted template.now) }
         ensures nowhere { IfOk result (λ written. LieNowhere written.tokens) }
     {
         let mut tokens = Seq::new(alloc);
         quote(alloc, &mut tokens, template)?;
+        let tokens = TokenSlice::new(alloc, tokens)?;
         Ok(Written { tokens })
     }
 
     /// The tokens, lent.
-    pub fn tokens(&self) -> &TokenStream
+    pub fn tokens(&self) -> &TokenSlice
         ensures { result.now ≡ self.now.tokens }
     {
         &self.tokens
     }
 
-    /// Equal tokens in memory of their own, their spans included.
-    pub fn duplicate(&self, alloc: Global) -> Result<Written, AllocError>
+    /// Equal tokens, their spans included, which share the list. No token is copied.
+    pub fn duplicate(&self) -> Result<Written, AllocError>
         ensures { IfOk result (λ written. written ≡ self.now) }
     {
-        let tokens = self.tokens.duplicate(alloc)?;
+        let tokens = self.tokens.duplicate()?;
         Ok(Written { tokens })
     }
 }

@@ -3,7 +3,7 @@ use Rattle.std.proofs.lemmas.Bool.{and_parts}
 use Rattle.std.proofs.lemmas.Result.{err_from_is_err_and}
 use Rattle.std.proofs.lemmas.Str.{length-le-encodes}
 use Rattle.educe_pieces.specs.Pieces.{is_piece}
-use Rattle.educe_pieces.proofs.Readings.{found_is}
+use Rattle.educe_scan.proofs.Readings.{found_is}
 use Rattle.educe_tokens.specs.declared.span.Span.{Span}
 use Rattle.educe_tokens.specs.declared.token.Token.{Token}
 use Rattle.educe_tokens.specs.Causes.{empty_at, last_of}

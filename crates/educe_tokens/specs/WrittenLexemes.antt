@@ -1,0 +1,9 @@
+-- What is printed of tokens as they were written.
+use Rattle.std.specs.Prelude.{List}
+use Rattle.educe_tokens.specs.declared.written.Written.{Written}
+use Rattle.educe_tokens.specs.Copied.{copied}
+use Rattle.educe_tokens.specs.Lexes.{Lexeme, lexemes}
+
+-- the tokens as they are copied
+abbrev pub written_lexemes : Written → List Lexeme
+written_lexemes written = copied (lexemes written.tokens)

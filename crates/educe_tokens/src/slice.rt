@@ -1,0 +1,113 @@
+//! Parts of token lists that several owners share.
+ghost use Rattle.std.specs.Prelude.{◌≡◌, ◌-◌, ◌==◌, ◌≤◌, IfOk, length, take, drop};
+
+use crate::token::{Token, TokenStream};
+use std::alloc::{AllocError, Global};
+use std::marker::Model;
+use std::rc::Rc;
+
+/// A part of a token list that several owners share. A contract sees the tokens of the part, and
+/// neither the list around it nor who shares it.
+#[derive(Drop)]
+pub struct TokenSlice {
+    list: Rc<TokenStream>,
+    start: usize,
+    end: usize,
+}
+
+impl Model for TokenSlice {
+    ghost use Rattle.std.specs.Prelude.{List, ◌^◌, ◌<◌, ◌≤◌, length, slice_range};
+    ghost use Rattle.educe_tokens.specs.declared.token.Token.{Token};
+
+    ghost Value = { List Token };
+
+    ghost view = { λ slice. slice_range slice.list.value slice.start slice.end };
+
+    ghost invariant = { λ slice. (slice.start ≤ slice.end) × (slice.end ≤ length slice.list.value)
+        × (slice.end < 2 ^ 64) };
+}
+
+impl TokenSlice {
+    /// All tokens of a list, which is moved.
+    pub fn new(alloc: Global, tokens: TokenStream) -> Result<TokenSlice, AllocError>
+        ensures { IfOk result (λ slice. slice ≡ tokens) }
+    {
+        let end = tokens.len();
+        let list = Rc::new(alloc, tokens)?;
+        Ok(TokenSlice {
+            list,
+            start: 0,
+            end,
+        })
+    }
+
+    /// How many tokens there are.
+    pub fn len(&self) -> usize
+        ensures { result ≡ length self.now }
+    {
+        self.end - self.start
+    }
+
+    /// Whether there is no token.
+    pub fn is_empty(&self) -> bool
+        ensures { result ≡ (length self.now == 0) }
+    {
+        self.len() == 0
+    }
+
+    /// The tokens, lent.
+    pub fn as_slice(&self) -> &[Token]
+        ensures { result.now ≡ self.now }
+    {
+        let tokens: &TokenStream = &self.list;
+        &tokens.as_slice()[self.start..self.end]
+    }
+
+    /// The tokens from a start to an end, which share the list. No token is copied.
+    pub fn part(&self, start: usize, end: usize) -> Result<TokenSlice, AllocError>
+        requires start_le_end { start ≤ end }
+        requires in_bounds { end ≤ length self.now }
+        ensures { IfOk result (λ part. part ≡ take (end - start) (drop start self.now)) }
+    {
+        let list = self.list.clone()?;
+        Ok(TokenSlice {
+            list,
+            start: self.start + start,
+            end: self.start + end,
+        })
+    }
+
+    /// The same tokens, which share the list. No token is copied.
+    pub fn duplicate(&self) -> Result<TokenSlice, AllocError>
+        ensures { IfOk result (λ slice. slice ≡ self.now) }
+    {
+        self.part(0, self.len())
+    }
+}
+
+#[cfg(test)]
+mod tests {
+    use super::*;
+    use crate::seq::Seq;
+    use crate::template::quote;
+    use std::test::Fail;
+
+    #[test]
+    fn parts_share_a_list(rt: HostRuntime) -> Result<(), Fail> {
+        let alloc = rt.alloc();
+        let mut tokens = Seq::new(alloc);
+        quote(alloc, &mut tokens, "a :: b c")?;
+        let all = TokenSlice::new(alloc, tokens)?;
+        assert!(rt; all.len() == 5);
+        let part = all.part(1, 4)?;
+        assert!(rt; part.len() == 3);
+        assert!(rt; part.as_slice()[0].spelling.is(":"));
+        let last = part.part(2, 3)?.duplicate()?;
+        drop(all);
+        assert!(rt; last.len() == 1);
+        assert!(rt; last.as_slice()[0].spelling.is("b"));
+        assert!(rt; !last.is_empty());
+        assert!(rt; part.part(3, 3)?.is_empty());
+        Ok(())
+    }
+}
