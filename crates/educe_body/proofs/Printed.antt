@@ -9,8 +9,9 @@ use Rattle.std.proofs.lemmas.Bool.Decides.{nat_tests}
 use Rattle.std.proofs.lemmas.Grind.{flat_map-append}
 use Rattle.std.proofs.lemmas.List.{length-map, length-take-le, map-append, take_more}
 use Rattle.std.specs.declared.cmp.Ordering.{Ordering}
-use Rattle.educe_tokens.specs.Lexes.{Lexeme, lexemes}
+use Rattle.educe_tokens.specs.Lexes.{Lexeme}
 use Rattle.educe_tokens.specs.Quote.{quoted}
+use Rattle.educe_tokens.specs.WrittenLexemes.{written_lexemes}
 use Rattle.educe_syntax.specs.declared.path.ExprPath.{ExprPath}
 use Rattle.educe_body.specs.declared.form.Form.{Form, Call, Call', IfReturn, Return, SomeOf, MatchOrdering, Block, Block', Row_of-Form, end_of-Form, more_of-Form, items-the_row-Form, items_hidden-the_row-Form-0}
 use Rattle.educe_body.specs.declared.form.Form.TheBlock.{hidden-the_row-Form-1}
@@ -39,10 +40,10 @@ argument_lexemes-items n end_of-Form = refl
 argument_lexemes-items n (more_of-Form x rest) = ap (λ found. form_lexemes x ++ found) (behind_comma-items _ rest)
 
 -- a call, by the tokens of its arguments
-pub form_lexemes-Call : (path : ExprPath) (arguments : List Form) → form_lexemes (Call path arguments) ≡ lexemes path.written.tokens ++ in_round (separated (map form_lexemes arguments))
+pub form_lexemes-Call : (path : ExprPath) (arguments : List Form) → form_lexemes (Call path arguments) ≡ written_lexemes path.written ++ in_round (separated (map form_lexemes arguments))
 form_lexemes-Call path arguments =
     let row = row_of (Call path arguments) in
-    ap (λ found. lexemes path.written.tokens ++ in_round found)
+    ap (λ found. written_lexemes path.written ++ in_round found)
     (argument_lexemes-items row.0 row.1 ∙ ap (λ forms. separated (map form_lexemes forms)) (items_hidden-the_row-Form-0 arguments))
 
 -- a test, by the tokens of what it holds

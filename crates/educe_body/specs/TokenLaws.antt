@@ -7,8 +7,9 @@ use Rattle.std.specs.declared.cmp.Ordering.TheVariants.{Less, Equal, Greater}
 use Rattle.std.proofs.lemmas.Bool.{cond_both}
 use Rattle.educe_pieces.specs.declared.kind.Bracket.TheVariants.{Round, Curly}
 use Rattle.educe_tokens.specs.declared.word.Word.{Word}
-use Rattle.educe_tokens.specs.Lexes.{Lexeme, lexemes}
+use Rattle.educe_tokens.specs.Lexes.{Lexeme}
 use Rattle.educe_tokens.specs.Quote.{quoted, word_lexeme}
+use Rattle.educe_tokens.specs.WrittenLexemes.{written_lexemes}
 use Rattle.educe_tokens.proofs.Printable.{IsPrintable, printable-nil, printable-ident, printable-word, printable-written, printable-append, printable-brackets, printable-flat_map, printable-quoted as template}
 use Rattle.educe_syntax.specs.declared.ident.Ident.{Ident}
 use Rattle.educe_syntax.specs.declared.traits.Trait.{Trait}
@@ -121,7 +122,7 @@ mutual
   form_printable (form.Known known) = known_printable known
   form_printable (Reference base field) = reference_printable base field
   form_printable (Call' path shape arguments) =
-      printable-append (lexemes path.written.tokens) (in_round (argument_lexemes arguments)) (printable-written path.written)
+      printable-append (written_lexemes path.written) (in_round (argument_lexemes arguments)) (printable-written path.written)
       (round_printable (argument_lexemes arguments) (arguments_printable arguments))
   form_printable (IfReturn' shape test) = three (quoted (codes "if")) (row_lexemes test) (quoted (codes "{ return false ; }")) if_keyword (row_printable test) return_false
   form_printable (Return' shape inner) = three (quoted (codes "return")) (row_lexemes inner) (quoted (codes ";")) return_keyword (row_printable inner) semicolon
@@ -209,8 +210,8 @@ pub impl_printable : (item : ImplItem) → IsPrintable (impl_lexemes item)
 impl_printable item =
     let functions : List Lexeme = flat_map (function_lexemes item.which) item.functions in
     let block = curly_printable functions (printable-flat_map (function_lexemes item.which) (function_printable item.which) item.functions) in
-    let front : List Lexeme = lexemes item.attributes.tokens ++ quoted (codes "impl") in
-    let head = three front (trait_path item.which) (quoted (codes "for")) (printable-append (lexemes item.attributes.tokens) (quoted (codes "impl")) (printable-written item.attributes) (template _ refl)) (trait_printable item.which) (template _ refl) in
+    let front : List Lexeme = written_lexemes item.attributes ++ quoted (codes "impl") in
+    let head = three front (trait_path item.which) (quoted (codes "for")) (printable-append (written_lexemes item.attributes) (quoted (codes "impl")) (printable-written item.attributes) (template _ refl)) (trait_printable item.which) (template _ refl) in
     printable-append (front ++ trait_path item.which ++ quoted (codes "for")) (ident_lexeme item.ident ∷ in_curly functions) head
     (printable-append (ident_lexeme item.ident ∷ []) (in_curly functions) (ident_printable item.ident) block)
 

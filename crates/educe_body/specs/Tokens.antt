@@ -6,9 +6,10 @@ use Rattle.std.specs.declared.cmp.Ordering.{Ordering}
 use Rattle.std.specs.declared.cmp.Ordering.TheVariants.{Less, Equal, Greater}
 use Rattle.educe_pieces.specs.declared.kind.TokenKind.TheVariants as kind
 use Rattle.educe_tokens.specs.declared.word.Word.{Word}
-use Rattle.educe_tokens.specs.Lexes.{Lexeme, lexemes}
+use Rattle.educe_tokens.specs.Lexes.{Lexeme}
 use Rattle.educe_tokens.specs.Quote.{quoted, word_lexeme}
 use Rattle.educe_tokens.specs.Text.{text_of}
+use Rattle.educe_tokens.specs.WrittenLexemes.{written_lexemes}
 use Rattle.educe_syntax.specs.declared.ident.Ident.{Ident}
 use Rattle.educe_syntax.specs.declared.traits.Trait.{Trait}
 use Rattle.educe_syntax.specs.declared.traits.Trait.TheVariants.{PartialEq, PartialOrd, Ord}
@@ -77,7 +78,7 @@ abbrev mutual
   form_lexemes (Local name) = ident_lexeme name ∷ []
   form_lexemes (form.Known known) = known_lexemes known
   form_lexemes (Reference base field) = quoted (codes "&") ++ ident_lexeme base ∷ quoted (codes ".") ++ word_lexeme field.text ∷ []
-  form_lexemes (Call' path shape arguments) = lexemes path.written.tokens ++ in_round (argument_lexemes arguments)
+  form_lexemes (Call' path shape arguments) = written_lexemes path.written ++ in_round (argument_lexemes arguments)
   form_lexemes (SomeOf' shape inner) = in_some (row_lexemes inner)
   form_lexemes (MatchOrdering' shape matched partial greater less) = quoted (codes "match") ++ row_lexemes matched ++ in_curly (step_arms partial greater less)
   form_lexemes (IfReturn' shape test) = quoted (codes "if") ++ row_lexemes test ++ quoted (codes "{ return false ; }")
@@ -144,7 +145,7 @@ trait_path Ord = quoted (codes ":: core :: cmp :: Ord")
 
 abbrev pub impl_lexemes : ImplItem → List Lexeme
 impl_lexemes item =
-    lexemes item.attributes.tokens ++ quoted (codes "impl") ++ trait_path item.which ++ quoted (codes "for") ++ ident_lexeme item.ident
+    written_lexemes item.attributes ++ quoted (codes "impl") ++ trait_path item.which ++ quoted (codes "for") ++ ident_lexeme item.ident
     ∷ in_curly (flat_map (function_lexemes item.which) item.functions)
 
 abbrev pub item_lexemes : Item → List Lexeme

@@ -1,8 +1,8 @@
 //! The paths of the functions that are built in.
 ghost use Rattle.std.specs.Prelude.{◌≡◌, IfOk, IsTrue, true, None, map, codes, [], ◌∷◌};
-ghost use Rattle.educe_tokens.specs.Lexes.{lexemes};
 ghost use Rattle.educe_tokens.specs.Quote.{is_ascii_name, is_template, quoted};
 ghost use Rattle.educe_tokens.specs.Text.{is_written};
+ghost use Rattle.educe_tokens.specs.WrittenLexemes.{written_lexemes};
 ghost use Rattle.educe_body.specs.BuiltIn.{path_lexemes, path_names};
 
 use crate::answers::Callee;
@@ -47,7 +47,7 @@ fn comparison_path(
     requires function { IsTrue (is_ascii_name function.now) }
     requires template { IsTrue (is_template text.now) }
     requires written { IsTrue (is_written (quoted text.now)) }
-    ensures tokens { IfOk result (λ path. lexemes path.written.tokens ≡ quoted text.now) }
+    ensures tokens { IfOk result (λ path. written_lexemes path.written ≡ quoted text.now) }
     ensures unqualified { IfOk result (λ path. path.self_type ≡ None) }
     ensures leading { IfOk result (λ path. path.path.leading ≡ true) }
     ensures names { IfOk result (λ path. map (λ s. s.ident.text) path.path.segments ≡ codes "core" ∷ codes "cmp" ∷ which.now ∷ function.now ∷ []) }
@@ -67,7 +67,7 @@ fn comparison_path(
 /// The path by which generated code calls a function that is built in.
 #[tactic(auto, unfolding(educe_tokens::specs::Quote::quoted))]
 pub fn built_in_path(alloc: Global, callee: &Callee) -> Result<ExprPath, AllocError>
-    ensures tokens { IfOk result (λ path. lexemes path.written.tokens ≡ path_lexemes callee.now) }
+    ensures tokens { IfOk result (λ path. written_lexemes path.written ≡ path_lexemes callee.now) }
     ensures unqualified { IfOk result (λ path. path.self_type ≡ None) }
     ensures leading { IfOk result (λ path. path.path.leading ≡ true) }
     ensures names { IfOk result (λ path. map (λ s. s.ident.text) path.path.segments ≡ path_names callee.now) }

@@ -1,7 +1,7 @@
 //! The tokens of functions and items.
 ghost use Rattle.std.specs.Prelude.{◌≡◌, ◌++◌, IsTrue, OnOk, codes};
 ghost use Rattle.std.specs.List.{flat_map};
-ghost use Rattle.educe_tokens.specs.Lexes.{lexemes};
+ghost use Rattle.educe_tokens.specs.WrittenLexemes.{written_lexemes};
 ghost use Rattle.educe_tokens.specs.Quote.{is_template, quoted};
 ghost use Rattle.educe_tokens.specs.Appends.{Appends, HasPrefix};
 ghost use Rattle.educe_tokens.proofs.Printable.{well_formed_from, ends_apart_from, lexes_back_from};
@@ -11,7 +11,7 @@ ghost use Rattle.educe_body.specs.TokenLaws.{impl_printable, item_printable};
 use crate::body::{Function, Functions, ImplItem, Item, Names};
 use crate::print::push_block;
 use educe_syntax::Trait;
-use educe_tokens::{ToTokens, TokenStream, Word, append, push_word, quote};
+use educe_tokens::{ToTokens, TokenStream, Word, append_written, push_word, quote};
 use std::alloc::{AllocError, Global};
 
 impl Function {
@@ -194,13 +194,13 @@ impl ToTokens for ImplItem {
 impl ImplItem {
     /// Appends what stands before the name of the type.
     fn push_head(&self, alloc: Global, tokens: &mut TokenStream) -> Result<(), AllocError>
-        ensures ok { let attributes = lexemes self.now.attributes.tokens in
+        ensures ok { let attributes = written_lexemes self.now.attributes in
             let path = trait_path self.now.which in
             let head = attributes ++ quoted (codes "impl") ++ path ++ quoted (codes "for") in
             OnOk result (Appends head tokens.old tokens.new) }
         ensures prefix { HasPrefix tokens.old tokens.new }
     {
-        append(alloc, tokens, &self.attributes.tokens)?;
+        append_written(alloc, tokens, &self.attributes)?;
         quote(alloc, tokens, "impl")?;
         push_trait(alloc, tokens, self.which)?;
         quote(alloc, tokens, "for")

@@ -73,9 +73,7 @@ mod tests {
         requires template { IsTrue (is_template text.now) }
         requires written { IsTrue (is_written (quoted text.now)) }
     {
-        let mut tokens = TokenStream::new(alloc);
-        quote(alloc, &mut tokens, text)?;
-        Ok(Written::new(tokens))
+        Ok(Written::from_template(alloc, text)?)
     }
 
     #[tactic(auto, unfolding(educe_tokens::specs::Quote::quoted))]

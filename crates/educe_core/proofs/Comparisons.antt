@@ -8,6 +8,8 @@ use Rattle.std.proofs.lemmas.List.Sorted.{IsPermutation-map}
 use Rattle.educe_tokens.specs.declared.token.Token.{Token}
 use Rattle.educe_tokens.specs.Lexes.{Lexeme, lexemes}
 use Rattle.educe_tokens.specs.Quote.{quoted}
+use Rattle.educe_tokens.specs.WrittenLexemes.{written_lexemes}
+use Rattle.educe_tokens.proofs.Copying.{copied_spellings}
 use Rattle.educe_syntax.specs.declared.data.Field.{Field}
 use Rattle.educe_syntax.specs.declared.derive.DeriveInput.{DeriveInput}
 use Rattle.educe_syntax.specs.declared.path.ExprPath.{ExprPath}
@@ -59,9 +61,9 @@ path_callee PartialEq = refl
 path_callee PartialOrd = refl
 path_callee Ord = refl
 
-callee_of-comparison : (which : Trait) (path : ExprPath) → lexemes path.written.tokens ≡ path_lexemes (comparison which) → callee_of path ≡ Some (comparison which)
+callee_of-comparison : (which : Trait) (path : ExprPath) → written_lexemes path.written ≡ path_lexemes (comparison which) → callee_of path ≡ Some (comparison which)
 callee_of-comparison which path is =
-    ap callee_named (sym (spelling_list path.written.tokens) ∙ ap (map (λ (x : Lexeme). x.spelling)) is) ∙ path_callee which
+    ap callee_named (sym (spelling_list path.written.tokens) ∙ sym (copied_spellings (lexemes path.written.tokens)) ∙ ap (map (λ (x : Lexeme). x.spelling)) is) ∙ path_callee which
 
 -- ---- one step
 

@@ -5,7 +5,7 @@ use Rattle.std.specs.declared.cmp.Ordering.TheVariants.{Less, Equal, Greater}
 use Rattle.educe_tokens.specs.declared.span.Span.{Span}
 use Rattle.educe_tokens.specs.declared.word.Word.{Word}
 use Rattle.educe_tokens.specs.Quote.{quoted}
-use Rattle.educe_tokens.specs.Lexes.{lexemes}
+use Rattle.educe_tokens.specs.WrittenLexemes.{written_lexemes}
 use Rattle.educe_syntax.specs.declared.ident.Ident.{Ident}
 use Rattle.educe_syntax.specs.declared.path.ExprPath.{ExprPath}
 use Rattle.educe_syntax.specs.declared.data.Field.{Field}
@@ -54,7 +54,7 @@ pub record IsComparison (which : Trait) (other : List ℕ) (field : Field) (x : 
   pub own : Form
   pub others : Form
   pub is : x ≡ Call path (own ∷ others ∷ [])
-  pub path_is : lexemes path.written.tokens ≡ path_lexemes (comparison which)
+  pub path_is : written_lexemes path.written ≡ path_lexemes (comparison which)
   pub path_has : HasNames path (path_names (comparison which))
   pub own_is : IsReference (codes "self") field own
   pub others_is : IsReference other field others
@@ -166,7 +166,7 @@ IsListedCause definition Memory = Unit {0}
 -- the block of a trait: one impl of it for the defined type
 pub record IsImpl (which : Trait) (definition : DeriveInput) (item : ImplItem) : Type 0 where
   pub which_is : item.which ≡ which
-  pub attributes_are : lexemes item.attributes.tokens ≡ quoted (codes "# [ automatically_derived ]")
+  pub attributes_are : written_lexemes item.attributes ≡ quoted (codes "# [ automatically_derived ]")
   pub ident_is : item.ident ≡ definition.ident
   pub functions_are : AreFunctions which definition item.functions
 

@@ -6,7 +6,7 @@ use Rattle.educe_pieces.specs.declared.kind.Bracket.TheVariants.{Round, Square}
 use Rattle.educe_tokens.specs.declared.span.Span.{Span}
 use Rattle.educe_tokens.specs.declared.written.Written.{Written}
 use Rattle.educe_tokens.specs.Lexes.{lexemes}
-use Rattle.educe_tokens.specs.Text.{is_written}
+use Rattle.educe_tokens.specs.Copied.{may_be_copied}
 use Rattle.educe_syntax.specs.declared.attr.Attribute.{Attribute}
 use Rattle.educe_syntax.specs.declared.attr.Meta.{Meta}
 use Rattle.educe_syntax.specs.declared.attr.Meta.TheVariants as meta
@@ -175,22 +175,22 @@ item_filled : (place : Place) → Filled (IsItem place)
 item_filled Definition front which is = subst (λ us. 0 < length us) (sym is.is) (omega arith)
 item_filled Field front which is = subst (λ us. 0 < length us) (sym is.is) (omega arith)
 
-make_if : (path : Token) (brackets : Tokens) (path_is : IsTrue (accepts (terminal.Word keyword.Educe) path)) (written : IsTrue (is_written (lexemes brackets))) (b : Bool)
-    (e : is_written (lexemes brackets) ≡ b) (ts : Tokens) → b ≡ true → attribute_if path brackets path_is b e ts ≡ Ok (attribute_of path brackets path_is written, ts)
-make_if path brackets path_is written true e ts h = ap (λ (w : IsTrue (is_written (lexemes brackets))). Ok (attribute_of path brackets path_is w, ts)) (IsTrue-prop _ e written)
+make_if : (path : Token) (brackets : Tokens) (path_is : IsTrue (accepts (terminal.Word keyword.Educe) path)) (written : IsTrue (may_be_copied (lexemes brackets))) (b : Bool)
+    (e : may_be_copied (lexemes brackets) ≡ b) (ts : Tokens) → b ≡ true → attribute_if path brackets path_is b e ts ≡ Ok (attribute_of path brackets path_is written, ts)
+make_if path brackets path_is written true e ts h = ap (λ (w : IsTrue (may_be_copied (lexemes brackets))). Ok (attribute_of path brackets path_is w, ts)) (IsTrue-prop _ e written)
 make_if path brackets path_is written false e ts h = cc
 
--- an attribute is made of tokens that may stand beside others
-pub make_hit : (path : Token) (brackets : Tokens) (path_is : IsTrue (accepts (terminal.Word keyword.Educe) path)) (written : IsTrue (is_written (lexemes brackets))) (ts : Tokens)
+-- an attribute is made of tokens that may be copied
+pub make_hit : (path : Token) (brackets : Tokens) (path_is : IsTrue (accepts (terminal.Word keyword.Educe) path)) (written : IsTrue (may_be_copied (lexemes brackets))) (ts : Tokens)
     → make_attribute path brackets path_is ts ≡ Ok (attribute_of path brackets path_is written, ts)
 unfolding make_attribute
 make_hit path brackets path_is written ts = make_if path brackets path_is written _ refl ts written
 
-meta_written : (found : Meta) (path : MetaPath) (tokens : Tokens) (span : Span) → IsList found path tokens span → IsTrue (is_written (lexemes tokens))
-meta_written (meta.List path' written span') path tokens span same = subst (λ ts. IsTrue (is_written (lexemes ts))) same.1 written.written
+meta_written : (found : Meta) (path : MetaPath) (tokens : Tokens) (span : Span) → IsList found path tokens span → IsTrue (may_be_copied (lexemes tokens))
+meta_written (meta.List path' written span') path tokens span same = subst (λ ts. IsTrue (may_be_copied (lexemes ts))) same.1 written.written
 
 attribute_only : (Item : Grammar Trait) (tokens : Tokens) (attribute : Attribute) (found : List Trait) (is : IsAttribute Item tokens attribute found)
-    (path_is : IsTrue (accepts (terminal.Word keyword.Educe) is.path)) (written : IsTrue (is_written (lexemes is.brackets)))
+    (path_is : IsTrue (accepts (terminal.Word keyword.Educe) is.path)) (written : IsTrue (may_be_copied (lexemes is.brackets)))
     → attribute_of is.path is.brackets path_is written ≡ attribute
 attribute_only Item tokens attribute found is path_is written =
     let inside : Written = record { tokens = is.brackets; written = written } in
@@ -201,7 +201,7 @@ attribute_only Item tokens attribute found is path_is written =
     ∙ sym (Meta-path attribute.meta is.path_of inside span is.meta_is))
 
 attribute_read : (place : Place) (hash start path stop : Token) (brackets ts : Tokens) (found : List Trait) (path_is : IsTrue (accepts (terminal.Word keyword.Educe) path))
-    (written : IsTrue (is_written (lexemes brackets))) → IsTrue (accepts (terminal.Sign 35) hash) → IsTrue (accepts (terminal.Open Square) start)
+    (written : IsTrue (may_be_copied (lexemes brackets))) → IsTrue (accepts (terminal.Sign 35) hash) → IsTrue (accepts (terminal.Open Square) start)
     → IsBracketed (IsItem place) brackets found → IsTrue (accepts (terminal.Close Square) stop) → IsTrue (traits.each_once found)
     → read_attribute place (hash ∷ start ∷ path ∷ (brackets ++ stop ∷ ts)) ≡ Ok ((attribute_of path brackets path_is written, found), ts)
 unfolding read_attribute

@@ -3,7 +3,7 @@ use Rattle.std.proofs.Common.{◌≡◌, Bool, true, false, List, [], ◌∷◌,
 use Rattle.educe_tokens.specs.declared.token.Token.{Token}
 use Rattle.educe_pieces.specs.declared.kind.Bracket.TheVariants.{Round, Square}
 use Rattle.educe_tokens.specs.Lexes.{lexemes}
-use Rattle.educe_tokens.specs.Text.{is_written}
+use Rattle.educe_tokens.specs.Copied.{may_be_copied}
 use Rattle.educe_syntax.specs.declared.attr.Attribute.{Attribute}
 use Rattle.educe_syntax.specs.declared.param.Param.{Param}
 use Rattle.educe_syntax.specs.declared.parse_attr.Place.{Place}
@@ -18,7 +18,7 @@ use Rattle.educe_syntax.specs.Steps.{Tokens, Parser, sees, after, since}
 use Rattle.educe_syntax.specs.Terminals.{accepts}
 use Rattle.educe_syntax.specs.TokenLaws.{word_written, open_kind, close_kind, sign_kind}
 use Rattle.educe_syntax.proofs.Accepting.{accepted_word, accepted_rank, accepted_negated}
-use Rattle.educe_syntax.proofs.Closing.{Closes, traits_close, owns_close}
+use Rattle.educe_syntax.proofs.Copying.{Copies, traits_copy, owns_copy}
 use Rattle.educe_syntax.proofs.Expecting.{ok_pair, went, chose, picked, checked, expected, seen, after_miss, since_all}
 use Rattle.educe_syntax.proofs.Listing.{Sound, items_sound}
 
@@ -197,23 +197,23 @@ pub item_sound : (place : Place) → Sound (read_item place) (IsItem place)
 item_sound Definition = trait_sound
 item_sound Field = own_sound
 
--- the items of an attribute close their brackets
-pub brackets_close : (place : Place) (ts rest : Tokens) (found : List Trait) → read_bracketed (read_item place) ts ≡ Ok (found, rest) → Closes (since ts rest)
-brackets_close place ts rest found h =
+-- the brackets of an attribute may be copied
+pub brackets_copy : (place : Place) (ts rest : Tokens) (found : List Trait) → read_bracketed (read_item place) ts ≡ Ok (found, rest) → Copies (since ts rest)
+brackets_copy place ts rest found h =
     let took = bracketed_sound (read_item place) (IsItem place) (item_sound place) ts rest found h in
-    subst Closes (sym (ap (λ us. since us rest) took.whole ∙ since_all took.front rest)) (closed place took.front took.is_in)
+    subst Copies (sym (ap (λ us. since us rest) took.whole ∙ since_all took.front rest)) (copied place took.front took.is_in)
   where
-    closed : (place : Place) (front : Tokens) → IsBracketed (IsItem place) front found → Closes front
-    closed Definition front is = traits_close front found is
-    closed Field front is = owns_close front found is
+    copied : (place : Place) (front : Tokens) → IsBracketed (IsItem place) front found → Copies front
+    copied Definition front is = traits_copy front found is
+    copied Field front is = owns_copy front found is
 
 -- the attribute that was made
 record Made (path : Token) (brackets : Tokens) (path_is : IsTrue (accepts (terminal.Word keyword.Educe) path)) (attribute : Attribute) (ts rest : Tokens) : Type 0 where
-  pub written : IsTrue (is_written (lexemes brackets))
+  pub written : IsTrue (may_be_copied (lexemes brackets))
   pub is : attribute_of path brackets path_is written ≡ attribute
   pub left : ts ≡ rest
 
-made_if : (path : Token) (brackets : Tokens) (path_is : IsTrue (accepts (terminal.Word keyword.Educe) path)) (b : Bool) (e : is_written (lexemes brackets) ≡ b)
+made_if : (path : Token) (brackets : Tokens) (path_is : IsTrue (accepts (terminal.Word keyword.Educe) path)) (b : Bool) (e : may_be_copied (lexemes brackets) ≡ b)
     (attribute : Attribute) (ts rest : Tokens) → attribute_if path brackets path_is b e ts ≡ Ok (attribute, rest) → Made path brackets path_is attribute ts rest
 made_if path brackets path_is true e attribute ts rest h = let r = ok_pair h in record { written = e; is = r.0; left = r.1 }
 made_if path brackets path_is false e attribute ts rest h = absurd (cc)

@@ -9,10 +9,9 @@ pub mod Finding
 pub mod Said
 pub mod Apart
 pub mod Repeated
-pub mod Closing
+pub mod Copying
 pub mod AttributeSound
 pub mod AttributeAgain
 pub mod Sound
 pub mod Again
 pub mod Whole
-pub mod Making

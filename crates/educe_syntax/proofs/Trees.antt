@@ -7,7 +7,7 @@ use Rattle.educe_tokens.specs.declared.span.Span.{Span}
 use Rattle.educe_pieces.specs.declared.kind.TokenKind.TheVariants as kind
 use Rattle.educe_tokens.specs.declared.written.Written.{Written}
 use Rattle.educe_pieces.specs.Pieces.{spells}
-use Rattle.educe_tokens.specs.Text.{is_written}
+use Rattle.educe_tokens.specs.Copied.{may_be_copied}
 use Rattle.educe_tokens.specs.Lexes.{lexemes}
 use Rattle.educe_syntax.specs.declared.ident.Ident.{Ident}
 use Rattle.educe_syntax.specs.declared.attr.Meta.{Meta}
@@ -32,7 +32,7 @@ Ident-path a b text span = λ i. record {
 pub Written-path : (a b : Written) → a.tokens ≡ b.tokens → a ≡ b
 Written-path a b tokens = λ i. record {
   tokens = tokens i;
-  written = is_prop→PathP (λ j. IsTrue (is_written (lexemes (tokens j)))) (λ j. IsTrue-prop _) a.written b.written i;
+  written = is_prop→PathP (λ j. IsTrue (may_be_copied (lexemes (tokens j)))) (λ j. IsTrue-prop _) a.written b.written i;
 }
 
 -- a type is its parts

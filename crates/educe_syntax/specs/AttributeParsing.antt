@@ -2,8 +2,8 @@
 use Rattle.std.specs.Prelude.{◌≡◌, Bool, true, false, if◌then◌else◌, IsTrue, List, [], ◌∷◌, refl, Ok, Err}
 use Rattle.educe_tokens.specs.declared.token.Token.{Token}
 use Rattle.educe_pieces.specs.declared.kind.Bracket.TheVariants.{Round, Square}
+use Rattle.educe_tokens.specs.Copied.{may_be_copied}
 use Rattle.educe_tokens.specs.Lexes.{lexemes}
-use Rattle.educe_tokens.specs.Text.{is_written}
 use Rattle.educe_syntax.specs.declared.attr.Attribute.{Attribute}
 use Rattle.educe_syntax.specs.declared.attr.Meta.TheVariants as meta
 use Rattle.educe_syntax.specs.declared.param.Param.{Param}
@@ -94,22 +94,22 @@ read_item Definition = read_trait
 read_item Field = read_own
 
 -- the tree of an attribute
-abbrev pub attribute_of : (path : Token) (brackets : Tokens) → IsTrue (accepts (terminal.Word keyword.Educe) path) → IsTrue (is_written (lexemes brackets)) → Attribute
+abbrev pub attribute_of : (path : Token) (brackets : Tokens) → IsTrue (accepts (terminal.Word keyword.Educe) path) → IsTrue (may_be_copied (lexemes brackets)) → Attribute
 attribute_of path brackets path_is written = record {
   meta = meta.List (record { written = record { tokens = path ∷ []; written = word_written keyword.Educe path path_is } })
       (record { tokens = brackets; written = written })
       (span_of (path ∷ brackets));
 }
 
--- the attribute of these tokens, where they may stand beside others
+-- the attribute of these tokens, where they may be copied
 abbrev pub attribute_if : (path : Token) (brackets : Tokens) → IsTrue (accepts (terminal.Word keyword.Educe) path)
-    → (b : Bool) → is_written (lexemes brackets) ≡ b → Parser Attribute
+    → (b : Bool) → may_be_copied (lexemes brackets) ≡ b → Parser Attribute
 attribute_if path brackets path_is true written = λ ts. Ok (attribute_of path brackets path_is written, ts)
 attribute_if path brackets path_is false open_end = λ ts. Err Unbuilt
 
 -- the same, by their own test
 unfoldable pub make_attribute : (path : Token) (brackets : Tokens) → IsTrue (accepts (terminal.Word keyword.Educe) path) → Parser Attribute
-make_attribute path brackets path_is = attribute_if path brackets path_is (is_written (lexemes brackets)) refl
+make_attribute path brackets path_is = attribute_if path brackets path_is (may_be_copied (lexemes brackets)) refl
 
 -- `# [ educe ( .. ) ]`, with the traits that it names
 unfoldable pub read_attribute : Place → Parser (Attribute × List Trait)

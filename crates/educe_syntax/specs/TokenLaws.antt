@@ -9,7 +9,7 @@ use Rattle.educe_pieces.specs.declared.kind.TokenKind.{TokenKind}
 use Rattle.educe_pieces.specs.declared.kind.TokenKind.TheVariants as kind
 use Rattle.educe_pieces.specs.Pieces.{spells}
 use Rattle.educe_tokens.specs.Brackets.{same_bracket}
-use Rattle.educe_tokens.specs.Text.{is_written}
+use Rattle.educe_tokens.specs.Copied.{may_be_copied}
 use Rattle.educe_tokens.specs.Lexes.{lexemes}
 use Rattle.educe_syntax.specs.declared.terminal.Keyword.{Keyword}
 use Rattle.educe_syntax.specs.declared.terminal.Terminal.{Terminal}
@@ -108,13 +108,13 @@ accepts_by asked t k e = ap (λ k. accepts_kind asked k t.spelling) e
 pub name_spelled : (t : Token) → IsTrue (accepts terminal.Name t) → IsTrue (spells kind.Ident t.spelling)
 name_spelled t h = subst (λ (k : TokenKind). IsTrue (spells k t.spelling)) (name_kind t h) t.spelled
 
-ident_written : (k : TokenKind) (text : List ℕ) → k ≡ kind.Ident → is_written (record { kind = k; spelling = text } ∷ []) ≡ true
-ident_written k text e = ap (λ k. is_written (record { kind = k; spelling = text } ∷ [])) e
+ident_written : (k : TokenKind) (text : List ℕ) → k ≡ kind.Ident → may_be_copied (record { kind = k; spelling = text } ∷ []) ≡ true
+ident_written k text e = ap (λ k. may_be_copied (record { kind = k; spelling = text } ∷ [])) e
 
--- an identifier alone is written
-pub name_written : (t : Token) → IsTrue (accepts terminal.Name t) → IsTrue (is_written (lexemes (t ∷ [])))
+-- an identifier alone may be copied
+pub name_written : (t : Token) → IsTrue (accepts terminal.Name t) → IsTrue (may_be_copied (lexemes (t ∷ [])))
 name_written t h = ident_written t.kind t.spelling (name_kind t h)
 
--- a word alone is written
-pub word_written : (w : Keyword) (t : Token) → IsTrue (accepts (terminal.Word w) t) → IsTrue (is_written (lexemes (t ∷ [])))
+-- a word alone may be copied
+pub word_written : (w : Keyword) (t : Token) → IsTrue (accepts (terminal.Word w) t) → IsTrue (may_be_copied (lexemes (t ∷ [])))
 word_written w t h = ident_written t.kind t.spelling (word_kind w t h)

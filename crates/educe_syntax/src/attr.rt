@@ -1,10 +1,10 @@
 //! Attributes (Rust Reference, Attributes).
 ghost use Rattle.std.specs.Prelude.{◌≡◌, ◌↔◌, IsTrue, IfOk, chars};
-ghost use Rattle.educe_tokens.specs.Lexes.{lexemes};
+ghost use Rattle.educe_tokens.specs.WrittenLexemes.{written_lexemes};
 ghost use Rattle.educe_tokens.proofs.Printable.{printable-written, well_formed_from, ends_apart_from, lexes_back_from};
 ghost use Rattle.educe_syntax.specs.Reading.{IsOneWord};
 
-use educe_tokens::{Seq, Span, ToTokens, TokenKind, TokenStream, Written, append};
+use educe_tokens::{Seq, Span, ToTokens, TokenKind, TokenStream, Written, append_written};
 use std::alloc::{AllocError, Global};
 
 /// An outer attribute: what stands between `#[` and `]`.
@@ -14,20 +14,20 @@ pub struct Attribute {
 }
 
 impl Attribute {
-    /// An equal attribute in memory of its own.
-    pub fn duplicate(&self, alloc: Global) -> Result<Attribute, AllocError>
+    /// An equal attribute, which shares the tokens.
+    pub fn duplicate(&self) -> Result<Attribute, AllocError>
         ensures { IfOk result (λ attribute. attribute ≡ self.now) }
     {
         let Meta::List(path, written, span) = &self.meta;
-        let path = path.duplicate(alloc)?;
-        let written = written.duplicate(alloc)?;
+        let path = path.duplicate()?;
+        let written = written.duplicate()?;
         Ok(Attribute {
             meta: Meta::List(path, written, *span),
         })
     }
 }
 
-/// Equal attributes in memory of their own.
+/// Equal attributes, which share the tokens.
 pub fn duplicate_attributes(
     alloc: Global,
     attributes: &Attributes,
@@ -36,7 +36,7 @@ pub fn duplicate_attributes(
 {
     let mut copies = Seq::new(alloc);
     for attribute in attributes.as_slice() {
-        copies.push(attribute.duplicate(alloc)?)?;
+        copies.push(attribute.duplicate()?)?;
     }
     Ok(copies)
 }
@@ -68,17 +68,17 @@ impl MetaPath {
         }
     }
 
-    /// An equal path in memory of its own.
-    pub fn duplicate(&self, alloc: Global) -> Result<MetaPath, AllocError>
+    /// An equal path, which shares the tokens.
+    pub fn duplicate(&self) -> Result<MetaPath, AllocError>
         ensures { IfOk result (λ path. path ≡ self.now) }
     {
-        let written = self.written.duplicate(alloc)?;
+        let written = self.written.duplicate()?;
         Ok(MetaPath { written })
     }
 }
 
 impl ToTokens for MetaPath {
-    ghost lexemes_of = { λ path. lexemes path.written.tokens };
+    ghost lexemes_of = { λ path. written_lexemes path.written };
 
     ghost well_formed = { λ path. well_formed_from (printable-written path.written) };
 
@@ -87,6 +87,6 @@ impl ToTokens for MetaPath {
     ghost lexes_back = { λ path. lexes_back_from (printable-written path.written) };
 
     fn to_tokens(&self, alloc: Global, tokens: &mut TokenStream) -> Result<(), AllocError> {
-        append(alloc, tokens, &self.written.tokens)
+        append_written(alloc, tokens, &self.written)
     }
 }

@@ -7,7 +7,6 @@ mod cursor;
 mod data;
 mod derive;
 mod ident;
-mod joined;
 mod list;
 mod names;
 mod param;

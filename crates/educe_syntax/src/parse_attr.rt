@@ -1,6 +1,6 @@
 //! The parser of attributes.
 ghost use Rattle.std.specs.Prelude.{◌≡◌, IsTrue, IfOk, [], ◌∷◌};
-ghost use Rattle.educe_tokens.specs.Brackets.{closes, kinds};
+ghost use Rattle.educe_tokens.specs.Copied.{may_be_copied};
 ghost use Rattle.educe_tokens.specs.Lexes.{lexemes};
 ghost use Rattle.educe_syntax.specs.AttributeParsing as spec;
 ghost use Rattle.educe_syntax.specs.Steps.{Tokens, Gives};
@@ -10,13 +10,12 @@ ghost use Rattle.educe_syntax.specs.declared.terminal.Terminal.TheVariants as te
 
 use crate::attr::{Attribute, Attributes, Meta, MetaPath};
 use crate::cursor::{Cursor, span_from};
-use crate::joined::joins_well;
 use crate::list::items_up_to;
 use crate::param::{Param, are_params};
 use crate::parse_error::ParseError;
 use crate::terminal::{Keyword, Terminal};
 use crate::traits::{Trait, each_once};
-use educe_tokens::{Bracket, Seq, Token, TokenStream, Written};
+use educe_tokens::{Bracket, Seq, Token, TokenSlice, Written};
 use std::alloc::{AllocError, Global};
 
 /// Where an attribute stands.
@@ -32,23 +31,23 @@ pub enum Place {
 pub type Traits = Seq<Trait>;
 
 /// The list of this one token.
-pub fn one_token(alloc: Global, token: &Token) -> Result<TokenStream, AllocError>
+pub fn one_token(alloc: Global, token: &Token) -> Result<TokenSlice, AllocError>
     ensures { IfOk result (λ tokens. tokens ≡ token.now ∷ []) }
 {
     let mut tokens = Seq::new(alloc);
     tokens.push(token.duplicate(alloc)?)?;
-    Ok(tokens)
+    TokenSlice::new(alloc, tokens)
 }
 
 /// Equal tokens in memory of their own.
-fn tokens_of(alloc: Global, tokens: &[Token]) -> Result<TokenStream, AllocError>
+fn tokens_of(alloc: Global, tokens: &[Token]) -> Result<TokenSlice, AllocError>
     ensures { IfOk result (λ copies. copies ≡ tokens.now) }
 {
     let mut copies = Seq::new(alloc);
     for token in tokens {
         copies.push(token.duplicate(alloc)?)?;
     }
-    Ok(copies)
+    TokenSlice::new(alloc, copies)
 }
 
 #[tactic(auto, unfolding(crate::specs::AttributeParsing::read_trait))]
@@ -159,12 +158,9 @@ fn items(alloc: Global, cursor: &mut Cursor<'_>, place: Place) -> Result<Traits,
 /// The attribute with these tokens in its brackets, both brackets included.
 fn attribute_of(alloc: Global, path: &Token, brackets: &[Token]) -> Result<Attribute, ParseError>
     requires path_is { IsTrue (accepts (terminal.Word keyword.Educe) path.now) }
-    requires closed { IsTrue (closes [] (kinds (lexemes brackets.now))) }
+    requires copied { IsTrue (may_be_copied (lexemes brackets.now)) }
     ensures { (path_is : IsTrue (accepts (terminal.Word keyword.Educe) path.now)) (ts : Tokens) → Gives (spec.make_attribute path.now brackets.now path_is ts) result ts }
 {
-    if !joins_well(brackets) {
-        return Err(ParseError::Unbuilt);
-    }
     let span = span_from(path, brackets);
     let path = MetaPath {
         written: Written::new(one_token(alloc, path)?),

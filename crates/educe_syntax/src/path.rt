@@ -1,11 +1,11 @@
 //! Paths (Rust Reference, Paths).
 ghost use Rattle.std.specs.Prelude.{◌≡◌, IfOk};
-ghost use Rattle.educe_tokens.specs.Lexes.{lexemes};
+ghost use Rattle.educe_tokens.specs.WrittenLexemes.{written_lexemes};
 ghost use Rattle.educe_tokens.proofs.Printable.{printable-written, well_formed_from, ends_apart_from, lexes_back_from};
 
 use crate::ident::Ident;
 use crate::ty::Ty;
-use educe_tokens::{Seq, ToTokens, TokenStream, Written, append};
+use educe_tokens::{Seq, ToTokens, TokenStream, Written, append_written};
 use std::alloc::{AllocError, Global};
 
 /// A path, such as `a::B`; `leading` says that it begins with `::`.
@@ -71,7 +71,7 @@ pub struct ExprPath {
 }
 
 impl ToTokens for ExprPath {
-    ghost lexemes_of = { λ path. lexemes path.written.tokens };
+    ghost lexemes_of = { λ path. written_lexemes path.written };
 
     ghost well_formed = { λ path. well_formed_from (printable-written path.written) };
 
@@ -80,6 +80,6 @@ impl ToTokens for ExprPath {
     ghost lexes_back = { λ path. lexes_back_from (printable-written path.written) };
 
     fn to_tokens(&self, alloc: Global, tokens: &mut TokenStream) -> Result<(), AllocError> {
-        append(alloc, tokens, &self.written.tokens)
+        append_written(alloc, tokens, &self.written)
     }
 }

@@ -1,10 +1,10 @@
 //! Types (Rust Reference, Types).
 ghost use Rattle.std.specs.Prelude.{◌≡◌, IfOk};
-ghost use Rattle.educe_tokens.specs.Lexes.{lexemes};
+ghost use Rattle.educe_tokens.specs.WrittenLexemes.{written_lexemes};
 ghost use Rattle.educe_tokens.proofs.Printable.{printable-written, well_formed_from, ends_apart_from, lexes_back_from};
 
 use crate::path::Path;
-use educe_tokens::{Boxed, ToTokens, TokenStream, Written, append};
+use educe_tokens::{Boxed, ToTokens, TokenStream, Written, append_written};
 use std::alloc::{AllocError, Global};
 
 /// A type, with its tokens as they were written.
@@ -24,19 +24,19 @@ pub enum TypeForm {
 }
 
 impl Ty {
-    /// An equal type in memory of its own.
+    /// An equal type in memory of its own, which shares the tokens.
     #[cycle(duplicate)]
     pub fn duplicate(&self, alloc: Global) -> Result<Ty, AllocError>
         ensures { IfOk result (λ ty. ty ≡ self.now) }
     {
         let form = self.form.duplicate(alloc)?;
-        let written = self.written.duplicate(alloc)?;
+        let written = self.written.duplicate()?;
         Ok(Ty { form, written })
     }
 }
 
 impl TypeForm {
-    /// An equal form in memory of its own.
+    /// An equal form in memory of its own, which shares the tokens.
     #[cycle(duplicate)]
     pub fn duplicate(&self, alloc: Global) -> Result<TypeForm, AllocError>
         ensures { IfOk result (λ form. form ≡ self.now) }
@@ -54,7 +54,7 @@ impl TypeForm {
 }
 
 impl ToTokens for Ty {
-    ghost lexemes_of = { λ ty. lexemes ty.written.tokens };
+    ghost lexemes_of = { λ ty. written_lexemes ty.written };
 
     ghost well_formed = { λ ty. well_formed_from (printable-written ty.written) };
 
@@ -63,6 +63,6 @@ impl ToTokens for Ty {
     ghost lexes_back = { λ ty. lexes_back_from (printable-written ty.written) };
 
     fn to_tokens(&self, alloc: Global, tokens: &mut TokenStream) -> Result<(), AllocError> {
-        append(alloc, tokens, &self.written.tokens)
+        append_written(alloc, tokens, &self.written)
     }
 }

@@ -6,7 +6,7 @@ pub returns : goal.returns
 unfolding quoted
 returns c = record {
   which_is = refl;
-  attributes_are = c.in_ok-attributes.ensures.quoted;
+  attributes_are = c.in_ok-attributes.ensures.printed;
   ident_is = c.in_ok-ident.ensures;
   functions_are = record {
     name = c.in_ok-name.name;

@@ -1,6 +1,6 @@
 use Rattle.std.proofs.Common.{◌≡◌, List, sym, subst, ap, ◌∙◌, IsTrue, [], ◌∷◌, ◌++◌, false, None}
 use Rattle.educe_tokens.specs.declared.token.Token.{Token}
-use Rattle.educe_tokens.specs.Text.{is_written}
+use Rattle.educe_tokens.specs.Copied.{may_be_copied}
 use Rattle.educe_tokens.specs.Lexes.{lexemes}
 use Rattle.educe_syntax.specs.TokenLaws.{name_written}
 use Rattle.educe_syntax.proofs.Trees.{Ty-path}
@@ -13,7 +13,7 @@ use Rattle.educe_syntax.proofs.parse.type_of.Goals as goal
 
 pub new-written-requires : goal.new-written-requires
 new-written-requires c =
-    subst (λ (tokens : List Token). IsTrue (is_written (lexemes tokens))) (sym c.in_ok-one_token.ensures) (name_written c.args.token.now c.requires)
+    subst (λ (tokens : List Token). IsTrue (may_be_copied (lexemes tokens))) (sym c.in_ok-one_token.ensures) (name_written c.args.token.now c.requires)
 
 pub returns : goal.returns
 returns c = λ name.

@@ -1,9 +1,8 @@
 use Rattle.std.proofs.lemmas.Result.{on_ok_weaker}
-use Rattle.educe_tokens.proofs.Appending.{Appends-append, Appends-list}
+use Rattle.educe_tokens.proofs.Appending.{Appends-append}
 use Rattle.educe_body.proofs.body.ImplItem.push_head.Goals as goal
 
 pub returns-clause-ok : goal.returns-clause-ok
 returns-clause-ok c =
-    let attributes = Appends-list c.args.self.now.attributes.tokens c.in_ok-append.ensures.ok in
-    let path = Appends-append (Appends-append attributes c.in_ok-quote.ensures.ok) c.in_ok-push_trait.ensures.ok in
+    let path = Appends-append (Appends-append c.in_ok-append_written.ensures.ok c.in_ok-quote.ensures.ok) c.in_ok-push_trait.ensures.ok in
     on_ok_weaker _ (λ back. Appends-append path back) c.quote-2.ensures.ok
