@@ -1,31 +1,34 @@
-//! std's readers and writers as devices. They tell no bytes.
+//! std's readers and writers as devices. They tell the bytes that the reader or writer tells.
 ghost use Rattle.std.specs.Prelude.{◌≡◌};
-ghost use Rattle.std.specs.Io.{WritesAtMost};
+ghost use Rattle.std.proofs.Props.{props};
+ghost use Rattle.educe_cli.specs.Adapters.{IsSteady};
 
 use educe_core::{Failed, Sink, Source, Stopped};
-use std::io;
 use std::io::{Read, Write};
 
 /// A reader as a source.
 #[derive(Drop)]
-pub struct Reading<R: Drop> {
+pub struct Reading<R: Read + Drop> {
     inner: R,
     faults: u64,
+    ghost steady: { IsSteady R.remaining inner } by { Prim.hlevel props },
 }
 
-impl<R: Drop> Reading<R> {
+impl<R: Read + Drop> Reading<R> {
     /// The reader, which has not failed yet.
     pub fn new(inner: R) -> Self
-        ensures { result.faults ≡ 0 }
+        requires { IsSteady R.remaining inner }
+        ensures inner { result.inner ≡ inner }
+        ensures faults { result.faults ≡ 0 }
     {
         Reading { inner, faults: 0 }
     }
 }
 
 impl<R: Read + Drop> Source for Reading<R> {
-    ghost use Rattle.std.specs.Prelude.{None, true};
+    ghost use Rattle.std.specs.Prelude.{true};
 
-    ghost left = { λ _. None };
+    ghost left = { λ reading. R.remaining reading.inner };
 
     ghost faults = { λ reading. reading.faults };
 
@@ -42,54 +45,62 @@ impl<R: Read + Drop> Source for Reading<R> {
     }
 }
 
-/// A writer as a sink. Each write is flushed.
+/// A writer as a sink. Each write is flushed. Where a flush fails, the bytes that were written are
+/// not told, and each later call fails.
 #[derive(Drop)]
-pub struct Writing<W: Drop> {
+pub struct Writing<W: Write + Drop> {
     inner: W,
     faults: u64,
+    /// How many bytes the writer took before a flush failed.
+    unflushed: usize,
+    ghost steady: { IsSteady W.contents inner } by { Prim.hlevel props },
 }
 
-impl<W: Drop> Writing<W> {
+impl<W: Write + Drop> Writing<W> {
     /// The writer, which has not failed yet.
     pub fn new(inner: W) -> Self
-        ensures { result.faults ≡ 0 }
+        requires { IsSteady W.contents inner }
+        ensures inner { result.inner ≡ inner }
+        ensures faults { result.faults ≡ 0 }
+        ensures unflushed { result.unflushed ≡ 0 }
     {
-        Writing { inner, faults: 0 }
+        Writing {
+            inner,
+            faults: 0,
+            unflushed: 0,
+        }
     }
 }
 
-/// Writes once, and flushes.
-fn write_through<W: Write>(writer: &mut W, piece: &[u8]) -> io::Result<usize>
-    ensures { WritesAtMost result piece.now }
-{
-    let count = writer.write(piece)?;
-    writer.flush()?;
-    Ok(count)
-}
-
 impl<W: Write + Drop> Sink for Writing<W> {
-    ghost use Rattle.std.specs.Prelude.{None, true};
+    ghost use Rattle.std.specs.Prelude.{true};
+    ghost use Rattle.educe_cli.specs.Adapters.{all_but};
 
-    ghost held = { λ _. None };
+    ghost held = { λ writing. all_but writing.unflushed (W.contents writing.inner) };
 
     ghost faults = { λ writing. writing.faults };
 
     ghost may_fail = { λ _. true };
 
     fn write(&mut self, piece: &[u8]) -> Result<usize, Stopped> {
-        match write_through(&mut self.inner, piece) {
-            Ok(count) if count > 0 || piece.is_empty() => Ok(count),
-            _ => {
-                self.faults = self.faults.saturating_add(1);
-                Err(Stopped::Failed)
+        if self.unflushed == 0 {
+            if let Ok(count) = self.inner.write(piece) {
+                if self.inner.flush().is_err() {
+                    self.unflushed = count;
+                } else if count > 0 || piece.is_empty() {
+                    return Ok(count);
+                }
             }
         }
+        self.faults = self.faults.saturating_add(1);
+        Err(Stopped::Failed)
     }
 }
 
 #[cfg(test)]
 mod tests {
     use super::*;
+    use std::io;
     use std::test::Fail;
 
     /// A writer that takes nothing.
@@ -106,16 +117,80 @@ mod tests {
         }
     }
 
+    /// A writer that counts its calls. Its second flush fails.
+    #[derive(Drop)]
+    struct Counting {
+        writes: u64,
+        flushes: u64,
+    }
+
+    impl Write for Counting {
+        fn write(&mut self, piece: &[u8]) -> io::Result<usize> {
+            self.writes = self.writes.saturating_add(1);
+            Ok(piece.len())
+        }
+
+        fn flush(&mut self) -> io::Result<()> {
+            self.flushes = self.flushes.saturating_add(1);
+            if self.flushes == 2 {
+                return Err(io::Error::from(io::ErrorKind::Other));
+            }
+            Ok(())
+        }
+    }
+
+    /// A reader that fails.
+    #[derive(Drop)]
+    struct Broken;
+
+    impl Read for Broken {
+        fn read(&mut self, _room: &mut [u8]) -> io::Result<usize> {
+            Err(io::Error::from(io::ErrorKind::Other))
+        }
+    }
+
     #[test]
     fn a_write_that_takes_nothing_is_a_fault(rt: HostRuntime) -> Result<(), Fail> {
         let mut sink = Writing::new(Full);
         assert!(rt; matches!(sink.write(b"a"), Err(Stopped::Failed)));
         assert_eq!(rt; sink.faults, 1);
         assert!(rt; matches!(sink.write(b""), Ok(0)));
+        Ok(())
+    }
+
+    #[test]
+    fn each_write_is_flushed_until_a_flush_fails(rt: HostRuntime) -> Result<(), Fail> {
+        let mut sink = Writing::new(Counting {
+            writes: 0,
+            flushes: 0,
+        });
+        assert!(rt; matches!(sink.write(b"ab"), Ok(2)));
+        assert_eq!(rt; sink.inner.flushes, 1);
+        assert!(rt; matches!(sink.write(b"c"), Err(Stopped::Failed)));
+        assert!(rt; matches!(sink.write(b"d"), Err(Stopped::Failed)));
+        assert_eq!(rt; sink.faults, 2);
+        assert_eq!(rt; sink.inner.writes, 2);
+        Ok(())
+    }
+
+    #[test]
+    fn bytes_pass(rt: HostRuntime) -> Result<(), Fail> {
+        let mut sink = Writing::new(Vec::new(rt.alloc()));
+        assert!(rt; matches!(sink.write(b"ab"), Ok(2)));
+        assert_eq!(rt; sink.inner.as_slice(), b"ab".as_slice());
         let mut source = Reading::new(b"ab".as_slice());
         let mut room = [0; 4];
         assert!(rt; matches!(source.read(&mut room), Ok(2)));
         assert_eq!(rt; room, [97, 98, 0, 0]);
+        Ok(())
+    }
+
+    #[test]
+    fn each_failed_read_is_a_fault(rt: HostRuntime) -> Result<(), Fail> {
+        let mut source = Reading::new(Broken);
+        assert!(rt; source.read(&mut [0; 4]).is_err());
+        assert!(rt; source.read(&mut [0; 4]).is_err());
+        assert_eq!(rt; source.faults, 2);
         Ok(())
     }
 }

@@ -2,29 +2,17 @@
 #![tactic(auto)]
 
 mod adapters;
+mod ending;
 
 use adapters::{Reading, Writing};
-use educe_core::run;
-use std::process::ExitCode;
-use std::rt::Env;
-use std::{env, io};
+use ending::{Ending, run_program};
+use std::env;
+use std::io::{Stderr, Stdin, Stdout};
 
-/// The exit status where the arguments can't be taken.
-const NO_ARGUMENTS: u8 = 8;
-
-/// The arguments behind the program's name.
-fn words(rt: &(impl Env + AllocGlobal)) -> io::Result<Vec<String>> {
-    let words = env::args(rt)?.skip(1).collect(rt.alloc())?;
-    Ok(words)
-}
-
-fn main(rt: HostRuntime) -> ExitCode {
-    let Ok(words) = words(&rt) else {
-        return ExitCode::from(NO_ARGUMENTS);
-    };
-    let mut source = Reading::new(rt.stdin());
-    let mut sink = Writing::new(rt.stdout());
-    let mut notes = Writing::new(rt.stderr());
-    let status = run(rt.alloc(), &words, &mut source, &mut sink, &mut notes);
-    ExitCode::from(status.code())
+fn main(rt: HostRuntime) -> Ending {
+    let arguments = env::args(&rt);
+    let mut source: Reading<Stdin> = Reading::new(rt.stdin());
+    let mut sink: Writing<Stdout> = Writing::new(rt.stdout());
+    let mut notes: Writing<Stderr> = Writing::new(rt.stderr());
+    run_program(rt.alloc(), arguments, &mut source, &mut sink, &mut notes)
 }

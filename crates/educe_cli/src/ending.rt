@@ -1,0 +1,101 @@
+//! The program over its arguments and devices, and the exit status that it ends with.
+ghost use Rattle.std.specs.Prelude.{◌≡◌, map, drop, string_bytes, IfOk, MatchResult};
+ghost use Rattle.std.specs.Process.{exit_status};
+ghost use Rattle.std.specs.Vec.Iter.{into_iter_items};
+ghost use Rattle.educe_core.specs.Devices.{change};
+ghost use Rattle.educe_cli.specs.Ending.{EndsAsRun, EndsUnrun};
+
+use educe_core::{Sink, Source, Status, run};
+use std::alloc::{AllocError, Global};
+use std::env::Args;
+use std::io;
+use std::io::Eprint;
+use std::process::{ExitCode, Termination};
+
+/// The exit status where the arguments can't be taken.
+const NO_ARGUMENTS: u8 = 8;
+
+/// How the program ends. Only `run_program` makes one, so `main` answers no other status.
+#[derive(Drop)]
+pub struct Ending {
+    status: u8,
+}
+
+impl Termination for Ending {
+    fn report<R: Eprint>(self, _rt: &R) -> ExitCode
+        ensures { exit_status result ≡ self.status }
+    {
+        ExitCode::from(self.status)
+    }
+}
+
+/// The words behind the program's name, which is the first argument.
+fn words(alloc: Global, arguments: Args) -> Result<Vec<String>, AllocError>
+    ensures { IfOk result (λ words. words.items ≡ drop 1 (into_iter_items arguments)) }
+{
+    arguments.skip(1).collect(alloc)
+}
+
+/// Runs the program over its arguments and devices, and ends with the status of the answer. Where
+/// the arguments can't be taken, it ends with `NO_ARGUMENTS` and touches no device.
+pub fn run_program<S: Source, K: Sink, E: Sink>(
+    alloc: Global,
+    arguments: io::Result<Args>,
+    source: &mut S,
+    sink: &mut K,
+    notes: &mut E,
+) -> Ending
+    ensures { let reading = change (S.left source.old) (S.left source.new)
+        (S.faults source.old) (S.faults source.new) (S.may_fail source.old) in
+        let writing = change (K.held sink.old) (K.held sink.new)
+        (K.faults sink.old) (K.faults sink.new) (K.may_fail sink.old) in
+        let noting = change (E.held notes.old) (E.held notes.new)
+        (E.faults notes.old) (E.faults notes.new) (E.may_fail notes.old) in
+        MatchResult arguments
+        (λ all. EndsAsRun (map string_bytes (drop 1 (into_iter_items all)))
+        reading writing noting result.status)
+        (λ _. EndsUnrun reading writing noting result.status) }
+{
+    let Ok(arguments) = arguments else {
+        return Ending {
+            status: NO_ARGUMENTS,
+        };
+    };
+    let Ok(words) = words(alloc, arguments) else {
+        return Ending {
+            status: Status::NoMemory.code(),
+        };
+    };
+    let status = run(alloc, &words, source, sink, notes);
+    Ending {
+        status: status.code(),
+    }
+}
+
+#[cfg(test)]
+mod tests {
+    use super::*;
+    use educe_core::{MemorySink, MemorySource};
+    use std::test::Fail;
+
+    #[test]
+    fn the_status_is_that_of_the_run(rt: HostRuntime) -> Result<(), Fail> {
+        let alloc = rt.alloc();
+        let mut source = MemorySource::new(alloc, b"enum E {}", 10, &[])?;
+        let mut sink = MemorySink::new(alloc, 10, &[])?;
+        let mut notes = MemorySink::new(alloc, 10, &[])?;
+        let mut arguments = Vec::new(alloc);
+        arguments.push(String::from_str(alloc, "educe")?)?;
+        arguments.push(String::from_str(alloc, "expand")?)?;
+        let arguments = Ok(arguments.into_iter());
+        let ending = run_program(alloc, arguments, &mut source, &mut sink, &mut notes);
+        assert_eq!(rt; ending.status, 1);
+        assert_eq!(rt; sink.bytes(), b"".as_slice());
+        assert_eq!(rt; notes.bytes(), b"1:1: not built yet\n".as_slice());
+        let untaken = Err(io::Error::from(io::ErrorKind::InvalidData));
+        let ending = run_program(alloc, untaken, &mut source, &mut sink, &mut notes);
+        assert_eq!(rt; ending.status, 8);
+        assert_eq!(rt; ending.report(&rt), ExitCode::from(8));
+        Ok(())
+    }
+}
