@@ -1,0 +1,5 @@
+pub mod Names
+pub mod Printed
+pub mod Words
+pub mod Params
+pub mod Fields

@@ -1,0 +1,10 @@
+-- The tokens of generic parameters.
+use Rattle.educe_tokens.specs.declared.written.Written.{Written}
+use Rattle.educe_tree.specs.declared.generics.GenericParam.{GenericParam}
+use Rattle.educe_tree.specs.declared.generics.GenericParam.TheVariants.{Lifetime, TypeParam, Const}
+
+-- the parameter's tokens, without its default
+abbrev pub written_of : GenericParam → Written
+written_of (Lifetime param) = param.written
+written_of (TypeParam param) = param.written
+written_of (Const param) = param.written

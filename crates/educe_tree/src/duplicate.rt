@@ -1,0 +1,31 @@
+//! Values of which there may be a second one.
+ghost use Rattle.std.specs.Prelude.{◌≡◌, IfOk};
+
+use educe_tokens::Seq;
+use std::alloc::{AllocError, Global};
+
+/// A tree of which there may be a second one.
+pub trait Duplicate: Drop {
+    /// An equal tree in memory of its own, its spans included.
+    fn duplicate(&self, alloc: Global) -> Result<Self, AllocError>
+        ensures { IfOk result (λ copy. copy ≡ self.now) };
+}
+
+impl<T: Duplicate> Duplicate for Seq<T> {
+    fn duplicate(&self, alloc: Global) -> Result<Seq<T>, AllocError> {
+        let mut copies = Seq::new(alloc);
+        for item in self.as_slice() {
+            copies.push(item.duplicate(alloc)?)?;
+        }
+        Ok(copies)
+    }
+}
+
+impl<T: Duplicate> Duplicate for Option<T> {
+    fn duplicate(&self, alloc: Global) -> Result<Option<T>, AllocError> {
+        match self {
+            Some(value) => Ok(Some(value.duplicate(alloc)?)),
+            None => Ok(None),
+        }
+    }
+}

@@ -1,0 +1,188 @@
+//! Generic parameters and where clauses (Rust Reference, Generic parameters).
+ghost use Rattle.educe_tokens.specs.WrittenLexemes.{written_lexemes};
+ghost use Rattle.educe_tree.specs.Printed.{printed-well_formed, printed-ends_apart, printed-lexes_back};
+
+use crate::duplicate::Duplicate;
+use crate::ident::Ident;
+use crate::lifetime::Lifetime;
+use educe_tokens::{Seq, ToTokens, TokenStream, Written, append_written};
+use std::alloc::{AllocError, Global};
+
+/// The parameters of a definition and the predicates of its where clause (Rust Reference, Generic
+/// parameters).
+#[derive(Drop)]
+pub struct Generics {
+    pub params: Params,
+    pub predicates: Predicates,
+}
+
+/// A generic parameter (Rust Reference, Generic parameters).
+#[derive(Drop)]
+pub enum GenericParam {
+    /// `'a: 'b`
+    Lifetime(LifetimeParam),
+    /// `T: Bound`
+    TypeParam(TypeParam),
+    /// `const N: usize`
+    Const(ConstParam),
+}
+
+/// Parameters in their order.
+pub type Params = Seq<GenericParam>;
+
+/// The parameter of a lifetime, with its tokens (Rust Reference, Generic parameters).
+#[derive(Drop)]
+pub struct LifetimeParam {
+    pub lifetime: Lifetime,
+    pub written: Written,
+}
+
+/// The parameter of a type, with its tokens without the default (Rust Reference, Generic
+/// parameters).
+#[derive(Drop)]
+pub struct TypeParam {
+    pub ident: Ident,
+    pub written: Written,
+}
+
+/// The parameter of a constant, with its tokens without the default (Rust Reference, Const
+/// generics).
+#[derive(Drop)]
+pub struct ConstParam {
+    pub ident: Ident,
+    pub written: Written,
+}
+
+/// A predicate of a where clause, with its tokens (Rust Reference, Where clauses).
+#[derive(Drop)]
+pub struct WherePredicate {
+    pub written: Written,
+}
+
+/// Predicates in their order.
+pub type Predicates = Seq<WherePredicate>;
+
+impl Duplicate for Generics {
+    fn duplicate(&self, alloc: Global) -> Result<Generics, AllocError> {
+        let params = self.params.duplicate(alloc)?;
+        let predicates = self.predicates.duplicate(alloc)?;
+        Ok(Generics { params, predicates })
+    }
+}
+
+impl Duplicate for GenericParam {
+    fn duplicate(&self, alloc: Global) -> Result<GenericParam, AllocError> {
+        match self {
+            GenericParam::Lifetime(param) => Ok(GenericParam::Lifetime(param.duplicate(alloc)?)),
+            GenericParam::TypeParam(param) => Ok(GenericParam::TypeParam(param.duplicate(alloc)?)),
+            GenericParam::Const(param) => Ok(GenericParam::Const(param.duplicate(alloc)?)),
+        }
+    }
+}
+
+impl Duplicate for LifetimeParam {
+    fn duplicate(&self, alloc: Global) -> Result<LifetimeParam, AllocError> {
+        let lifetime = self.lifetime.duplicate(alloc)?;
+        let written = self.written.duplicate()?;
+        Ok(LifetimeParam { lifetime, written })
+    }
+}
+
+impl Duplicate for TypeParam {
+    fn duplicate(&self, alloc: Global) -> Result<TypeParam, AllocError> {
+        let ident = self.ident.duplicate(alloc)?;
+        let written = self.written.duplicate()?;
+        Ok(TypeParam { ident, written })
+    }
+}
+
+impl Duplicate for ConstParam {
+    fn duplicate(&self, alloc: Global) -> Result<ConstParam, AllocError> {
+        let ident = self.ident.duplicate(alloc)?;
+        let written = self.written.duplicate()?;
+        Ok(ConstParam { ident, written })
+    }
+}
+
+impl Duplicate for WherePredicate {
+    fn duplicate(&self, alloc: Global) -> Result<WherePredicate, AllocError> {
+        let written = self.written.duplicate()?;
+        Ok(WherePredicate { written })
+    }
+}
+
+impl ToTokens for GenericParam {
+    ghost use Rattle.educe_tree.specs.Params.{written_of};
+
+    ghost lexemes_of = { λ param. written_lexemes (written_of param) };
+
+    ghost well_formed = { λ param. printed-well_formed (written_of param) };
+
+    ghost ends_apart = { λ param. printed-ends_apart (written_of param) };
+
+    ghost lexes_back = { λ param. printed-lexes_back (written_of param) };
+
+    fn to_tokens(&self, alloc: Global, tokens: &mut TokenStream) -> Result<(), AllocError> {
+        match self {
+            GenericParam::Lifetime(param) => param.to_tokens(alloc, tokens),
+            GenericParam::TypeParam(param) => param.to_tokens(alloc, tokens),
+            GenericParam::Const(param) => param.to_tokens(alloc, tokens),
+        }
+    }
+}
+
+impl ToTokens for LifetimeParam {
+    ghost lexemes_of = { λ param. written_lexemes param.written };
+
+    ghost well_formed = { λ param. printed-well_formed param.written };
+
+    ghost ends_apart = { λ param. printed-ends_apart param.written };
+
+    ghost lexes_back = { λ param. printed-lexes_back param.written };
+
+    fn to_tokens(&self, alloc: Global, tokens: &mut TokenStream) -> Result<(), AllocError> {
+        append_written(alloc, tokens, &self.written)
+    }
+}
+
+impl ToTokens for TypeParam {
+    ghost lexemes_of = { λ param. written_lexemes param.written };
+
+    ghost well_formed = { λ param. printed-well_formed param.written };
+
+    ghost ends_apart = { λ param. printed-ends_apart param.written };
+
+    ghost lexes_back = { λ param. printed-lexes_back param.written };
+
+    fn to_tokens(&self, alloc: Global, tokens: &mut TokenStream) -> Result<(), AllocError> {
+        append_written(alloc, tokens, &self.written)
+    }
+}
+
+impl ToTokens for ConstParam {
+    ghost lexemes_of = { λ param. written_lexemes param.written };
+
+    ghost well_formed = { λ param. printed-well_formed param.written };
+
+    ghost ends_apart = { λ param. printed-ends_apart param.written };
+
+    ghost lexes_back = { λ param. printed-lexes_back param.written };
+
+    fn to_tokens(&self, alloc: Global, tokens: &mut TokenStream) -> Result<(), AllocError> {
+        append_written(alloc, tokens, &self.written)
+    }
+}
+
+impl ToTokens for WherePredicate {
+    ghost lexemes_of = { λ predicate. written_lexemes predicate.written };
+
+    ghost well_formed = { λ predicate. printed-well_formed predicate.written };
+
+    ghost ends_apart = { λ predicate. printed-ends_apart predicate.written };
+
+    ghost lexes_back = { λ predicate. printed-lexes_back predicate.written };
+
+    fn to_tokens(&self, alloc: Global, tokens: &mut TokenStream) -> Result<(), AllocError> {
+        append_written(alloc, tokens, &self.written)
+    }
+}

@@ -1,0 +1,57 @@
+//! Lifetimes (Rust Reference, Lifetimes and loop labels).
+ghost use Rattle.std.specs.Prelude.{◌≡◌, IsTrue, OnOk, [], ◌∷◌, ◌++◌, map};
+ghost use Rattle.educe_pieces.specs.declared.kind.TokenKind.TheVariants as token;
+ghost use Rattle.educe_pieces.specs.Pieces.{spells};
+ghost use Rattle.educe_tokens.specs.Appends.{Appends, HasPrefix};
+ghost use Rattle.educe_tokens.proofs.Printable.{well_formed_from, ends_apart_from, lexes_back_from};
+ghost use Rattle.educe_tree.specs.Printed.{printable-lifetime};
+
+use crate::duplicate::Duplicate;
+use educe_tokens::{Span, Spelling, ToTokens, Token, TokenKind, TokenStream};
+use std::alloc::{AllocError, Global};
+
+/// A lifetime as it was written, its `'` included, and its place (Rust Reference, Lifetimes and
+/// loop labels).
+#[derive(Drop)]
+pub struct Lifetime {
+    pub text: Spelling,
+    pub span: Span,
+    pub ghost spelled: { IsTrue (spells token.Lifetime text) },
+}
+
+impl Duplicate for Lifetime {
+    fn duplicate(&self, alloc: Global) -> Result<Lifetime, AllocError> {
+        let text = self.text.duplicate(alloc)?;
+        Ok(Lifetime {
+            text,
+            span: self.span,
+        })
+    }
+}
+
+impl ToTokens for Lifetime {
+    ghost lexemes_of = { λ lifetime. record { kind = token.Lifetime; spelling = lifetime.text } ∷ [] };
+
+    ghost well_formed = { λ lifetime. well_formed_from (printable-lifetime lifetime.text lifetime.spelled) };
+
+    ghost ends_apart = { λ lifetime. ends_apart_from (printable-lifetime lifetime.text lifetime.spelled) };
+
+    ghost lexes_back = { λ lifetime. lexes_back_from (printable-lifetime lifetime.text lifetime.spelled) };
+
+    /// Appends the lifetime as one token, which keeps its span.
+    fn to_tokens(&self, alloc: Global, tokens: &mut TokenStream) -> Result<(), AllocError>
+        ensures ok { OnOk result (Appends
+            (record { kind = token.Lifetime; spelling = self.now.text } ∷ []) tokens.old tokens.new) }
+        ensures span { OnOk result (
+            map (λ t. t.span) tokens.new ≡ map (λ t. t.span) tokens.old ++ self.now.span ∷ []) }
+        ensures prefix { HasPrefix tokens.old tokens.new }
+    {
+        let spelling = self.text.duplicate(alloc)?;
+        tokens.push(Token {
+            kind: TokenKind::Lifetime,
+            span: self.span,
+            spelling,
+        })?;
+        Ok(())
+    }
+}
