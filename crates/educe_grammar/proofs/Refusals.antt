@@ -1,0 +1,83 @@
+-- Why tokens are refused is one thing: two refusals of the same tokens, neither for want of memory, are equal.
+use Rattle.std.proofs.Common.{◌≡◌, ◌≢◌, ◌++◌, ◌∷◌, length, refl, ap, sym, subst, ◌∙◌, inl, inr, arith, Option, Some, [], length-append}
+use Rattle.educe_tokens.specs.declared.token.Token.{Token}
+use Rattle.educe_tokens.specs.declared.error.EduceError.{EduceError}
+use Rattle.educe_tokens.specs.declared.error.Kind.TheVariants.{Syntax, TooDeep, Alloc}
+use Rattle.educe_tree.specs.declared.derive.DeriveInput.{DeriveInput}
+use Rattle.educe_grammar.specs.declared.parse_error.ParseError.{ParseError}
+use Rattle.educe_grammar.specs.Definitions.{definition}
+use Rattle.educe_grammar.specs.Naming.{Named, scopes, duplicate_of, IsRepeatedIn}
+use Rattle.educe_grammar.specs.Parsed.{depth_limit, IsWhole, IsParseCause, place_at}
+use Rattle.educe_grammar.specs.Refusal.{union_of, IsRefusalOf}
+use Rattle.educe_grammar.specs.Rules.{Rule}
+use Rattle.educe_grammar.specs.Steps.{Tokens}
+use Rattle.educe_grammar.proofs.ReadsAgain.{definition_again, one_reading}
+use Rattle.educe_grammar.proofs.Repeated.{StandsBefore, places, one_repeated_in}
+use Rattle.educe_grammar.proofs.Unions.{one_union, union_undefined}
+
+-- ---- the grammar
+
+-- a program stops at one place
+one_stop : {A B : ParseError} {o : Option ParseError} → o ≡ Some A → o ≡ Some B → A ≡ B
+one_stop h k = cc
+
+-- a token behind another has fewer behind it
+fewer_left : (front rest others more : Tokens) (t u : Token) → StandsBefore front t rest others u more → length (t ∷ rest) ≡ length (u ∷ more) → ⊥
+fewer_left front rest others more t u earlier same =
+    let behind : length rest ≡ length (earlier.between ++ u ∷ more) = ap length earlier.rest in
+    absurd (omega (arith, length-append earlier.between (u ∷ more)))
+
+-- so many tokens are left at one token
+one_place : (front rest others more : Tokens) (t u : Token) → front ++ t ∷ rest ≡ others ++ u ∷ more → length (t ∷ rest) ≡ length (u ∷ more) → t ≡ u
+one_place front rest others more t u same left =
+    elim (places front others rest more t u same) [
+      | inl e ↦ e.1
+      | inr (inl earlier) ↦ absurd (fewer_left front rest others more t u earlier left)
+      | inr (inr earlier) ↦ absurd (fewer_left others more front rest u t earlier (sym left))
+    ]
+
+-- a whole list has one cause at most why it is refused
+pub one_cause : {A : Type 0} (g : Rule A) (tokens : Tokens) (e f : EduceError) → IsParseCause g tokens e → IsParseCause g tokens f → e.kind ≢ Alloc → f.kind ≢ Alloc → e ≡ f
+one_cause g tokens e f (IsParseCause.syntax left never stop) (IsParseCause.syntax other none at) some more =
+    let same : left ≡ other = let at_one = one_stop stop at in cc in
+    ap (λ n. record { kind = Syntax; span = place_at tokens n; words = [] }) same
+one_cause g tokens e f (IsParseCause.syntax left never stop) (IsParseCause.too_deep front rest t none at is many) some more = let at_one = one_stop stop at in absurd (cc)
+one_cause g tokens e f (IsParseCause.syntax left never stop) IsParseCause.memory some more = absurd (more refl)
+one_cause g tokens e f (IsParseCause.too_deep front rest t never stop is many) (IsParseCause.syntax left none at) some more = let at_one = one_stop stop at in absurd (cc)
+one_cause g tokens e f (IsParseCause.too_deep front rest t never stop is many) (IsParseCause.too_deep others left u none at was much) some more =
+    let same : length (t ∷ rest) ≡ length (u ∷ left) = let at_one = one_stop stop at in cc in
+    ap (λ (token : Token). record { kind = TooDeep; span = token.span; words = [] }) (one_place front rest others left t u (sym is ∙ was) same)
+one_cause g tokens e f (IsParseCause.too_deep front rest t never stop is many) IsParseCause.memory some more = absurd (more refl)
+one_cause g tokens e f IsParseCause.memory c some more = absurd (some refl)
+
+-- ---- definitions
+
+-- a definition that is refused by the grammar is none
+refused_undefined : (tokens : Tokens) (e : EduceError) (found : DeriveInput) → IsParseCause definition tokens e → IsWhole definition tokens found → e.kind ≢ Alloc → ⊥
+refused_undefined tokens e found (IsParseCause.syntax left never stop) whole some = never found whole
+refused_undefined tokens e found (IsParseCause.too_deep front rest t never stop is many) whole some = never found whole
+refused_undefined tokens e found IsParseCause.memory whole some = some refl
+
+-- one name of the definition that the tokens are is told
+one_name : (tokens : Tokens) (found other : DeriveInput) (name again : Named) → IsWhole definition tokens found → IsWhole definition tokens other
+    → IsRepeatedIn name (scopes found) → IsRepeatedIn again (scopes other) → name ≡ again
+one_name tokens found other name again whole all twice much =
+    let same : found ≡ other = one_reading definition definition_again depth_limit tokens found other whole all in
+    one_repeated_in (scopes other) name again (subst (λ (d : DeriveInput). IsRepeatedIn name (scopes d)) same twice) much
+
+-- the tokens of a definition are refused for one reason
+pub one_refusal : (tokens : Tokens) (e f : EduceError) → IsRefusalOf tokens e → IsRefusalOf tokens f → e.kind ≢ Alloc → f.kind ≢ Alloc → e ≡ f
+one_refusal tokens e f (IsRefusalOf.union word is) (IsRefusalOf.union other was) some more = ap union_of (one_union tokens word other is was)
+one_refusal tokens e f (IsRefusalOf.union word is) (IsRefusalOf.grammar never cause) some more = absurd (never word is)
+one_refusal tokens e f (IsRefusalOf.union word is) IsRefusalOf.memory some more = absurd (more refl)
+one_refusal tokens e f (IsRefusalOf.union word is) (IsRefusalOf.repeated found name whole twice) some more = absurd (union_undefined tokens word found is whole)
+one_refusal tokens e f (IsRefusalOf.grammar never cause) (IsRefusalOf.union word is) some more = absurd (never word is)
+one_refusal tokens e f (IsRefusalOf.grammar never cause) (IsRefusalOf.grammar none other) some more = one_cause definition tokens e f cause other some more
+one_refusal tokens e f (IsRefusalOf.grammar never cause) IsRefusalOf.memory some more = absurd (more refl)
+one_refusal tokens e f (IsRefusalOf.grammar never cause) (IsRefusalOf.repeated found name whole twice) some more = absurd (refused_undefined tokens e found cause whole some)
+one_refusal tokens e f IsRefusalOf.memory other some more = absurd (some refl)
+one_refusal tokens e f (IsRefusalOf.repeated found name whole twice) (IsRefusalOf.union word is) some more = absurd (union_undefined tokens word found is whole)
+one_refusal tokens e f (IsRefusalOf.repeated found name whole twice) (IsRefusalOf.grammar never cause) some more = absurd (refused_undefined tokens f found cause whole more)
+one_refusal tokens e f (IsRefusalOf.repeated found name whole twice) IsRefusalOf.memory some more = absurd (more refl)
+one_refusal tokens e f (IsRefusalOf.repeated found name whole twice) (IsRefusalOf.repeated other again all much) some more =
+    ap duplicate_of (one_name tokens found other name again whole all twice much)

@@ -1,0 +1,269 @@
+-- Expressions (Rust Reference, Expressions).
+use Rattle.std.specs.Prelude.{Bool, true, false, not, ◌&&◌, ◌||◌, List, [], ◌∷◌, Option, Some, None, codes}
+use Rattle.std.specs.Str.{bytes_eq}
+use Rattle.std.specs.List.{list_all}
+use Rattle.educe_pieces.specs.declared.kind.Bracket.TheVariants.{Round, Square, Curly}
+use Rattle.educe_tokens.specs.declared.token.Token.{Token}
+use Rattle.educe_tokens.specs.declared.written.Written.{Written}
+use Rattle.educe_tree.specs.declared.ident.Ident.{Ident}
+use Rattle.educe_tree.specs.declared.expr.Expr.{Expr}
+use Rattle.educe_tree.specs.declared.expr.ExprForm.{ExprForm}
+use Rattle.educe_tree.specs.declared.expr.ExprForm.TheVariants as form
+use Rattle.educe_tree.specs.declared.expr.ExprPath.{ExprPath}
+use Rattle.educe_tree.specs.declared.ty.Ty.{Ty}
+use Rattle.educe_tree.specs.declared.path.Path.{Path, out-Path}
+use Rattle.educe_tree.specs.declared.path.Segment.{Segment, out-Segment}
+use Rattle.educe_tree.specs.declared.path.Args.TheVariants as args
+use Rattle.educe_tree.specs.declared.path.AngleArg.{AngleArg}
+use Rattle.educe_grammar.specs.declared.ending.Ending.{Ending}
+use Rattle.educe_grammar.specs.declared.ending.Ending.TheVariants.{Name}
+use Rattle.educe_grammar.specs.declared.ending.Link.{Link}
+use Rattle.educe_grammar.specs.declared.ending.Link.TheVariants.{Cast, Binary}
+use Rattle.educe_grammar.specs.declared.ending.Tail.{Tail}
+use Rattle.educe_grammar.specs.declared.ending.Tail.TheVariants as tail
+use Rattle.educe_grammar.specs.declared.operator.Operator.TheVariants.{Joins, Compares, Less, ShiftsLeft, Calculates}
+use Rattle.educe_grammar.specs.declared.terminal.Keyword.TheVariants as keyword
+use Rattle.educe_grammar.specs.declared.terminal.Terminal.TheVariants as terminal
+use Rattle.educe_grammar.specs.Terminals.{accepts}
+use Rattle.educe_grammar.specs.Steps.{Tokens, Found}
+use Rattle.educe_grammar.specs.Ahead.{one, start, stop, lone, pair, Look, is_sign, begins_pair}
+use Rattle.educe_grammar.specs.Rules as rule
+use Rattle.educe_grammar.specs.Rules.{Rule, token, empty, both, made, checked, either, nest, angles, binary, many, chain, sliced, written, part, types, exprs, trees}
+use Rattle.educe_grammar.specs.Combining.{at, at_sign, at_word, at_colons, at_angle, unit, skipping, optional, flag, sign, word, colons, behind_colon, commas, in_round}
+use Rattle.educe_grammar.specs.Names.{segment_name}
+use Rattle.educe_grammar.specs.Types.{path_of, segment_of, angle_args, has_no_args, is_path, qualified_self, qualified_path, plain_type}
+
+-- ---- trees of tokens
+
+-- how a token tree begins
+abbrev pub at_tree : Look
+at_tree = (one terminal.Leaf ∷ []) ∷ (start Round ∷ []) ∷ (start Square ∷ []) ∷ (start Curly ∷ []) ∷ []
+
+unfoldable pub some_trees : Rule (Unit {0})
+some_trees = unit (many at_tree (part trees))
+
+-- a bracket pair around trees
+unfoldable pub group : Rule (Unit {0})
+group = either (at (start Round)) (nest Round some_trees) (either (at (start Square)) (nest Square some_trees) (nest Curly some_trees))
+
+-- a token or a bracket pair
+unfoldable pub tree : Rule (Unit {0})
+tree = either (at (one terminal.Leaf)) (unit (token terminal.Leaf)) group
+
+-- ---- paths in expressions
+
+abbrev pub segment_with : Ident × Option (List AngleArg) → Segment
+segment_with p = elim p.1 [ None ↦ segment_of p.0 args.None | Some found ↦ segment_of p.0 (args.Angle found) ]
+
+-- `::<`
+abbrev pub at_turbofish : Look
+at_turbofish = (pair 58 58 ∷ lone 60 61 ∷ []) ∷ []
+
+-- a segment of a path in an expression
+unfoldable pub expr_segment : Rule Segment
+expr_segment = made segment_with (both segment_name (optional at_turbofish (skipping colons angle_args)))
+
+abbrev pub local_path : Bool × List Segment → Option Ty × Path
+local_path p = (None, path_of p.0 p.1)
+
+abbrev pub is_local_path : Option Ty × Path → Bool
+is_local_path p = is_path p.1
+
+abbrev pub qualified_expr : (Ty × Option (Path × Ending)) × List Segment → Option Ty × Path
+qualified_expr p = (Some p.0.0, qualified_path p.0.1 p.1)
+
+abbrev pub expr_path_of : (Option Ty × Path) × Written → ExprPath
+expr_path_of p = record { self_type = p.0.0; path = p.0.1; written = p.1 }
+
+-- a path behind its type, as in `<T as A>::b`
+unfoldable pub qualified_expr_path : Rule (Option Ty × Path)
+qualified_expr_path = made qualified_expr (both qualified_self (skipping colons (rule.path expr_segment)))
+
+-- a path with no type before it
+unfoldable pub local_expr_path : Rule (Option Ty × Path)
+local_expr_path = checked is_local_path (made local_path (both (flag at_colons colons) (rule.path expr_segment)))
+
+unfoldable pub any_expr_path : Rule (Option Ty × Path)
+any_expr_path = either at_angle qualified_expr_path local_expr_path
+
+-- a path in an expression
+unfoldable pub expr_path : Rule ExprPath
+expr_path = made expr_path_of (written any_expr_path)
+
+-- no segment has arguments
+abbrev pub no_segment_args : List Segment → Bool
+no_segment_args found = list_all (λ s. has_no_args (out-Segment s).args) found
+
+abbrev pub has_no_self : Option Ty → Bool
+has_no_self None = true
+has_no_self (Some t) = false
+
+-- a path without arguments
+abbrev pub is_mod_path : ExprPath → Bool
+is_mod_path p = has_no_self p.self_type && no_segment_args (out-Path p.path).segments
+
+-- ---- what stands behind a path
+
+-- the word `self`
+abbrev pub is_self : Token → Bool
+is_self t = bytes_eq t.spelling (codes "self")
+
+-- each `self` stands before `::`
+unfoldable pub self_begins_paths : Tokens → Bool
+self_begins_paths [] = true
+self_begins_paths (t ∷ ts) = (not (is_self t) || begins_pair 58 58 ts) && self_begins_paths ts
+
+abbrev pub is_macro_group : Unit {0} × Tokens → Bool
+is_macro_group p = self_begins_paths p.1
+
+-- what a macro is called with
+unfoldable pub macro_group : Rule (Unit {0})
+macro_group = unit (checked is_macro_group (sliced group))
+
+-- how a program sees that a field comes with a value
+abbrev pub at_value : Look
+at_value = (one terminal.NameOrIndex ∷ lone 58 58 ∷ []) ∷ []
+
+-- the value of a field, or its name alone
+unfoldable pub init : Rule (Unit {0})
+init =
+    either at_value (unit (both (token terminal.NameOrIndex) (behind_colon (part exprs))))
+    (unit (token terminal.Name))
+
+-- what stands behind the fields
+abbrev pub behind_fields : Look
+behind_fields = (stop Curly ∷ []) ∷ (pair 46 46 ∷ []) ∷ []
+
+-- the fields of a struct expression
+unfoldable pub inits : Rule (Unit {0})
+inits = unit (both (commas behind_fields init) (flag (at (pair 46 46)) (both (rule.operator 46 46) (part exprs))))
+
+-- nothing, the fields of a struct, or the call of a macro
+unfoldable pub path_tail : Rule Tail
+path_tail =
+    either (at (start Curly)) (made (λ _. tail.Fields) (nest Curly inits))
+    (either (at (lone 33 61)) (made (λ _. tail.Call) (rule.lone 33 61 macro_group))
+    (empty tail.Nothing))
+
+-- the path of a macro has no arguments
+abbrev pub fits_tail : ExprPath × Tail → Bool
+fits_tail p = elim p.1 [ tail.Nothing ↦ true | tail.Fields ↦ true | tail.Call ↦ is_mod_path p.0 ]
+
+abbrev pub tail_form : Tail → ExprForm
+tail_form tail.Nothing = form.Path
+tail_form tail.Fields = form.Other
+tail_form tail.Call = form.Other
+
+-- ---- operands
+
+-- an operand without prefixes and postfixes
+unfoldable pub primary : Rule ExprForm
+primary =
+    either (at (one terminal.Literal)) (made (λ _. form.Literal) (token terminal.Literal))
+    (either (at (one terminal.Truth)) (made (λ _. form.Truth) (token terminal.Truth))
+    (either (at (start Round)) (made (λ _. form.Other) (in_round (part exprs)))
+    (made (λ p. tail_form p.1) (checked fits_tail (both expr_path path_tail)))))
+
+-- a field or a method behind `.`
+unfoldable pub member : Rule (Unit {0})
+member =
+    either (at (one terminal.Name)) (unit (both (token terminal.Name) (flag at_colons (skipping colons angle_args))))
+    (unit (token terminal.Int))
+
+abbrev pub at_postfix : Look
+at_postfix = (start Round ∷ []) ∷ (start Square ∷ []) ∷ (lone 46 46 ∷ []) ∷ []
+
+-- what is read behind an operand
+unfoldable pub postfix : Rule (Unit {0})
+postfix =
+    either (at (start Round)) (unit (in_round (part exprs)))
+    (either (at (start Square)) (unit (nest Square (part exprs)))
+    (rule.lone 46 46 member))
+
+abbrev pub at_prefix : Look
+at_prefix = (one terminal.PrefixSign ∷ []) ∷ (one (terminal.Sign 38) ∷ []) ∷ []
+
+abbrev pub is_minus : Found (accepts terminal.PrefixSign) → Bool
+is_minus found = is_sign 45 found.token.kind
+
+-- a prefix, and whether it is `-`
+unfoldable pub prefix : Rule Bool
+prefix =
+    either (at_sign 38) (made (λ _. false) (both (sign 38) (flag (at_word keyword.Mut) (word keyword.Mut))))
+    (made is_minus (token terminal.PrefixSign))
+
+-- one literal behind one `-`
+abbrev pub negated_form : Bool → ExprForm → ExprForm
+negated_form true form.Literal = form.Negated
+negated_form true found = form.Other
+negated_form false found = form.Other
+
+abbrev pub unary_form : List Bool → ExprForm → List (Unit {0}) → ExprForm
+unary_form [] found [] = found
+unary_form (minus ∷ []) found [] = negated_form minus found
+unary_form prefixes found postfixes = form.Other
+
+-- an operand
+unfoldable pub unary : Rule ExprForm
+unary = made (λ p. unary_form p.0 p.1.0 p.1.1) (both (chain at_prefix prefix) (both primary (chain at_postfix postfix)))
+
+-- ---- operators
+
+-- how a link begins: with `as` or an operator
+abbrev pub at_link : Look
+at_link =
+    (one (terminal.Word keyword.As) ∷ []) ∷ (one (terminal.Sign 43) ∷ []) ∷ (one (terminal.Sign 45) ∷ []) ∷ (one (terminal.Sign 42) ∷ [])
+    ∷ (one (terminal.Sign 47) ∷ []) ∷ (one (terminal.Sign 37) ∷ []) ∷ (one (terminal.Sign 94) ∷ []) ∷ (one (terminal.Sign 38) ∷ [])
+    ∷ (one (terminal.Sign 124) ∷ []) ∷ (one (terminal.Sign 60) ∷ []) ∷ (one (terminal.Sign 62) ∷ []) ∷ (pair 61 61 ∷ []) ∷ (pair 33 61 ∷ []) ∷ []
+
+-- `as Plain`, or an operator and its second operand
+unfoldable pub link : Rule Link
+link =
+    either (at_word keyword.As) (made (λ t. Cast t.1) (skipping (word keyword.As) plain_type))
+    (made (λ p. Binary p.0) (binary unary))
+
+-- Between two comparisons stands `&&` or `||`; the truth value says that one may come.
+unfoldable pub compares_once : Bool → List Link → Bool
+compares_once may [] = true
+compares_once may (Cast ending ∷ more) = compares_once may more
+compares_once may (Binary Joins ∷ more) = compares_once true more
+compares_once may (Binary Compares ∷ more) = may && compares_once false more
+compares_once may (Binary Less ∷ more) = may && compares_once false more
+compares_once may (Binary ShiftsLeft ∷ more) = compares_once may more
+compares_once may (Binary Calculates ∷ more) = compares_once may more
+
+-- the operator begins with `<`, and isn't `<=`
+abbrev pub begins_with_less : Link → Bool
+begins_with_less (Cast ending) = false
+begins_with_less (Binary Joins) = false
+begins_with_less (Binary Compares) = false
+begins_with_less (Binary Less) = true
+begins_with_less (Binary ShiftsLeft) = true
+begins_with_less (Binary Calculates) = false
+
+abbrev pub may_stand_before : Link → Link → Bool
+may_stand_before (Cast Name) next = not (begins_with_less next)
+may_stand_before first next = true
+
+-- behind a cast to a type that ends with a name stands neither `<` nor `<<`
+unfoldable pub casts_end : List Link → Bool
+casts_end [] = true
+casts_end (l ∷ []) = true
+casts_end (l ∷ next ∷ more) = may_stand_before l next && casts_end (next ∷ more)
+
+abbrev pub links_fit : List Link → Bool
+links_fit found = compares_once true found && casts_end found
+
+abbrev pub linked_form : ExprForm × List Link → ExprForm
+linked_form p = elim p.1 [ [] ↦ p.0 | _ ∷ _ ↦ form.Other ]
+
+abbrev pub expr_of : ExprForm × Written → Expr
+expr_of p = record { form = p.0; written = p.1 }
+
+-- operands with links between
+unfoldable pub operation : Rule ExprForm
+operation = made linked_form (both unary (checked links_fit (chain at_link link)))
+
+-- an expression
+unfoldable pub expression : Rule Expr
+expression = made expr_of (written operation)

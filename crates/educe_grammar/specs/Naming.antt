@@ -1,0 +1,100 @@
+-- Names that are given twice: in a definition they are apart, a leading `r#` aside (Rust Reference, Names).
+use Rattle.std.specs.Prelude.{◌≡◌, ◌≢◌, ℕ, ◌<◌, ◌≤◌, List, [], ◌∷◌, ◌++◌, map, Option, Some, None}
+use Rattle.std.specs.List.{AllByRecursion, filter_map}
+use Rattle.educe_tokens.specs.declared.span.Span.{Span}
+use Rattle.educe_tokens.specs.declared.error.EduceError.{EduceError}
+use Rattle.educe_tokens.specs.declared.error.Kind.TheVariants.{DuplicateName}
+use Rattle.educe_tree.specs.declared.ident.Ident.{Ident}
+use Rattle.educe_tree.specs.declared.data.Field.{Field}
+use Rattle.educe_tree.specs.declared.data.Variant.{Variant}
+use Rattle.educe_tree.specs.declared.derive.DeriveInput.{DeriveInput}
+use Rattle.educe_tree.specs.declared.derive.Shape.{Shape}
+use Rattle.educe_tree.specs.declared.derive.Shape.TheVariants.{Struct, Enum}
+use Rattle.educe_tree.specs.declared.generics.GenericParam.{GenericParam}
+use Rattle.educe_tree.specs.declared.generics.GenericParam.TheVariants as param
+use Rattle.educe_tree.specs.Names.{unraw}
+
+-- a name as it was written, and its place
+pub record Named : Type 0 where
+  pub text : List ℕ
+  pub span : Span
+
+abbrev pub ident_named : Ident → Named
+ident_named ident = record { text = ident.text; span = ident.span }
+
+-- the names of lifetime parameters
+abbrev pub lifetime_named : GenericParam → Option Named
+lifetime_named (param.Lifetime p) = Some (record { text = p.lifetime.text; span = p.lifetime.span })
+lifetime_named (param.TypeParam p) = None
+lifetime_named (param.Const p) = None
+
+-- the names of type and const parameters
+abbrev pub type_named : GenericParam → Option Named
+type_named (param.Lifetime p) = None
+type_named (param.TypeParam p) = Some (ident_named p.ident)
+type_named (param.Const p) = Some (ident_named p.ident)
+
+abbrev pub field_named : Field → Option Named
+field_named field = elim field.ident [ None ↦ None | Some ident ↦ Some (ident_named ident) ]
+
+abbrev pub field_names : List Field → List Named
+field_names fields = filter_map field_named fields
+
+abbrev pub variant_names : List Variant → List Named
+variant_names variants = map (λ v. ident_named v.ident) variants
+
+-- the lists of names of a shape, in each of which they are apart: the fields of a struct, or the variants of an enum and
+-- the fields of each
+abbrev pub shape_scopes : Shape → List (List Named)
+shape_scopes (Struct shape) = field_names shape.fields ∷ []
+shape_scopes (Enum variants) = variant_names variants ∷ map (λ v. field_names v.fields.fields) variants
+
+-- the lists of names of a definition: lifetime parameters, type and const parameters, and those of its shape
+abbrev pub scopes : DeriveInput → List (List Named)
+scopes definition =
+    filter_map lifetime_named definition.generics.params ∷ filter_map type_named definition.generics.params ∷ shape_scopes definition.shape
+
+-- each differs from all that follow it, a leading `r#` aside
+abbrev pub AreApart : List Named → Type 0
+AreApart [] = Unit {0}
+AreApart (name ∷ names) = AllByRecursion (λ later. unraw name.text ≢ unraw later.text) names × AreApart names
+
+-- an earlier name of the list is this one, a leading `r#` aside; the names before this one are apart
+pub record IsRepeated (found : Named) (names : List Named) : Type 0 where
+  pub before : List Named
+  pub first : Named
+  pub between : List Named
+  pub after : List Named
+  pub is : names ≡ before ++ first ∷ (between ++ found ∷ after)
+  pub same : unraw first.text ≡ unraw found.text
+  pub apart : AreApart (before ++ first ∷ between)
+
+-- in each list the names are apart
+abbrev pub AllApart : List (List Named) → Type 0
+AllApart lists = AllByRecursion AreApart lists
+
+-- where a name is repeated in one of the lists, it stands behind this place
+abbrev pub AreBehind : ℕ → List (List Named) → Type 0
+AreBehind start lists = AllByRecursion (λ names. (other : Named) → IsRepeated other names → start < other.span.start) lists
+
+-- where a name is repeated in one of the lists, it doesn't stand before this place
+abbrev pub AreNotBefore : ℕ → List (List Named) → Type 0
+AreNotBefore start lists = AllByRecursion (λ names. (other : Named) → IsRepeated other names → start ≤ other.span.start) lists
+
+-- the name is repeated in one of the lists, and of the names that are repeated in some list it is written first
+pub record IsRepeatedIn (found : Named) (lists : List (List Named)) : Type 0 where
+  pub before : List (List Named)
+  pub names : List Named
+  pub after : List (List Named)
+  pub is : lists ≡ before ++ names ∷ after
+  pub repeated : IsRepeated found names
+  pub behind : AreBehind found.span.start before
+  pub not_before : AreNotBefore found.span.start after
+
+-- all names of a definition are apart where they have to be
+abbrev pub AreNamesApart : DeriveInput → Type 0
+AreNamesApart definition = AllApart (scopes definition)
+
+-- that the name is given twice, at the later place
+abbrev pub duplicate_of : Named → EduceError
+duplicate_of found = record { kind = DuplicateName; span = found.span; words = found.text ∷ [] }

@@ -1,0 +1,69 @@
+-- What a call answers that reads a whole list of tokens by a rule.
+use Rattle.std.specs.Prelude.{◌≡◌, ℕ, ◌-◌, ◌<◌, [], ◌∷◌, ◌++◌, length, slice_get, Option, Some, None, Result, Ok, Err}
+use Rattle.educe_tokens.specs.declared.span.Span.{Span}
+use Rattle.educe_tokens.specs.declared.token.Token.{Token}
+use Rattle.educe_tokens.specs.declared.error.EduceError.{EduceError}
+use Rattle.educe_tokens.specs.declared.error.Kind.TheVariants.{Syntax, TooDeep, Alloc}
+use Rattle.educe_tokens.specs.Refusals.{placeless}
+use Rattle.educe_grammar.specs.declared.parse_error.ParseError.{ParseError}
+use Rattle.educe_grammar.specs.declared.parse_error.ParseError.TheVariants.{Syntax as SyntaxAt, TooDeep as TooDeepAt}
+use Rattle.educe_grammar.specs.Steps.{Tokens, Outcome}
+use Rattle.educe_grammar.specs.Depth.{counted}
+use Rattle.educe_grammar.specs.Reads.{Reads, read}
+use Rattle.educe_grammar.specs.Rules.{Rule}
+
+-- how many brackets, angle lists, `&`, `*`, `dyn` and `->` may stand in one another
+abbrev pub depth_limit : ℕ
+depth_limit = 128
+
+-- the value of the whole list, within the limits
+abbrev pub IsWhole : {A : Type 0} → Rule A → Tokens → A → Type 0
+IsWhole g tokens x = Reads depth_limit g tokens x
+
+-- the whole list is nothing that the rule allows, within the limits
+abbrev pub HasNoReading : {A : Type 0} → Rule A → Tokens → Type 0
+HasNoReading {A = A} g tokens = (x : A) → IsWhole g tokens x → ⊥
+
+-- ---- places
+
+-- the end of the last token, and 0 where there is none
+abbrev pub end_of : Tokens → ℕ
+end_of tokens = end_of_last (slice_get tokens (length tokens - 1))
+  where
+    end_of_last : Option Token → ℕ
+    end_of_last None = 0
+    end_of_last (Some t) = t.span.end
+
+-- nothing, at the end of the tokens
+abbrev pub end_place : Tokens → Span
+end_place tokens = record { start = end_of tokens; end = end_of tokens }
+
+-- the place of the token at which so many are left; where none is left, the end
+abbrev pub place_at : Tokens → ℕ → Span
+place_at tokens left = place_of (slice_get tokens (length tokens - left))
+  where
+    place_of : Option Token → Span
+    place_of None = end_place tokens
+    place_of (Some t) = t.span
+
+-- ---- refusals
+
+-- where the program of the rule stops on a list that it doesn't read to its end
+abbrev pub stop_of : {A : Type 0} → Outcome A → Option ParseError
+stop_of (Ok (x, [])) = None
+stop_of (Ok (x, t ∷ rest)) = Some (SyntaxAt (length (t ∷ rest)))
+stop_of (Err e) = Some e
+
+-- Why a whole list is refused: it has no reading within the limits; or none, and at the place, a token, more openers count
+-- than the limit allows. The place is where the program of the rule stops. Want of memory has no cause.
+pub data IsParseCause {A : Type 0} (g : Rule A) (tokens : Tokens) : EduceError → Type 0 where
+  syntax : (left : ℕ) → HasNoReading g tokens → stop_of (read depth_limit g tokens) ≡ Some (SyntaxAt left)
+      → IsParseCause g tokens (record { kind = Syntax; span = place_at tokens left; words = [] })
+  too_deep : (front rest : Tokens) (t : Token) → HasNoReading g tokens → stop_of (read depth_limit g tokens) ≡ Some (TooDeepAt (length (t ∷ rest)))
+      → tokens ≡ front ++ t ∷ rest → depth_limit < counted (front ++ t ∷ []) → IsParseCause g tokens (record { kind = TooDeep; span = t.span; words = [] })
+  memory : IsParseCause g tokens (placeless Alloc)
+
+-- the one value of the whole list, unless memory fails
+abbrev pub IsOnly : {A : Type 0} → A → Result A EduceError → Type 0
+IsOnly x (Ok found) = found ≡ x
+IsOnly x (Err e) = e.kind ≡ Alloc

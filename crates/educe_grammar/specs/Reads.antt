@@ -1,0 +1,40 @@
+-- The grammar whole: what a list of tokens is, with a budget for what stands inside.
+use Rattle.std.specs.Prelude.{ℕ, zero, suc}
+use Rattle.educe_grammar.specs.Steps.{Parser, refuse}
+use Rattle.educe_grammar.specs.Reading.{Grammar, Parts, Parses}
+use Rattle.educe_grammar.specs.Running.{Readers, run}
+use Rattle.educe_grammar.specs.Rules.{Rule, Part, TreeOf, types, plains, exprs, trees}
+use Rattle.educe_grammar.specs.Types.{any_type, plain_type}
+use Rattle.educe_grammar.specs.Expressions.{expression, tree}
+
+-- the rule of each part
+abbrev pub rule_of : (p : Part) → Rule (TreeOf p)
+rule_of types = any_type
+rule_of plains = plain_type
+rule_of exprs = expression
+rule_of trees = tree
+
+-- the parts whose budget is below the first number; the parts inside of one have less budget than it
+unfoldable pub parts_below : ℕ → Parts
+parts_below zero budget p = λ tokens x. ⊥
+parts_below (suc n) budget p = Parses (parts_below n) budget (rule_of p)
+
+-- the part, with this budget
+abbrev pub parts : Parts
+parts budget = parts_below (suc budget) budget
+
+-- which tokens are the value by the rule, with this budget
+abbrev pub Reads : ℕ → {A : Type 0} → Rule A → Grammar A
+Reads budget g = Parses parts budget g
+
+-- the same as a program
+unfoldable pub readers_below : ℕ → Readers
+readers_below zero budget p = refuse
+readers_below (suc n) budget p = run (readers_below n) budget (rule_of p)
+
+abbrev pub readers : Readers
+readers budget = readers_below (suc budget) budget
+
+-- the program of the rule, with this budget
+abbrev pub read : ℕ → {A : Type 0} → Rule A → Parser A
+read budget g = run readers budget g

@@ -1,0 +1,40 @@
+-- Why the tokens of a definition are refused.
+use Rattle.std.specs.Prelude.{◌≡◌, List, [], ◌∷◌, ◌++◌, codes}
+use Rattle.educe_pieces.specs.declared.kind.TokenKind.TheVariants as kind
+use Rattle.educe_tokens.specs.declared.token.Token.{Token}
+use Rattle.educe_tokens.specs.declared.error.EduceError.{EduceError}
+use Rattle.educe_tokens.specs.declared.error.Kind.TheVariants.{NotCarried, Alloc}
+use Rattle.educe_tokens.specs.Refusals.{placeless}
+use Rattle.educe_tree.specs.declared.attr.Attribute.{Attribute}
+use Rattle.educe_tree.specs.declared.derive.DeriveInput.{DeriveInput}
+use Rattle.educe_grammar.specs.Steps.{Tokens}
+use Rattle.educe_grammar.specs.Rules.{both}
+use Rattle.educe_grammar.specs.Attributes.{attributes}
+use Rattle.educe_grammar.specs.Definitions.{visibility, definition}
+use Rattle.educe_grammar.specs.Parsed.{IsWhole, IsParseCause}
+use Rattle.educe_grammar.specs.Naming.{Named, IsRepeatedIn, scopes, duplicate_of}
+
+-- the identifier `union` (Rust Reference, Keywords: weak keywords)
+abbrev pub IsUnionWord : Token → Type 0
+IsUnionWord t = (t.kind ≡ kind.Ident) × (t.spelling ≡ codes "union")
+
+-- behind attributes and a visibility stands this word: no other definition begins so, whatever follows
+pub record IsUnion (tokens : Tokens) (word : Token) : Type 0 where
+  pub front : Tokens
+  pub rest : Tokens
+  pub read : List Attribute × Unit {0}
+  pub is : tokens ≡ front ++ word ∷ rest
+  pub reads : IsWhole (both attributes visibility) front read
+  pub word_is : IsUnionWord word
+
+-- that unions are not carried
+abbrev pub union_of : Token → EduceError
+union_of word = record { kind = NotCarried; span = word.span; words = word.spelling ∷ [] }
+
+-- Why the tokens are refused: they begin as a union; or they don't, and are no definition within the limits; or a name of
+-- the definition is given twice. Want of memory has no cause.
+pub data IsRefusalOf (tokens : Tokens) : EduceError → Type 0 where
+  union : (word : Token) → IsUnion tokens word → IsRefusalOf tokens (union_of word)
+  grammar : {e : EduceError} → ((word : Token) → IsUnion tokens word → ⊥) → IsParseCause definition tokens e → IsRefusalOf tokens e
+  memory : IsRefusalOf tokens (placeless Alloc)
+  repeated : (found : DeriveInput) (name : Named) → IsWhole definition tokens found → IsRepeatedIn name (scopes found) → IsRefusalOf tokens (duplicate_of name)
