@@ -1,0 +1,4 @@
+pub mod Idents
+pub mod Differing
+pub mod Repeats
+pub mod Answering

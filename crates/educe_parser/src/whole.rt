@@ -1,0 +1,61 @@
+//! Whole lists of tokens.
+ghost use Rattle.std.specs.Prelude.{◌≡◌};
+ghost use Rattle.educe_grammar.specs.Parsed as spec;
+ghost use Rattle.educe_grammar.specs.Steps.{Parser, ReadsAs};
+ghost use Rattle.educe_parser.specs.Answers as answers;
+ghost use Rattle.educe_parser.specs.Answers.{IsAnswer};
+
+use educe_grammar::{Cursor, ParseError};
+use educe_tokens::{EduceError, Kind, Span, Token, TokenSlice};
+use std::alloc::Global;
+
+/// No token, at the end of the last one.
+fn end_place(tokens: &[Token]) -> Span
+    ensures { result ≡ spec.end_place tokens.now }
+{
+    match tokens.last() {
+        Some(token) => Span {
+            start: token.span.end,
+            end: token.span.end,
+        },
+        None => Span::NONE,
+    }
+}
+
+/// The place of the token at which so many are left; where none is left, the end.
+fn place_at(tokens: &[Token], left: usize) -> Span
+    ensures { result ≡ spec.place_at tokens.now left }
+{
+    match tokens.get(tokens.len().saturating_sub(left)) {
+        Some(token) => token.span,
+        None => end_place(tokens),
+    }
+}
+
+/// The refusal of the tokens where the parser stops.
+fn refusal(alloc: Global, tokens: &[Token], error: ParseError) -> EduceError
+    ensures { result ≡ answers.refusal_of tokens.now error }
+{
+    match error {
+        ParseError::Memory => EduceError::alloc(alloc),
+        ParseError::Syntax(left) => EduceError::new(alloc, Kind::Syntax, place_at(tokens, left)),
+        ParseError::TooDeep(left) => EduceError::new(alloc, Kind::TooDeep, place_at(tokens, left)),
+    }
+}
+
+/// What is read of all of the tokens.
+pub fn whole<T: Drop, F: Fn(&mut Cursor<'_>) -> Result<T, ParseError>>(
+    alloc: Global,
+    tokens: &TokenSlice,
+    item: F,
+) -> Result<T, EduceError>
+    requires { F.IsAlwaysCallable item }
+    ensures { (program : Parser T) → ReadsAs program (F.post item) → IsAnswer program tokens.now result }
+{
+    let mut cursor = Cursor::new(tokens);
+    match item(&mut cursor) {
+        Ok(found) if cursor.at_end() => Ok(found),
+        Ok(_) => Err(refusal(alloc, tokens.as_slice(), cursor.refuse())),
+        Err(error) => Err(refusal(alloc, tokens.as_slice(), error)),
+    }
+}
