@@ -69,4 +69,23 @@ impl<T> Seq<T> {
         self.items.push(item)?;
         Ok(())
     }
+
+    /// The items, given away.
+    pub fn into_items(self) -> Vec<T>
+        ensures { result.items ≡ self }
+    {
+        self.items
+    }
+
+    /// Adds the items of another list at the end.
+    pub fn append(&mut self, other: Seq<T>) -> Result<(), AllocError>
+    where
+        T: Drop,
+        ensures { OnOk result (self.new ≡ self.old ++ other) }
+    {
+        for item in other.items {
+            self.items.push(item)?;
+        }
+        Ok(())
+    }
 }
