@@ -39,3 +39,9 @@ pub mod ScopeApart
 pub mod ReadsAgain
 pub mod Unions
 pub mod Refusals
+pub mod NamesPlaced
+pub mod FewNames
+pub mod Aside
+pub mod ReadAlike
+pub mod TypesAlike
+pub mod AlikeByTokens

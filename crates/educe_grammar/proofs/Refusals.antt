@@ -53,7 +53,7 @@ one_cause g tokens e f IsParseCause.memory c some more = absurd (some refl)
 -- ---- definitions
 
 -- a definition that is refused by the grammar is none
-refused_undefined : (tokens : Tokens) (e : EduceError) (found : DeriveInput) → IsParseCause definition tokens e → IsWhole definition tokens found → e.kind ≢ Alloc → ⊥
+pub refused_undefined : (tokens : Tokens) (e : EduceError) (found : DeriveInput) → IsParseCause definition tokens e → IsWhole definition tokens found → e.kind ≢ Alloc → ⊥
 refused_undefined tokens e found (IsParseCause.syntax left never stop) whole some = never found whole
 refused_undefined tokens e found (IsParseCause.too_deep front rest t never stop is many) whole some = never found whole
 refused_undefined tokens e found IsParseCause.memory whole some = some refl

@@ -17,3 +17,6 @@ pub mod Naming
 pub mod Refusal
 pub mod Reading
 pub mod Running
+pub mod Placed
+pub mod Few
+pub mod Alike

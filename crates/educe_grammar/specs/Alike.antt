@@ -1,0 +1,112 @@
+-- Tokens that are equal aside, and types that are alike.
+use Rattle.std.specs.Prelude.{◌≡◌, Bool, false, List, [], ◌∷◌, map, Option, Some, None}
+use Rattle.educe_pieces.specs.declared.kind.TokenKind.{TokenKind}
+use Rattle.educe_pieces.specs.declared.kind.TokenKind.TheVariants as kind
+use Rattle.educe_tokens.specs.declared.token.Token.{Token}
+use Rattle.educe_tokens.specs.declared.written.Written.{Written}
+use Rattle.educe_tokens.specs.Lexes.{Lexeme}
+use Rattle.educe_tree.specs.declared.ident.Ident.{Ident}
+use Rattle.educe_tree.specs.declared.lifetime.Lifetime.{Lifetime}
+use Rattle.educe_tree.specs.declared.ty.Ty.{Ty}
+use Rattle.educe_tree.specs.declared.ty.TypeForm.{TypeForm}
+use Rattle.educe_tree.specs.declared.ty.TypeForm.TheVariants as form
+use Rattle.educe_tree.specs.declared.path.Path.{Path}
+use Rattle.educe_tree.specs.declared.path.Segment.{Segment}
+use Rattle.educe_tree.specs.declared.path.Args.{Args}
+use Rattle.educe_tree.specs.declared.path.Args.TheVariants as args
+use Rattle.educe_tree.specs.declared.path.AngleArg.{AngleArg}
+use Rattle.educe_tree.specs.declared.path.AngleArg.TheVariants as arg
+use Rattle.educe_grammar.specs.Steps.{Tokens}
+use Rattle.educe_grammar.specs.Types.{type_of, path_of, segment_of}
+
+-- ---- tokens
+
+-- the kind, whether a punct is joint aside
+abbrev pub kind_aside : TokenKind → TokenKind
+kind_aside (kind.Punct c joint) = kind.Punct c false
+kind_aside kind.Ident = kind.Ident
+kind_aside kind.Lifetime = kind.Lifetime
+kind_aside (kind.Literal l) = kind.Literal l
+kind_aside (kind.Start b) = kind.Start b
+kind_aside (kind.Stop b) = kind.Stop b
+kind_aside kind.Doc = kind.Doc
+
+-- the kind and the spelling, the span and whether a punct is joint aside
+abbrev pub lexeme_aside : Token → Lexeme
+lexeme_aside t = record { kind = kind_aside t.kind; spelling = t.spelling }
+
+-- the same of each token
+abbrev pub lexemes_aside : Tokens → List Lexeme
+lexemes_aside tokens = map lexeme_aside tokens
+
+-- the tokens are equal, their spans and whether puncts are joint aside
+abbrev pub AreEqualAside : Tokens → Tokens → Type 0
+AreEqualAside ts us = lexemes_aside ts ≡ lexemes_aside us
+
+-- ---- types
+
+-- Types are alike: their trees have the same form, names, arguments (lifetimes among them), leading `::` and `mut` of
+-- references. The places of names, the lengths of arrays, constants and the tokens as they were written are not compared;
+-- so what stands in the tokens alone is not: the lifetime of a reference, `const` or `mut` of a pointer, what stands before `fn`.
+mutual
+  pub data AlikeTypes : Ty → Ty → Type 0 where
+    of_forms : {f g : TypeForm} (v w : Written) → AlikeForms f g → AlikeTypes (type_of f v) (type_of g w)
+
+  -- forms of types
+  pub data AlikeForms : TypeForm → TypeForm → Type 0 where
+    parens : {x y : Ty} → AlikeTypes x y → AlikeForms (form.Paren x) (form.Paren y)
+    tuples : {xs ys : List Ty} → AllTypesAlike xs ys → AlikeForms (form.Tuple xs) (form.Tuple ys)
+    nevers : AlikeForms form.Never form.Never
+    references : (mutable : Bool) {x y : Ty} → AlikeTypes x y → AlikeForms (form.Reference mutable x) (form.Reference mutable y)
+    pointers : {x y : Ty} → AlikeTypes x y → AlikeForms (form.Pointer x) (form.Pointer y)
+    slices : {x y : Ty} → AlikeTypes x y → AlikeForms (form.Slice x) (form.Slice y)
+    arrays : {x y : Ty} (v w : Written) → AlikeTypes x y → AlikeForms (form.Array x v) (form.Array y w)
+    paths : {s t : Option Ty} {p q : Path} → AlikeOptions s t → AlikePaths p q → AlikeForms (form.Path s p) (form.Path t q)
+    functions : {xs ys : List Ty} {s t : Option Ty} → AllTypesAlike xs ys → AlikeOptions s t → AlikeForms (form.FnPtr xs s) (form.FnPtr ys t)
+    objects : {ps qs : List Path} → AllPathsAlike ps qs → AlikeForms (form.TraitObject ps) (form.TraitObject qs)
+
+  -- types, where there are any
+  pub data AlikeOptions : Option Ty → Option Ty → Type 0 where
+    neither : AlikeOptions None None
+    both_some : {x y : Ty} → AlikeTypes x y → AlikeOptions (Some x) (Some y)
+
+  -- types in their order
+  pub data AllTypesAlike : List Ty → List Ty → Type 0 where
+    no_types : AllTypesAlike [] []
+    more_types : {x y : Ty} {xs ys : List Ty} → AlikeTypes x y → AllTypesAlike xs ys → AllTypesAlike (x ∷ xs) (y ∷ ys)
+
+  -- paths
+  pub data AlikePaths : Path → Path → Type 0 where
+    of_segments : (leading : Bool) {xs ys : List Segment} → AllSegmentsAlike xs ys → AlikePaths (path_of leading xs) (path_of leading ys)
+
+  -- paths in their order
+  pub data AllPathsAlike : List Path → List Path → Type 0 where
+    no_paths : AllPathsAlike [] []
+    more_paths : {p q : Path} {ps qs : List Path} → AlikePaths p q → AllPathsAlike ps qs → AllPathsAlike (p ∷ ps) (q ∷ qs)
+
+  -- segments
+  pub data AlikeSegments : Segment → Segment → Type 0 where
+    of_args : (i j : Ident) {a b : Args} → i.text ≡ j.text → AlikeArgs a b → AlikeSegments (segment_of i a) (segment_of j b)
+
+  -- segments in their order
+  pub data AllSegmentsAlike : List Segment → List Segment → Type 0 where
+    no_segments : AllSegmentsAlike [] []
+    more_segments : {x y : Segment} {xs ys : List Segment} → AlikeSegments x y → AllSegmentsAlike xs ys → AllSegmentsAlike (x ∷ xs) (y ∷ ys)
+
+  -- arguments of segments
+  pub data AlikeArgs : Args → Args → Type 0 where
+    no_args : AlikeArgs args.None args.None
+    in_angles : {xs ys : List AngleArg} → AllArgsAlike xs ys → AlikeArgs (args.Angle xs) (args.Angle ys)
+    in_round : {xs ys : List Ty} {s t : Option Ty} → AllTypesAlike xs ys → AlikeOptions s t → AlikeArgs (args.Round xs s) (args.Round ys t)
+
+  -- arguments in angle brackets
+  pub data AlikeAngleArgs : AngleArg → AngleArg → Type 0 where
+    lifetimes : (l m : Lifetime) → l.text ≡ m.text → AlikeAngleArgs (arg.Lifetime l) (arg.Lifetime m)
+    plain_types : {x y : Ty} → AlikeTypes x y → AlikeAngleArgs (arg.Plain x) (arg.Plain y)
+    bindings : (i j : Ident) {x y : Ty} → i.text ≡ j.text → AlikeTypes x y → AlikeAngleArgs (arg.Binding i x) (arg.Binding j y)
+    constants : (v w : Written) → AlikeAngleArgs (arg.Constant v) (arg.Constant w)
+
+  -- arguments in angle brackets, in their order
+  pub data AllArgsAlike : List AngleArg → List AngleArg → Type 0 where
+    no_more : AllArgsAlike [] []
+    more_args : {x y : AngleArg} {xs ys : List AngleArg} → AlikeAngleArgs x y → AllArgsAlike xs ys → AllArgsAlike (x ∷ xs) (y ∷ ys)
