@@ -5,6 +5,8 @@ use Rattle.educe_tokens.specs.declared.error.Kind.TheVariants.{Alloc}
 use Rattle.educe_tokens.specs.Refusals.{placeless, syntax_at, too_deep_at}
 use Rattle.educe_grammar.specs.declared.parse_error.ParseError.{ParseError}
 use Rattle.educe_grammar.specs.declared.parse_error.ParseError.TheVariants.{Memory, Syntax, TooDeep}
+use Rattle.educe_tree.specs.declared.derive.DeriveInput.{DeriveInput}
+use Rattle.educe_grammar.specs.Naming.{Named, scopes, duplicate_of, IsRepeatedIn}
 use Rattle.educe_grammar.specs.Parsed.{place_at, stop_of}
 use Rattle.educe_grammar.specs.Steps.{Tokens, Parser}
 
@@ -18,3 +20,7 @@ refusal_of tokens (TooDeep left) = too_deep_at (place_at tokens left)
 abbrev pub IsAnswer : {A : Type 0} → Parser A → Tokens → Result A EduceError → Type 0
 IsAnswer program tokens (Ok x) = program tokens ≡ Ok (x, [])
 IsAnswer program tokens (Err e) = (e ≡ placeless Alloc) ⊎ ((error : ParseError) × (stop_of (program tokens) ≡ Some error) × (e ≡ refusal_of tokens error))
+
+-- A name of the definition is given twice, and this is its refusal; or the one for want of memory.
+abbrev pub IsRefusedName : DeriveInput → EduceError → Type 0
+IsRefusedName found e = (e ≡ placeless Alloc) ⊎ ((name : Named) × IsRepeatedIn name (scopes found) × (e ≡ duplicate_of name))

@@ -1,20 +1,124 @@
 //! The calls of the parser: each reads a whole list of tokens.
-ghost use Rattle.std.specs.Prelude.{IfOk, IfErr};
+ghost use Rattle.std.specs.Prelude.{◌≡◌, List, length, IfOk, IfErr, IfSome, IfNone};
+ghost use Rattle.educe_tree.specs.declared.attr.Meta.{Meta};
+ghost use Rattle.educe_tree.specs.declared.derive.DeriveInput.{DeriveInput};
+ghost use Rattle.educe_tree.specs.declared.expr.Expr.{Expr};
+ghost use Rattle.educe_tree.specs.declared.expr.ExprPath.{ExprPath};
+ghost use Rattle.educe_tree.specs.declared.generics.WherePredicate.{WherePredicate};
 ghost use Rattle.educe_tree.specs.declared.ident.Ident.{Ident};
+ghost use Rattle.educe_grammar.specs.Attributes as attrs;
+ghost use Rattle.educe_grammar.specs.Definitions as defs;
+ghost use Rattle.educe_grammar.specs.Expressions as exprs;
+ghost use Rattle.educe_grammar.specs.Few.{IsFew};
+ghost use Rattle.educe_grammar.specs.Generics as generics;
 ghost use Rattle.educe_grammar.specs.Names as names;
+ghost use Rattle.educe_grammar.specs.Naming.{AreNamesApart};
 ghost use Rattle.educe_grammar.specs.Parsed.{IsWhole, IsParseCause, IsOnly};
+ghost use Rattle.educe_grammar.specs.Refusal.{IsRefusalOf};
+ghost use Rattle.educe_parser.specs.Answers.{IsRefusedName};
 
+use crate::knot::{definition, expr_path, expression, metas, predicates};
 use crate::names::name;
+use crate::naming::repeated_name;
+use crate::unions::{not_carried, union_word};
 use crate::whole::whole;
 use educe_tokens::{EduceError, TokenSlice};
-use educe_tree::Ident;
+use educe_tree::{DeriveInput, Expr, ExprPath, Ident, Metas, Predicates};
 use std::alloc::Global;
 
-/// The name that the tokens are.
+/// The name that the tokens are (Rust Reference, Identifiers).
 pub fn parse_ident(alloc: Global, tokens: &TokenSlice) -> Result<Ident, EduceError>
-    ensures found { IfOk result (λ ident. IsWhole names.name tokens.now ident) }
-    ensures only { (ident : Ident) → IsWhole names.name tokens.now ident → IsOnly ident result }
+    ensures found { IfOk result (λ x. IsWhole names.name tokens.now x) }
+    ensures only { (x : Ident) → IsWhole names.name tokens.now x → IsOnly x result }
     ensures err { IfErr result (IsParseCause names.name tokens.now) }
 {
     whole(alloc, tokens, |cursor| name(alloc, cursor))
+}
+
+/// The path of an expression that the tokens are (Rust Reference, Path expressions).
+pub fn parse_path(alloc: Global, tokens: &TokenSlice) -> Result<ExprPath, EduceError>
+    ensures found { IfOk result (λ x. IsWhole exprs.expr_path tokens.now x) }
+    ensures only { (x : ExprPath) → IsWhole exprs.expr_path tokens.now x → IsOnly x result }
+    ensures err { IfErr result (IsParseCause exprs.expr_path tokens.now) }
+{
+    whole(alloc, tokens, |cursor| expr_path(alloc, cursor))
+}
+
+/// The expression that the tokens are (Rust Reference, Expressions).
+pub fn parse_expr(alloc: Global, tokens: &TokenSlice) -> Result<Expr, EduceError>
+    ensures found { IfOk result (λ x. IsWhole exprs.expression tokens.now x) }
+    ensures only { (x : Expr) → IsWhole exprs.expression tokens.now x → IsOnly x result }
+    ensures err { IfErr result (IsParseCause exprs.expression tokens.now) }
+{
+    whole(alloc, tokens, |cursor| expression(alloc, cursor))
+}
+
+/// The predicates of a where clause that the tokens are (Rust Reference, Where clauses).
+pub fn parse_predicates(alloc: Global, tokens: &TokenSlice) -> Result<Predicates, EduceError>
+    ensures found { IfOk result (λ x. IsWhole generics.predicates tokens.now x) }
+    ensures only { (x : List WherePredicate) → IsWhole generics.predicates tokens.now x → IsOnly x result }
+    ensures err { IfErr result (IsParseCause generics.predicates tokens.now) }
+{
+    whole(alloc, tokens, |cursor| predicates(alloc, cursor))
+}
+
+/// The metas of an attribute that the tokens are (Rust Reference, Attributes).
+pub fn parse_metas(alloc: Global, tokens: &TokenSlice) -> Result<Metas, EduceError>
+    ensures found { IfOk result (λ x. IsWhole attrs.metas tokens.now x) }
+    ensures only { (x : List Meta) → IsWhole attrs.metas tokens.now x → IsOnly x result }
+    ensures err { IfErr result (IsParseCause attrs.metas tokens.now) }
+{
+    whole(alloc, tokens, |cursor| metas(alloc, cursor))
+}
+
+/// The definition that the tokens are, whatever names it gives twice.
+fn read_definition(alloc: Global, tokens: &TokenSlice) -> Result<DeriveInput, EduceError>
+    ensures found { IfOk result (λ x. IsWhole defs.definition tokens.now x) }
+    ensures err { IfErr result (IsParseCause defs.definition tokens.now) }
+{
+    whole(alloc, tokens, |cursor| definition(alloc, cursor))
+}
+
+/// The refusal of a definition in which a name is given twice; none where the names are apart.
+fn refused_name(alloc: Global, found: &DeriveInput) -> Option<EduceError>
+    ensures none { IfNone result (AreNamesApart found.now) }
+    ensures some { IfSome result (IsRefusedName found.now) }
+{
+    match repeated_name(alloc, found) {
+        Ok(None) => None,
+        Ok(Some(name)) => Some(name.duplicate_name(alloc)),
+        Err(_) => Some(EduceError::alloc(alloc)),
+    }
+}
+
+/// The refusal of tokens that are no definition, where the parser refuses them so: a union is refused
+/// at its word.
+fn unread(alloc: Global, tokens: &TokenSlice, error: EduceError) -> EduceError
+    requires { IsParseCause defs.definition tokens.now error }
+    ensures { IsRefusalOf tokens.now result }
+{
+    match union_word(alloc, tokens) {
+        Ok(None) => error,
+        Ok(Some(word)) => not_carried(alloc, word),
+        Err(_) => EduceError::alloc(alloc),
+    }
+}
+
+/// The definition that the tokens are (Rust Reference, Structs; Enumerations). It is refused where
+/// they are none or a union, where a name is given twice, or where memory fails.
+pub fn parse_derive_input(alloc: Global, tokens: &TokenSlice) -> Result<DeriveInput, EduceError>
+    ensures found { IfOk result (λ x. IsWhole defs.definition tokens.now x) }
+    ensures apart { IfOk result (λ x. AreNamesApart x) }
+    ensures few { IfOk result (λ x. IsFew (length tokens.now) x) }
+    ensures only { (x : DeriveInput) → IsWhole defs.definition tokens.now x → AreNamesApart x → IsOnly x result }
+    ensures err { IfErr result (IsRefusalOf tokens.now) }
+{
+    let found = match read_definition(alloc, tokens) {
+        Ok(found) => found,
+        Err(error) => return Err(unread(alloc, tokens, error)),
+    };
+    match refused_name(alloc, &found) {
+        None => Ok(found),
+        Some(error) => Err(error),
+    }
 }

@@ -1,13 +1,15 @@
 //! Names that are given twice: in a definition they are apart, a leading `r#` aside (Rust Reference,
 //! Names).
-ghost use Rattle.std.specs.Prelude.{◌≡◌, ◌<◌, ◌≤◌, [], ◌∷◌, ◌++◌, MatchBool, IfOk, IfSome, IfNone, List, Option, map, chars, encode_utf8_all};
+ghost use Rattle.std.specs.Prelude.{◌≡◌, ◌⊎◌, ◌<◌, ◌≤◌, [], ◌∷◌, ◌++◌, MatchBool, IfOk, IfSome, IfNone, List, Option, map, chars, encode_utf8_all};
 ghost use Rattle.std.specs.List.{filter_map};
+ghost use Rattle.educe_tokens.specs.declared.error.Kind.TheVariants.{Alloc};
+ghost use Rattle.educe_tokens.specs.Refusals.{placeless};
 ghost use Rattle.educe_tree.specs.Names.{unraw as unraw_of};
 ghost use Rattle.educe_grammar.specs.Naming as spec;
 ghost use Rattle.educe_grammar.specs.Naming.{Named, AreApart, IsRepeated, scopes};
 ghost use Rattle.educe_parser.specs.Earliest.{IsEarliest};
 
-use educe_tokens::{Span, Spelling};
+use educe_tokens::{EduceError, Kind, Span, Spelling};
 use educe_tree::{DeriveInput, Field, GenericParam, Ident, Shape, Variant, unraw};
 use std::alloc::{AllocError, Global};
 use std::collections::BTreeSet;
@@ -56,6 +58,19 @@ impl<'a> Name<'a> {
         ensures bytes { result.now ≡ encode_utf8_all (unraw_of self.now.text) }
     {
         unraw(self.text)
+    }
+
+    /// The refusal of the name, which is given twice.
+    pub fn duplicate_name(&self, alloc: Global) -> EduceError
+        ensures { (result ≡ placeless Alloc) ⊎ (result ≡ spec.duplicate_of self.now) }
+    {
+        let Ok(text) = self.text.duplicate(alloc) else {
+            return EduceError::alloc(alloc);
+        };
+        match EduceError::with_word(alloc, Kind::DuplicateName, self.span, text) {
+            Ok(error) => error,
+            Err(_) => EduceError::alloc(alloc),
+        }
     }
 
     /// Whether this name is written before the other.

@@ -1,0 +1,91 @@
+//! The parts that stand inside one another, each with a budget, and what is read with all of it.
+ghost use Rattle.std.specs.Prelude.{◌≡◌, List};
+ghost use Rattle.educe_grammar.specs.Attributes as attrs;
+ghost use Rattle.educe_grammar.specs.Definitions as defs;
+ghost use Rattle.educe_grammar.specs.Expressions as spec;
+ghost use Rattle.educe_grammar.specs.Generics as generics;
+ghost use Rattle.educe_grammar.specs.Parsed.{depth_limit};
+ghost use Rattle.educe_grammar.specs.Reads.{read, readers};
+ghost use Rattle.educe_grammar.specs.Rules.{types, plains, exprs};
+ghost use Rattle.educe_grammar.specs.Steps.{Gives};
+
+use crate::readers::{Readers, Typed};
+use educe_grammar::{Cursor, ParseError};
+use educe_tree::{DeriveInput, Expr, ExprPath, Metas, Predicates, Ty};
+use std::alloc::Global;
+
+/// How many brackets, angle lists, `&`, `*`, `dyn` and `->` may stand in one another.
+pub const DEPTH_LIMIT: u8 = 128;
+
+macro_rules! readers {
+    ($alloc:expr) => {
+        Readers {
+            alloc: $alloc,
+            types: ty,
+            plains: plain,
+            exprs: expr,
+        }
+    };
+}
+
+/// A type (Rust Reference, Types).
+#[cycle(knot)]
+#[tactic(auto, using(educe_grammar::proofs::Unrolling::readers_unroll))]
+pub fn ty(alloc: Global, cursor: &mut Cursor<'_>, budget: u8) -> Result<Ty, ParseError>
+    ensures { Gives (readers budget types cursor.old) result cursor.new }
+{
+    readers!(alloc).any_type(cursor, budget)
+}
+
+/// A type whose `dyn` has one bound (Rust Reference, Type expressions).
+#[cycle(knot)]
+#[tactic(auto, using(educe_grammar::proofs::Unrolling::readers_unroll))]
+fn plain(alloc: Global, cursor: &mut Cursor<'_>, budget: u8) -> Result<Typed, ParseError>
+    ensures { Gives (readers budget plains cursor.old) result cursor.new }
+{
+    readers!(alloc).plain_type(cursor, budget)
+}
+
+/// An expression (Rust Reference, Expressions).
+#[cycle(knot)]
+#[tactic(auto, using(educe_grammar::proofs::Unrolling::readers_unroll))]
+fn expr(alloc: Global, cursor: &mut Cursor<'_>, budget: u8) -> Result<Expr, ParseError>
+    ensures { Gives (readers budget exprs cursor.old) result cursor.new }
+{
+    readers!(alloc).expression(cursor, budget)
+}
+
+/// The path of an expression (Rust Reference, Path expressions).
+pub fn expr_path(alloc: Global, cursor: &mut Cursor<'_>) -> Result<ExprPath, ParseError>
+    ensures { Gives (read depth_limit spec.expr_path cursor.old) result cursor.new }
+{
+    readers!(alloc).expr_path(cursor, DEPTH_LIMIT)
+}
+
+/// An expression (Rust Reference, Expressions).
+pub fn expression(alloc: Global, cursor: &mut Cursor<'_>) -> Result<Expr, ParseError>
+    ensures { Gives (read depth_limit spec.expression cursor.old) result cursor.new }
+{
+    readers!(alloc).expression(cursor, DEPTH_LIMIT)
+}
+
+/// The predicates of a where clause (Rust Reference, Where clauses).
+pub fn predicates(alloc: Global, cursor: &mut Cursor<'_>) -> Result<Predicates, ParseError>
+    ensures { Gives (read depth_limit generics.predicates cursor.old) result cursor.new }
+{
+    readers!(alloc).predicates(cursor, DEPTH_LIMIT)
+}
+
+/// The items of a list in an attribute (Rust Reference, Meta item attribute syntax).
+pub fn metas(alloc: Global, cursor: &mut Cursor<'_>) -> Result<Metas, ParseError>
+    ensures { Gives (read depth_limit attrs.metas cursor.old) result cursor.new }
+{
+    readers!(alloc).metas(cursor, DEPTH_LIMIT)
+}
+
+/// A definition (Rust Reference, Items).
+pub fn definition(alloc: Global, cursor: &mut Cursor<'_>) -> Result<DeriveInput, ParseError>
+    ensures { Gives (read depth_limit defs.definition cursor.old) result cursor.new }
+{
+    readers!(alloc).definition(cursor, DEPTH_LIMIT)
+}

@@ -1,0 +1,367 @@
+//! Paths in types and their arguments (Rust Reference, Paths).
+ghost use Rattle.std.specs.Prelude.{◌≡◌, ◌+◌, IfOk, map, not};
+ghost use Rattle.educe_grammar.specs.Combining.{optional, skipping, word, at_arrow, at_word};
+ghost use Rattle.educe_grammar.specs.declared.terminal.Keyword.TheVariants as keyword;
+ghost use Rattle.educe_grammar.specs.Reads.{read};
+ghost use Rattle.educe_grammar.specs.Rules.{plains, arrow, part};
+ghost use Rattle.educe_grammar.specs.Steps.{Gives};
+ghost use Rattle.educe_grammar.specs.Types as spec;
+
+use crate::looks::{at_angle_args, at_binding, at_constant};
+use crate::names::{lifetime, name, segment_name};
+use crate::readers::{Readers, Typed};
+use educe_grammar::{Cursor, Ending, Keyword, ParseError, Terminal, list, path, written};
+use educe_tokens::{Boxed, Bracket, Seq};
+use educe_tree::{AngleArg, AngleArgs, Args, Expr, Path, Segment, Segments, Ty, TypeForm, Types};
+use std::alloc::{AllocError, Global};
+
+/// The arguments of a segment, how it ends with them, and whether a segment may stand behind it.
+pub type ArgsRead = (Args, Ending, bool);
+
+/// The same of a segment.
+pub type SegmentRead = (Segment, Ending, bool);
+
+/// The arguments in round brackets. Behind a type that ends with a path `::` goes on that path.
+fn round_read(alloc: Global, inputs: Types, output: Option<Typed>) -> Result<ArgsRead, AllocError>
+    ensures { IfOk result (λ read. read ≡ spec.round_read (inputs, output)) }
+{
+    let Some((output, ending)) = output else {
+        return Ok((Args::Round(inputs, None), Ending::Arguments, true));
+    };
+    let args = Args::Round(inputs, Some(Boxed::new(alloc, output)?));
+    match ending {
+        Ending::Closed => Ok((args, Ending::Arguments, true)),
+        Ending::Arguments => Ok((args, Ending::Arguments, false)),
+        Ending::Name => Ok((args, Ending::Name, false)),
+    }
+}
+
+/// Whether behind each segment but the last another may stand.
+#[tactic(auto, unfolding(educe_grammar::specs::Types::may_follow))]
+fn may_follow(found: &[SegmentRead]) -> bool
+    ensures { result ≡ spec.may_follow found.now }
+{
+    let mut rest = found;
+    while let [first, behind @ ..] = rest {
+        if !behind.is_empty() && !first.2 {
+            return false;
+        }
+        rest = behind;
+    }
+    true
+}
+
+/// How the last segment ends.
+fn last_ending(found: &[SegmentRead]) -> Ending
+    ensures { result ≡ spec.last_ending found.now }
+{
+    match found.last() {
+        Some(read) => read.1,
+        None => Ending::Closed,
+    }
+}
+
+/// The segments, without how they end.
+fn segments_of(alloc: Global, found: Seq<SegmentRead>) -> Result<Segments, AllocError>
+    ensures { IfOk result (λ segments. segments ≡ map (λ read. read.0) found) }
+{
+    let mut segments = Seq::new(alloc);
+    for (segment, _, _) in found.into_items() {
+        segments.push(segment)?;
+    }
+    Ok(segments)
+}
+
+/// Whether the segment is one of `self`, `super` and `crate`, and has no arguments.
+fn is_scope_segment(segment: &Segment) -> bool
+    ensures { result ≡ spec.is_scope_segment segment.now }
+{
+    let text = &segment.ident.text;
+    let is_word = text.spells("self") || text.spells("super") || text.spells("crate");
+    is_word && matches!(segment.args, Args::None)
+}
+
+/// Whether the path is `self`, `super` or `crate` alone, which is no type.
+pub fn is_scope(path: &Path) -> bool
+    ensures { result ≡ not (spec.is_path path.now) }
+{
+    match path.segments.as_slice() {
+        [only] => !path.leading && is_scope_segment(only),
+        _ => false,
+    }
+}
+
+/// Whether the segments are one `Self` alone.
+fn is_self(leading: bool, segments: &[Segment]) -> bool
+    ensures { result ≡ spec.are_self leading segments.now }
+{
+    match segments {
+        [only] => !leading && only.ident.text.spells("Self"),
+        _ => false,
+    }
+}
+
+/// The path of the segments, and how it ends.
+fn path_read(
+    alloc: Global,
+    leading: bool,
+    found: Seq<SegmentRead>,
+) -> Result<(Path, Ending), AllocError>
+    ensures { IfOk result (λ read. read ≡ spec.path_read (leading, found)) }
+{
+    let last = last_ending(found.as_slice());
+    let segments = segments_of(alloc, found)?;
+    let ending = if is_self(leading, segments.as_slice()) {
+        Ending::Name
+    } else {
+        last
+    };
+    Ok((Path { leading, segments }, ending))
+}
+
+/// The segments behind those of the trait, where there is one (Rust Reference, Qualified paths).
+pub fn qualified_path(
+    self_trait: Option<(Path, Ending)>,
+    found: Segments,
+) -> Result<Path, AllocError>
+    ensures { IfOk result (λ path. path ≡ spec.qualified_path self_trait found) }
+{
+    let Some((path, _)) = self_trait else {
+        return Ok(Path {
+            leading: true,
+            segments: found,
+        });
+    };
+    let Path {
+        leading,
+        mut segments,
+    } = path;
+    segments.append(found)?;
+    Ok(Path { leading, segments })
+}
+
+impl<
+    T: Fn(Global, &mut Cursor<'_>, u8) -> Result<Ty, ParseError>,
+    P: Fn(Global, &mut Cursor<'_>, u8) -> Result<Typed, ParseError>,
+    E: Fn(Global, &mut Cursor<'_>, u8) -> Result<Expr, ParseError>,
+> Readers<T, P, E> {
+    ghost use Rattle.educe_parser.specs.Nests.{Nests};
+
+    /// A constant that is no name (Rust Reference, Const generics).
+    #[tactic(auto, unfolding(crate::proofs::Opened::rules, educe_grammar::specs::Types::constant))]
+    pub fn constant(&self, cursor: &mut Cursor<'_>, budget: u8) -> Result<(), ParseError>
+        requires { Nests T.Fn P.Fn E.Fn self.now budget }
+        ensures { Gives (read budget spec.constant cursor.old) result cursor.new }
+    {
+        if cursor.eat(Terminal::Literal) {
+            return Ok(());
+        }
+        if cursor.eat(Terminal::Sign('-')) {
+            cursor.expect(Terminal::Int)?;
+            return Ok(());
+        }
+        if cursor.eat(Terminal::Truth) {
+            return Ok(());
+        }
+        let below = cursor.open(budget, Bracket::Curly)?;
+        self.expr(cursor, below)?;
+        cursor.expect_close(Bracket::Curly)?;
+        Ok(())
+    }
+
+    /// An argument in angle brackets (Rust Reference, Generic arguments).
+    #[tactic(auto, using(crate::proofs::Copied::constant_copied), unfolding(crate::proofs::Opened::rules, educe_grammar::specs::Types::angle_arg))]
+    fn angle_arg(&self, cursor: &mut Cursor<'_>, budget: u8) -> Result<AngleArg, ParseError>
+        requires { Nests T.Fn P.Fn E.Fn self.now (budget + 1) }
+        ensures { Gives (read budget spec.angle_arg cursor.old) result cursor.new }
+    {
+        if cursor.sees(Terminal::Lifetime) {
+            return Ok(AngleArg::Lifetime(lifetime(self.alloc, cursor)?));
+        }
+        if at_constant(cursor) {
+            let (_, tokens) = written(cursor, |cursor| self.constant(cursor, budget))?;
+            return Ok(AngleArg::Constant(tokens));
+        }
+        if at_binding(cursor) {
+            let name = name(self.alloc, cursor)?;
+            cursor.skip_lone('=', '=')?;
+            return Ok(AngleArg::Binding(name, self.ty(cursor, budget)?));
+        }
+        Ok(AngleArg::Plain(self.ty(cursor, budget)?))
+    }
+
+    /// Arguments in angle brackets (Rust Reference, Generic arguments).
+    #[tactic(auto, unfolding(crate::proofs::Opened::rules, educe_grammar::specs::Types::angle_args))]
+    pub fn angle_args(&self, cursor: &mut Cursor<'_>, budget: u8) -> Result<AngleArgs, ParseError>
+        requires { Nests T.Fn P.Fn E.Fn self.now budget }
+        ensures { Gives (read budget spec.angle_args cursor.old) result cursor.new }
+    {
+        let below = cursor.open_angle(budget)?;
+        let found = list(
+            self.alloc,
+            cursor,
+            Terminal::Sign(','),
+            |cursor| cursor.sees(Terminal::Sign('>')),
+            |cursor| self.angle_arg(cursor, below),
+        )?;
+        cursor.expect(Terminal::Sign('>'))?;
+        Ok(found)
+    }
+
+    /// The type behind `->`, where there is one (Rust Reference, Function pointer types).
+    #[tactic(auto, unfolding(crate::proofs::Opened::rules))]
+    pub fn output(&self, cursor: &mut Cursor<'_>, budget: u8) -> Result<Option<Typed>, ParseError>
+        requires { Nests T.Fn P.Fn E.Fn self.now budget }
+        ensures { Gives (read budget (optional at_arrow (arrow (part plains))) cursor.old) result cursor.new }
+    {
+        if !cursor.begins_pair('-', '>') {
+            return Ok(None);
+        }
+        let below = cursor.open_arrow(budget)?;
+        Ok(Some(self.plain(cursor, below)?))
+    }
+
+    /// `(A, B) -> C`
+    #[tactic(auto, unfolding(crate::proofs::Opened::rules, educe_grammar::specs::Types::round_args))]
+    fn round_args(
+        &self,
+        cursor: &mut Cursor<'_>,
+        budget: u8,
+    ) -> Result<(Types, Option<Typed>), ParseError>
+        requires { Nests T.Fn P.Fn E.Fn self.now budget }
+        ensures { Gives (read budget spec.round_args cursor.old) result cursor.new }
+    {
+        let below = cursor.open(budget, Bracket::Round)?;
+        let inputs = list(
+            self.alloc,
+            cursor,
+            Terminal::Sign(','),
+            |cursor| cursor.closes(Bracket::Round),
+            |cursor| self.ty(cursor, below),
+        )?;
+        cursor.expect_close(Bracket::Round)?;
+        let output = self.output(cursor, budget)?;
+        Ok((inputs, output))
+    }
+
+    /// The arguments of a segment in a type (Rust Reference, Paths in types).
+    #[tactic(auto, unfolding(crate::proofs::Opened::rules, educe_grammar::specs::Types::type_args))]
+    fn type_args(&self, cursor: &mut Cursor<'_>, budget: u8) -> Result<ArgsRead, ParseError>
+        requires { Nests T.Fn P.Fn E.Fn self.now budget }
+        ensures { Gives (read budget spec.type_args cursor.old) result cursor.new }
+    {
+        if at_angle_args(cursor) {
+            cursor.eat_pair(':', ':');
+            let found = self.angle_args(cursor, budget)?;
+            return Ok((Args::Angle(found), Ending::Arguments, true));
+        }
+        if cursor.opens(Bracket::Round) {
+            let (inputs, output) = self.round_args(cursor, budget)?;
+            return Ok(round_read(self.alloc, inputs, output)?);
+        }
+        Ok((Args::None, Ending::Name, true))
+    }
+
+    /// A segment of a path in a type (Rust Reference, Paths in types).
+    #[tactic(auto, unfolding(crate::proofs::Opened::rules, educe_grammar::specs::Types::type_segment))]
+    fn type_segment(&self, cursor: &mut Cursor<'_>, budget: u8) -> Result<SegmentRead, ParseError>
+        requires { Nests T.Fn P.Fn E.Fn self.now budget }
+        ensures { Gives (read budget spec.type_segment cursor.old) result cursor.new }
+    {
+        let ident = segment_name(self.alloc, cursor)?;
+        let (args, ending, may_follow) = self.type_args(cursor, budget)?;
+        Ok((Segment { ident, args }, ending, may_follow))
+    }
+
+    /// The segments of a path in a type (Rust Reference, Paths in types).
+    #[tactic(auto, unfolding(crate::proofs::Opened::rules, educe_grammar::specs::Types::type_segments))]
+    pub fn type_segments(
+        &self,
+        cursor: &mut Cursor<'_>,
+        budget: u8,
+    ) -> Result<Seq<SegmentRead>, ParseError>
+        requires { Nests T.Fn P.Fn E.Fn self.now budget }
+        ensures { Gives (read budget spec.type_segments cursor.old) result cursor.new }
+    {
+        let found = path(
+            self.alloc,
+            cursor,
+            |cursor| self.type_segment(cursor, budget),
+        )?;
+        if !may_follow(found.as_slice()) {
+            return Err(cursor.refuse());
+        }
+        Ok(found)
+    }
+
+    /// A path in a type (Rust Reference, Paths in types).
+    #[tactic(auto, unfolding(crate::proofs::Opened::rules, educe_grammar::specs::Types::type_path))]
+    pub fn type_path(
+        &self,
+        cursor: &mut Cursor<'_>,
+        budget: u8,
+    ) -> Result<(Path, Ending), ParseError>
+        requires { Nests T.Fn P.Fn E.Fn self.now budget }
+        ensures { Gives (read budget spec.type_path cursor.old) result cursor.new }
+    {
+        let leading = cursor.eat_pair(':', ':');
+        let found = self.type_segments(cursor, budget)?;
+        let (path, ending) = path_read(self.alloc, leading, found)?;
+        if is_scope(&path) {
+            return Err(cursor.refuse());
+        }
+        Ok((path, ending))
+    }
+
+    /// `as` and a trait, where there is one (Rust Reference, Qualified paths).
+    #[tactic(auto, unfolding(crate::proofs::Opened::rules))]
+    fn self_trait(
+        &self,
+        cursor: &mut Cursor<'_>,
+        budget: u8,
+    ) -> Result<Option<(Path, Ending)>, ParseError>
+        requires { Nests T.Fn P.Fn E.Fn self.now budget }
+        ensures { Gives (read budget (optional (at_word keyword.As) (skipping (word keyword.As) spec.type_path)) cursor.old) result cursor.new }
+    {
+        if !cursor.eat(Terminal::Word(Keyword::As)) {
+            return Ok(None);
+        }
+        Ok(Some(self.type_path(cursor, budget)?))
+    }
+
+    /// The type of a qualified path, and its trait (Rust Reference, Qualified paths).
+    #[tactic(auto, unfolding(crate::proofs::Opened::rules, educe_grammar::specs::Types::qualified_self))]
+    pub fn qualified_self(
+        &self,
+        cursor: &mut Cursor<'_>,
+        budget: u8,
+    ) -> Result<(Ty, Option<(Path, Ending)>), ParseError>
+        requires { Nests T.Fn P.Fn E.Fn self.now budget }
+        ensures { Gives (read budget spec.qualified_self cursor.old) result cursor.new }
+    {
+        let below = cursor.open_angle(budget)?;
+        let self_type = self.ty(cursor, below)?;
+        let self_trait = self.self_trait(cursor, below)?;
+        cursor.expect(Terminal::Sign('>'))?;
+        Ok((self_type, self_trait))
+    }
+
+    /// A qualified path (Rust Reference, Qualified paths).
+    #[tactic(auto, unfolding(crate::proofs::Opened::rules, educe_grammar::specs::Types::qualified))]
+    pub fn qualified(
+        &self,
+        cursor: &mut Cursor<'_>,
+        budget: u8,
+    ) -> Result<(TypeForm, Ending), ParseError>
+        requires { Nests T.Fn P.Fn E.Fn self.now budget }
+        ensures { Gives (read budget spec.qualified cursor.old) result cursor.new }
+    {
+        let (self_type, self_trait) = self.qualified_self(cursor, budget)?;
+        cursor.skip_pair(':', ':')?;
+        let found = self.type_segments(cursor, budget)?;
+        let ending = last_ending(found.as_slice());
+        let path = qualified_path(self_trait, segments_of(self.alloc, found)?)?;
+        let self_type = Boxed::new(self.alloc, self_type)?;
+        Ok((TypeForm::Path(Some(self_type), path), ending))
+    }
+}

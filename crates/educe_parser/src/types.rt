@@ -1,0 +1,307 @@
+//! Types (Rust Reference, Types).
+ghost use Rattle.std.specs.Prelude.{◌≡◌, ℕ, ◌+◌, IfOk};
+ghost use Rattle.educe_pieces.specs.declared.kind.Bracket.TheVariants.{Round};
+ghost use Rattle.educe_grammar.specs.Ahead.{one, stop};
+ghost use Rattle.educe_grammar.specs.Combining.{optional, skipping, flag, commas, sign, word, at, at_angle, at_sign, at_word};
+ghost use Rattle.educe_grammar.specs.Reads.{read};
+ghost use Rattle.educe_grammar.specs.Rules.{types, token, both, either, made, part};
+ghost use Rattle.educe_grammar.specs.Steps.{Gives};
+ghost use Rattle.educe_grammar.specs.Types as spec;
+ghost use Rattle.educe_grammar.specs.declared.terminal.Keyword.TheVariants as keyword;
+ghost use Rattle.educe_grammar.specs.declared.terminal.Terminal.TheVariants as terminal;
+
+use crate::bounds::{bound_paths, optional_for_all};
+use crate::looks::{at_fn, at_fn_param};
+use crate::names::skip_lifetime;
+use crate::readers::{Readers, Typed};
+use educe_grammar::{Cursor, Ending, Keyword, ParseError, Terminal, list, written};
+use educe_tokens::{Boxed, Bracket, Seq};
+use educe_tree::{Expr, Ty, TypeForm, Types};
+use std::alloc::{AllocError, Global};
+
+/// The form of a type with its ending.
+pub type FormRead = (TypeForm, Ending);
+
+/// A parenthesis, or a tuple with these types behind the first.
+fn round_of(alloc: Global, first: Ty, more: Option<Types>) -> Result<FormRead, AllocError>
+    ensures { IfOk result (λ read. read ≡ spec.round_of (first, more)) }
+{
+    let Some(more) = more else {
+        return Ok((TypeForm::Paren(Boxed::new(alloc, first)?), Ending::Closed));
+    };
+    let mut all = Seq::new(alloc);
+    all.push(first)?;
+    all.append(more)?;
+    Ok((TypeForm::Tuple(all), Ending::Closed))
+}
+
+/// A function pointer with these parameters.
+fn fn_of(alloc: Global, params: Types, output: Option<Typed>) -> Result<FormRead, AllocError>
+    ensures { IfOk result (λ read. read ≡ spec.fn_of (params, output)) }
+{
+    match output {
+        None => Ok((TypeForm::FnPtr(params, None), Ending::Closed)),
+        Some((output, ending)) => {
+            let output = Boxed::new(alloc, output)?;
+            Ok((TypeForm::FnPtr(params, Some(output)), ending))
+        }
+    }
+}
+
+/// `unsafe`, if it comes next (Rust Reference, Function pointer types).
+#[tactic(auto, unfolding(crate::proofs::Opened::rules))]
+fn skip_unsafe(cursor: &mut Cursor<'_>) -> bool
+    ensures { (budget : ℕ) → read budget (flag (at_word keyword.Unsafe) (word keyword.Unsafe)) cursor.old ≡ Ok (result, cursor.new) }
+{
+    cursor.eat(Terminal::Word(Keyword::Unsafe))
+}
+
+/// `extern "C"`, if it comes next (Rust Reference, Function pointer types).
+#[tactic(auto, unfolding(crate::proofs::Opened::rules))]
+fn skip_abi(cursor: &mut Cursor<'_>) -> bool
+    ensures { (budget : ℕ) → read budget (flag (at_word keyword.Extern) (both (word keyword.Extern) (flag (at (one terminal.Str)) (token terminal.Str)))) cursor.old ≡ Ok (result, cursor.new) }
+{
+    if !cursor.eat(Terminal::Word(Keyword::Extern)) {
+        return false;
+    }
+    cursor.eat(Terminal::Str);
+    true
+}
+
+/// What stands before `fn` (Rust Reference, Function pointer types).
+#[tactic(auto, unfolding(crate::proofs::Opened::rules, educe_grammar::specs::Types::fn_qualifiers))]
+fn fn_qualifiers(alloc: Global, cursor: &mut Cursor<'_>, budget: u8) -> Result<(), ParseError>
+    ensures { Gives (read budget spec.fn_qualifiers cursor.old) result cursor.new }
+{
+    optional_for_all(alloc, cursor, budget)?;
+    skip_unsafe(cursor);
+    skip_abi(cursor);
+    Ok(())
+}
+
+impl<
+    T: Fn(Global, &mut Cursor<'_>, u8) -> Result<Ty, ParseError>,
+    P: Fn(Global, &mut Cursor<'_>, u8) -> Result<Typed, ParseError>,
+    E: Fn(Global, &mut Cursor<'_>, u8) -> Result<Expr, ParseError>,
+> Readers<T, P, E> {
+    ghost use Rattle.educe_parser.specs.Nests.{Nests};
+
+    /// A comma and the types behind it, where one comes next (Rust Reference, Tuple types).
+    #[tactic(auto, unfolding(crate::proofs::Opened::rules))]
+    fn more_types(&self, cursor: &mut Cursor<'_>, budget: u8) -> Result<Option<Types>, ParseError>
+        requires { Nests T.Fn P.Fn E.Fn self.now (budget + 1) }
+        ensures { Gives (read budget (optional (at_sign 44) (skipping (sign 44) (commas (at (stop Round)) (part types)))) cursor.old) result cursor.new }
+    {
+        if !cursor.eat(Terminal::Sign(',')) {
+            return Ok(None);
+        }
+        let more = list(
+            self.alloc,
+            cursor,
+            Terminal::Sign(','),
+            |cursor| cursor.closes(Bracket::Round),
+            |cursor| self.ty(cursor, budget),
+        )?;
+        Ok(Some(more))
+    }
+
+    /// A parenthesis or a tuple (Rust Reference, Parenthesized types; Tuple types).
+    #[tactic(auto, unfolding(crate::proofs::Opened::rules, educe_grammar::specs::Types::round_form))]
+    fn round_form(&self, cursor: &mut Cursor<'_>, budget: u8) -> Result<FormRead, ParseError>
+        requires { Nests T.Fn P.Fn E.Fn self.now budget }
+        ensures { Gives (read budget spec.round_form cursor.old) result cursor.new }
+    {
+        let below = cursor.open(budget, Bracket::Round)?;
+        if cursor.closes(Bracket::Round) {
+            cursor.expect_close(Bracket::Round)?;
+            return Ok((TypeForm::Tuple(Seq::new(self.alloc)), Ending::Closed));
+        }
+        let first = self.ty(cursor, below)?;
+        let more = self.more_types(cursor, below)?;
+        cursor.expect_close(Bracket::Round)?;
+        Ok(round_of(self.alloc, first, more)?)
+    }
+
+    /// `&'a mut` and a type (Rust Reference, Pointer types).
+    #[tactic(auto, unfolding(crate::proofs::Opened::rules, educe_grammar::specs::Types::reference))]
+    fn reference(&self, cursor: &mut Cursor<'_>, budget: u8) -> Result<FormRead, ParseError>
+        requires { Nests T.Fn P.Fn E.Fn self.now budget }
+        ensures { Gives (read budget spec.reference cursor.old) result cursor.new }
+    {
+        let below = cursor.open_under(budget, Terminal::Sign('&'))?;
+        skip_lifetime(cursor);
+        let mutable = cursor.eat(Terminal::Word(Keyword::Mut));
+        let (target, ending) = self.plain(cursor, below)?;
+        let target = Boxed::new(self.alloc, target)?;
+        Ok((TypeForm::Reference(mutable, target), ending))
+    }
+
+    /// `*const` or `*mut` and a type (Rust Reference, Pointer types).
+    #[tactic(auto, unfolding(crate::proofs::Opened::rules, educe_grammar::specs::Types::pointer))]
+    fn pointer(&self, cursor: &mut Cursor<'_>, budget: u8) -> Result<FormRead, ParseError>
+        requires { Nests T.Fn P.Fn E.Fn self.now budget }
+        ensures { Gives (read budget spec.pointer cursor.old) result cursor.new }
+    {
+        let below = cursor.open_under(budget, Terminal::Sign('*'))?;
+        cursor.expect(Terminal::PointerWord)?;
+        let (target, ending) = self.plain(cursor, below)?;
+        Ok((TypeForm::Pointer(Boxed::new(self.alloc, target)?), ending))
+    }
+
+    /// A slice or an array (Rust Reference, Slice types; Array types).
+    #[tactic(auto, unfolding(crate::proofs::Opened::rules, educe_grammar::specs::Types::square_form))]
+    fn square_form(&self, cursor: &mut Cursor<'_>, budget: u8) -> Result<FormRead, ParseError>
+        requires { Nests T.Fn P.Fn E.Fn self.now budget }
+        ensures { Gives (read budget spec.square_form cursor.old) result cursor.new }
+    {
+        let below = cursor.open(budget, Bracket::Square)?;
+        let item = self.ty(cursor, below)?;
+        if !cursor.eat(Terminal::Sign(';')) {
+            cursor.expect_close(Bracket::Square)?;
+            return Ok((
+                TypeForm::Slice(Boxed::new(self.alloc, item)?),
+                Ending::Closed,
+            ));
+        }
+        let length = self.expr(cursor, below)?;
+        cursor.expect_close(Bracket::Square)?;
+        let form = TypeForm::Array(Boxed::new(self.alloc, item)?, length.written);
+        Ok((form, Ending::Closed))
+    }
+
+    /// A parameter of a function pointer (Rust Reference, Function pointer types).
+    #[tactic(auto, unfolding(crate::proofs::Opened::rules, educe_grammar::specs::Types::fn_param))]
+    fn fn_param(&self, cursor: &mut Cursor<'_>, budget: u8) -> Result<Ty, ParseError>
+        requires { Nests T.Fn P.Fn E.Fn self.now (budget + 1) }
+        ensures { Gives (read budget spec.fn_param cursor.old) result cursor.new }
+    {
+        if at_fn_param(cursor) {
+            cursor.expect(Terminal::NameOrUnderscore)?;
+            cursor.skip_lone(':', ':')?;
+            return self.ty(cursor, budget);
+        }
+        self.ty(cursor, budget)
+    }
+
+    /// A function pointer (Rust Reference, Function pointer types).
+    #[tactic(auto, unfolding(crate::proofs::Opened::rules, educe_grammar::specs::Types::fn_pointer))]
+    fn fn_pointer(&self, cursor: &mut Cursor<'_>, budget: u8) -> Result<FormRead, ParseError>
+        requires { Nests T.Fn P.Fn E.Fn self.now budget }
+        ensures { Gives (read budget spec.fn_pointer cursor.old) result cursor.new }
+    {
+        fn_qualifiers(self.alloc, cursor, budget)?;
+        cursor.expect(Terminal::Word(Keyword::Fn))?;
+        let below = cursor.open(budget, Bracket::Round)?;
+        let params = list(
+            self.alloc,
+            cursor,
+            Terminal::Sign(','),
+            |cursor| cursor.closes(Bracket::Round),
+            |cursor| self.fn_param(cursor, below),
+        )?;
+        cursor.expect_close(Bracket::Round)?;
+        let output = self.output(cursor, budget)?;
+        Ok(fn_of(self.alloc, params, output)?)
+    }
+
+    /// A path, which may stand behind its type, or a function pointer (Rust Reference, Paths in types;
+    /// Qualified paths; Function pointer types).
+    #[tactic(auto, unfolding(crate::proofs::Opened::rules))]
+    fn named_form(&self, cursor: &mut Cursor<'_>, budget: u8) -> Result<FormRead, ParseError>
+        requires { Nests T.Fn P.Fn E.Fn self.now budget }
+        ensures { Gives (read budget (either at_angle spec.qualified (either spec.at_fn spec.fn_pointer (made spec.path_form spec.type_path))) cursor.old) result cursor.new }
+    {
+        if cursor.begins_lone('<', '=') {
+            return self.qualified(cursor, budget);
+        }
+        if at_fn(cursor) {
+            return self.fn_pointer(cursor, budget);
+        }
+        let (path, ending) = self.type_path(cursor, budget)?;
+        Ok((TypeForm::Path(None, path), ending))
+    }
+
+    /// The form of a type that is not `dyn` (Rust Reference, Type expressions).
+    #[tactic(auto, unfolding(crate::proofs::Opened::rules, educe_grammar::specs::Types::plain_form))]
+    fn plain_form(&self, cursor: &mut Cursor<'_>, budget: u8) -> Result<FormRead, ParseError>
+        requires { Nests T.Fn P.Fn E.Fn self.now budget }
+        ensures { Gives (read budget spec.plain_form cursor.old) result cursor.new }
+    {
+        if cursor.opens(Bracket::Round) {
+            return self.round_form(cursor, budget);
+        }
+        if cursor.eat(Terminal::Sign('!')) {
+            return Ok((TypeForm::Never, Ending::Closed));
+        }
+        if cursor.sees(Terminal::Sign('&')) {
+            return self.reference(cursor, budget);
+        }
+        if cursor.sees(Terminal::Sign('*')) {
+            return self.pointer(cursor, budget);
+        }
+        if cursor.opens(Bracket::Square) {
+            return self.square_form(cursor, budget);
+        }
+        self.named_form(cursor, budget)
+    }
+
+    /// The form of a type, where `dyn` has one bound (Rust Reference, Trait objects).
+    #[tactic(auto, unfolding(crate::proofs::Opened::rules, educe_grammar::specs::Types::one_bound_form))]
+    fn one_bound_form(&self, cursor: &mut Cursor<'_>, budget: u8) -> Result<FormRead, ParseError>
+        requires { Nests T.Fn P.Fn E.Fn self.now budget }
+        ensures { Gives (read budget spec.one_bound_form cursor.old) result cursor.new }
+    {
+        if !cursor.sees(Terminal::Word(Keyword::Dyn)) {
+            return self.plain_form(cursor, budget);
+        }
+        let below = cursor.open_under(budget, Terminal::Word(Keyword::Dyn))?;
+        let (path, ending) = self.bound(cursor, below)?;
+        let mut found = Seq::new(self.alloc);
+        found.push((path, ending))?;
+        Ok((
+            TypeForm::TraitObject(bound_paths(self.alloc, found)?),
+            ending,
+        ))
+    }
+
+    /// The form of a type, where `dyn` has any bounds (Rust Reference, Trait objects).
+    #[tactic(auto, unfolding(crate::proofs::Opened::rules, educe_grammar::specs::Types::any_bounds_form))]
+    fn any_bounds_form(&self, cursor: &mut Cursor<'_>, budget: u8) -> Result<FormRead, ParseError>
+        requires { Nests T.Fn P.Fn E.Fn self.now budget }
+        ensures { Gives (read budget spec.any_bounds_form cursor.old) result cursor.new }
+    {
+        if !cursor.sees(Terminal::Word(Keyword::Dyn)) {
+            return self.plain_form(cursor, budget);
+        }
+        let below = cursor.open_under(budget, Terminal::Word(Keyword::Dyn))?;
+        let found = self.bounds(cursor, below)?;
+        if found.len() == 0 {
+            return Err(cursor.refuse());
+        }
+        let paths = bound_paths(self.alloc, found)?;
+        Ok((TypeForm::TraitObject(paths), Ending::Closed))
+    }
+
+    /// A type whose `dyn` has one bound (Rust Reference, Type expressions).
+    #[tactic(auto, using(crate::proofs::Copied::one_bound_form_copied), unfolding(crate::proofs::Opened::rules, educe_grammar::specs::Types::plain_type))]
+    pub fn plain_type(&self, cursor: &mut Cursor<'_>, budget: u8) -> Result<Typed, ParseError>
+        requires { Nests T.Fn P.Fn E.Fn self.now budget }
+        ensures { Gives (read budget spec.plain_type cursor.old) result cursor.new }
+    {
+        let ((form, ending), written) = written(
+            cursor,
+            |cursor| self.one_bound_form(cursor, budget),
+        )?;
+        Ok((Ty { form, written }, ending))
+    }
+
+    /// A type (Rust Reference, Types).
+    #[tactic(auto, using(crate::proofs::Copied::any_bounds_form_copied), unfolding(crate::proofs::Opened::rules, educe_grammar::specs::Types::any_type))]
+    pub fn any_type(&self, cursor: &mut Cursor<'_>, budget: u8) -> Result<Ty, ParseError>
+        requires { Nests T.Fn P.Fn E.Fn self.now budget }
+        ensures { Gives (read budget spec.any_type cursor.old) result cursor.new }
+    {
+        let ((form, _), written) = written(cursor, |cursor| self.any_bounds_form(cursor, budget))?;
+        Ok(Ty { form, written })
+    }
+}

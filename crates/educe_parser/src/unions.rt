@@ -1,0 +1,80 @@
+//! Unions, which are not carried (Rust Reference, Unions).
+ghost use Rattle.std.specs.Prelude.{◌≡◌, ◌⊎◌, ◌↔◌, List, ◌∷◌, IsTrue, IfOk, IfSome, IfNone};
+ghost use Rattle.educe_tokens.specs.declared.error.Kind.TheVariants.{Alloc};
+ghost use Rattle.educe_tokens.specs.declared.token.Token.{Token};
+ghost use Rattle.educe_tokens.specs.Refusals.{placeless};
+ghost use Rattle.educe_grammar.specs.Attributes as attrs;
+ghost use Rattle.educe_grammar.specs.Combining.{unit};
+ghost use Rattle.educe_grammar.specs.Definitions as defs;
+ghost use Rattle.educe_grammar.specs.Reads.{read};
+ghost use Rattle.educe_grammar.specs.Refusal.{IsUnion, IsUnionWord, union_of};
+ghost use Rattle.educe_grammar.specs.Rules.{both};
+ghost use Rattle.educe_grammar.specs.Steps.{Gives};
+
+use crate::attributes::attributes;
+use crate::definitions::visibility;
+use crate::knot::DEPTH_LIMIT;
+use educe_grammar::{Cursor, ParseError};
+use educe_tokens::{EduceError, Kind, Token, TokenKind, TokenSlice};
+use std::alloc::{AllocError, Global};
+
+/// What stands before the item of a definition: attributes and a visibility.
+#[tactic(auto, unfolding(educe_grammar::specs::Running::run))]
+fn head(alloc: Global, cursor: &mut Cursor<'_>, budget: u8) -> Result<(), ParseError>
+    ensures { Gives (read budget (unit (both attrs.attributes defs.visibility)) cursor.old) result cursor.new }
+{
+    attributes(alloc, cursor, budget)?;
+    visibility(alloc, cursor, budget)
+}
+
+/// Whether the token is the word `union`, which is no keyword (Rust Reference, Keywords).
+fn is_union(word: &Token) -> bool
+    ensures { IsTrue result ↔ IsUnionWord word.now }
+{
+    match word.kind {
+        TokenKind::Ident => word.spelling.is("union"),
+        _ => false,
+    }
+}
+
+/// The first token, if it is the word `union`.
+fn first_union(tokens: &[Token]) -> Option<&Token>
+    ensures some { IfSome result (λ word. IsUnionWord word.now × ((more : List Token) × (tokens.now ≡ word.now ∷ more))) }
+    ensures none { IfNone result ((word : Token) (more : List Token) → tokens.now ≡ word ∷ more → IsUnionWord word → ⊥) }
+{
+    match tokens {
+        [word, ..] if is_union(word) => Some(word),
+        [_, ..] => None,
+        [] => None,
+    }
+}
+
+/// The word `union`, if the tokens begin as a union.
+pub fn union_word<'a>(
+    alloc: Global,
+    tokens: &'a TokenSlice,
+) -> Result<Option<&'a Token>, AllocError>
+    ensures some { IfOk result (λ found. IfSome found (λ word. IsUnion tokens.now word.now)) }
+    ensures none { IfOk result (λ found. IfNone found ((word : Token) → IsUnion tokens.now word → ⊥)) }
+{
+    let mut cursor = Cursor::new(tokens);
+    match head(alloc, &mut cursor, DEPTH_LIMIT) {
+        Ok(()) => Ok(first_union(cursor.rest())),
+        Err(ParseError::Memory) => Err(AllocError),
+        Err(ParseError::Syntax(_)) => Ok(None),
+        Err(ParseError::TooDeep(_)) => Ok(None),
+    }
+}
+
+/// The refusal of a union, at its word.
+pub fn not_carried(alloc: Global, word: &Token) -> EduceError
+    ensures { (result ≡ placeless Alloc) ⊎ (result ≡ union_of word.now) }
+{
+    let Ok(text) = word.spelling.duplicate(alloc) else {
+        return EduceError::alloc(alloc);
+    };
+    match EduceError::with_word(alloc, Kind::NotCarried, word.span, text) {
+        Ok(error) => error,
+        Err(_) => EduceError::alloc(alloc),
+    }
+}
