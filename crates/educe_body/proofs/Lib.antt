@@ -1,7 +1,12 @@
-pub mod Fields
 pub mod Rows
 pub mod Steps
 pub mod Tables
 pub mod Printed
 pub mod Heads
 pub mod Spelled
+pub mod Fields
+pub mod Indices
+pub mod Runs
+pub mod Strings
+pub mod Having
+pub mod Apart

@@ -3,7 +3,7 @@ use denote.Hole.Carrier.{hidden}
 use mathlib.Core.Former.{Count}
 use Rattle.std.proofs.Common.{◌≡◌, Bool, List, [], ◌∷◌, ◌++◌, map, refl, ap, ◌∙◌}
 use Rattle.std.specs.declared.cmp.Ordering.{Ordering}
-use Rattle.educe_syntax.specs.declared.path.ExprPath.{ExprPath}
+use Rattle.educe_tree.specs.declared.expr.ExprPath.{ExprPath}
 use Rattle.educe_body.specs.declared.form.Form.{Form, Call, Call', IfReturn, Return, SomeOf, MatchOrdering, Block, Block', Row_of-Form, end_of-Form, more_of-Form, items-the_row-Form, items_hidden-the_row-Form-0}
 use Rattle.educe_body.specs.declared.form.Form.TheBlock.{hidden-the_row-Form-1}
 use Rattle.educe_body.specs.declared.evaluator.Binding.{Binding}

@@ -7,14 +7,14 @@ use Rattle.std.proofs.lemmas.List.{drop_more}
 use Rattle.educe_tokens.proofs.Ascii.{chars-ascii}
 use Rattle.educe_tokens.specs.declared.token.Token.{Token}
 use Rattle.educe_tokens.specs.declared.word.Word.{Word}
-use Rattle.educe_syntax.specs.declared.data.Field.{Field}
-use Rattle.educe_syntax.specs.Built.{name_of}
+use Rattle.educe_tree.specs.declared.data.Field.{Field}
 use Rattle.educe_body.specs.declared.value.FieldValue.{FieldValue}
 use Rattle.educe_body.specs.declared.evaluator.Flow.TheVariants.{Stuck}
 use Rattle.educe_body.specs.declared.evaluator.Referent.{Referent}
 use Rattle.educe_body.specs.declared.evaluator.Referent.TheVariants.{This, Other}
 use Rattle.educe_body.specs.declared.evaluator.Binding.{Binding}
 use Rattle.educe_body.specs.Callees.{path_of, spellings, segment_is}
+use Rattle.educe_body.specs.Keys.{key_of, keys_from}
 use Rattle.educe_body.specs.Meaning.{part_of, bindings_of}
 
 and-false : (b : Bool) → (b && false) ≡ false
@@ -64,22 +64,23 @@ path_of-step tokens words i a b c long inside x y z =
     rw (drop_more words i none inside)
     (is_path-step tokens (chars (get_or words i none).now) (map (λ word. chars word.now) (drop (i + 1) words)) a b c long x y z)
 
--- no value has a name
-pub part_of-nil : (fields : List Field) (name : List ℕ) → part_of fields [] name ≡ Stuck
-part_of-nil [] name = refl
-part_of-nil (f ∷ fields) name = refl
+-- no value has a key
+pub part_of-nil : (keys : List (List ℕ)) (key : List ℕ) → part_of keys [] key ≡ Stuck
+part_of-nil [] key = refl
+part_of-nil (k ∷ keys) key = refl
 
--- a field of another name may be left out
-pub part_of-drop : (fields : List Field) (values : List FieldValue) (name : List ℕ) (i : ℕ) (field : Field)
-    → i < length fields → bytes_eq (name_of (get_or fields i field)) name ≡ false
-    → part_of (drop (suc i) fields) (drop (suc i) values) name ≡ part_of (drop i fields) (drop i values) name
-part_of-drop [] values name i field inside differs = absurd (omega arith)
-part_of-drop (f ∷ fields) [] name zero field inside differs = part_of-nil fields name
-part_of-drop (f ∷ fields) (x ∷ values) name zero field inside differs = rw differs refl
-part_of-drop (f ∷ fields) [] name (suc i) field inside differs =
-    part_of-nil (drop (suc i) fields) name ∙ sym (part_of-nil (drop i fields) name)
-part_of-drop (f ∷ fields) (x ∷ values) name (suc i) field inside differs =
-    part_of-drop fields values name i field (omega arith) differs
+-- a field of another key may be left out
+pub part_of-drop : (fields : List Field) (values : List FieldValue) (key : List ℕ) (start i at more : ℕ) (field : Field)
+    → at ≡ start + i → more ≡ at + 1 → i < length fields → bytes_eq (key_of at (get_or fields i field)) key ≡ false
+    → part_of (keys_from more (drop (suc i) fields)) (drop (suc i) values) key ≡ part_of (keys_from at (drop i fields)) (drop i values) key
+part_of-drop [] values key start i at more field here next inside differs = absurd (omega arith)
+part_of-drop (f ∷ fields) [] key start zero at more field here next inside differs = part_of-nil (keys_from more fields) key
+part_of-drop (f ∷ fields) (x ∷ values) key start zero at more field here next inside differs =
+    rw differs (ap (λ n. part_of (keys_from n fields) values key) next)
+part_of-drop (f ∷ fields) [] key start (suc i) at more field here next inside differs =
+    part_of-nil (keys_from more (drop (suc i) fields)) key ∙ sym (part_of-nil (keys_from at (drop i fields)) key)
+part_of-drop (f ∷ fields) (x ∷ values) key start (suc i) at more field here next inside differs =
+    part_of-drop fields values key (start + 1) i at more field (omega arith) next (omega arith) differs
 
 abbrev bound_to : List ℕ → Referent → Binding
 bound_to name referent = record { name = name; referent = referent }

@@ -4,7 +4,7 @@ use Rattle.std.specs.Borrow.{Bor}
 use Rattle.std.specs.Str.{bytes_eq}
 use Rattle.std.specs.Cmp.Lexicographic.{pointwise}
 use Rattle.educe_tokens.specs.declared.token.Token.{Token}
-use Rattle.educe_syntax.specs.declared.path.ExprPath.{ExprPath}
+use Rattle.educe_tree.specs.declared.expr.ExprPath.{ExprPath}
 use Rattle.educe_body.specs.declared.answers.Callee.{Callee}
 use Rattle.educe_body.specs.declared.answers.Callee.TheVariants.{Ne, Cmp, PartialCmp}
 

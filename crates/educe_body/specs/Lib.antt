@@ -1,7 +1,9 @@
 pub mod Answering
 pub mod Callees
+pub mod Keys
 pub mod Meaning
 pub mod Tokens
 pub mod BuiltIn
 pub mod Printing
 pub mod TokenLaws
+pub mod Words

@@ -4,10 +4,8 @@ use Rattle.std.specs.Option.{option_copied}
 use Rattle.std.specs.Str.{bytes_eq}
 use Rattle.std.specs.declared.cmp.Ordering.{Ordering}
 use Rattle.std.specs.declared.cmp.Ordering.TheVariants.{Less, Equal, Greater}
-use Rattle.educe_syntax.specs.declared.data.Field.{Field}
-use Rattle.educe_syntax.specs.declared.derive.DeriveInput.{DeriveInput}
-use Rattle.educe_syntax.specs.declared.path.ExprPath.{ExprPath}
-use Rattle.educe_syntax.specs.Built.{fields_of, name_of}
+use Rattle.educe_tree.specs.declared.derive.DeriveInput.{DeriveInput}
+use Rattle.educe_tree.specs.declared.expr.ExprPath.{ExprPath}
 use Rattle.educe_tokens.specs.declared.word.Word.{Word}
 use Rattle.educe_body.specs.declared.value.FieldValue.{FieldValue}
 use Rattle.educe_body.specs.declared.value.Value.{Value}
@@ -32,6 +30,7 @@ use Rattle.educe_body.specs.declared.evaluator.Outcome.{Outcome}
 use Rattle.educe_body.specs.declared.evaluator.Outcome.TheVariants.{Truth as OutcomeTruth, Order as OutcomeOrder, PartialOrder as OutcomePartialOrder, Stuck as OutcomeStuck}
 use Rattle.educe_body.specs.Answering.{answer_of}
 use Rattle.educe_body.specs.Callees.{callee_of}
+use Rattle.educe_body.specs.Keys.{keys_of}
 
 -- what a body is evaluated over: the definition, the values of `self` and of the parameter, and the table
 pub record Scene : Type 0 where
@@ -59,22 +58,22 @@ abbrev pub look_up : List Binding → List ℕ → Option Referent
 look_up [] name = None
 look_up (b ∷ bs) name = innermost (if bytes_eq b.name name then Some b.referent else None) (look_up bs name)
 
--- the value at the place of the first field of that name
-abbrev pub part_of : List Field → List FieldValue → List ℕ → Flow
-part_of [] xs name = Stuck
-part_of (f ∷ fs) [] name = Stuck
-part_of (f ∷ fs) (x ∷ xs) name = if bytes_eq (name_of f) name then Gives (Part x) else part_of fs xs name
+-- the value at the place of the first field of that key
+abbrev pub part_of : List (List ℕ) → List FieldValue → List ℕ → Flow
+part_of [] xs key = Stuck
+part_of (k ∷ keys) [] key = Stuck
+part_of (k ∷ keys) (x ∷ xs) key = if bytes_eq k key then Gives (Part x) else part_of keys xs key
 
 -- the value of a field of a value, where there is one
 abbrev pub field_of : Scene → Option Value → List ℕ → Flow
-field_of scene None name = Stuck
-field_of scene (Some value) name = part_of (fields_of scene.definition) value.fields name
+field_of scene None key = Stuck
+field_of scene (Some value) key = part_of (keys_of scene.definition) value.fields key
 
 -- the field of the value that the base stands for
 abbrev pub reference_value : Scene → Option Referent → List ℕ → Flow
-reference_value scene None name = Stuck
-reference_value scene (Some This) name = field_of scene scene.this name
-reference_value scene (Some Other) name = field_of scene scene.other name
+reference_value scene None key = Stuck
+reference_value scene (Some This) key = field_of scene scene.this key
+reference_value scene (Some Other) key = field_of scene scene.other key
 
 -- a whole value, as a table is shown it: its type place is the last number, its number the variant
 abbrev pub whole_value : Option Value → Flow

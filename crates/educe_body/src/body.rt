@@ -1,7 +1,8 @@
 //! Functions and the items that hold them.
 use crate::form::Forms;
-use educe_syntax::{Ident, Trait};
+use educe_attrs::Trait;
 use educe_tokens::{Seq, Word, Written};
+use educe_tree::Ident;
 
 /// Names in their order.
 pub type Names = Seq<Word>;

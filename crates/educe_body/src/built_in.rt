@@ -3,17 +3,19 @@ ghost use Rattle.std.specs.Prelude.{◌≡◌, IfOk, IsTrue, true, None, map, co
 ghost use Rattle.educe_tokens.specs.Quote.{is_ascii_name, is_template, quoted};
 ghost use Rattle.educe_tokens.specs.Text.{is_written};
 ghost use Rattle.educe_tokens.specs.WrittenLexemes.{written_lexemes};
+ghost use Rattle.educe_tree.specs.declared.path.Path.{out-Path};
+ghost use Rattle.educe_tree.specs.declared.path.Segment.{out-Segment};
 ghost use Rattle.educe_body.specs.BuiltIn.{path_lexemes, path_names};
 
 use crate::answers::Callee;
-use educe_syntax::{Args, ExprPath, Ident, Path, Segment, Segments};
 use educe_tokens::{Seq, Written};
+use educe_tree::{Args, ExprPath, Ident, Path, Segment, Segments};
 use std::alloc::{AllocError, Global};
 
 /// A segment without arguments.
 fn segment(alloc: Global, name: &str) -> Result<Segment, AllocError>
     requires { IsTrue (is_ascii_name name.now) }
-    ensures { IfOk result (λ segment. segment.ident.text ≡ name.now) }
+    ensures { IfOk result (λ segment. (out-Segment segment).ident.text ≡ name.now) }
 {
     let ident = Ident::from_name(alloc, name)?;
     Ok(Segment {
@@ -26,7 +28,7 @@ fn segment(alloc: Global, name: &str) -> Result<Segment, AllocError>
 fn comparison_segments(alloc: Global, which: &str, function: &str) -> Result<Segments, AllocError>
     requires which { IsTrue (is_ascii_name which.now) }
     requires function { IsTrue (is_ascii_name function.now) }
-    ensures { IfOk result (λ segments. map (λ s. s.ident.text) segments ≡ codes "core" ∷ codes "cmp" ∷ which.now ∷ function.now ∷ []) }
+    ensures { IfOk result (λ segments. map (λ s. (out-Segment s).ident.text) segments ≡ codes "core" ∷ codes "cmp" ∷ which.now ∷ function.now ∷ []) }
 {
     let mut segments = Seq::new(alloc);
     segments.push(segment(alloc, "core")?)?;
@@ -49,8 +51,8 @@ fn comparison_path(
     requires written { IsTrue (is_written (quoted text.now)) }
     ensures tokens { IfOk result (λ path. written_lexemes path.written ≡ quoted text.now) }
     ensures unqualified { IfOk result (λ path. path.self_type ≡ None) }
-    ensures leading { IfOk result (λ path. path.path.leading ≡ true) }
-    ensures names { IfOk result (λ path. map (λ s. s.ident.text) path.path.segments ≡ codes "core" ∷ codes "cmp" ∷ which.now ∷ function.now ∷ []) }
+    ensures leading { IfOk result (λ path. (out-Path path.path).leading ≡ true) }
+    ensures names { IfOk result (λ path. map (λ s. (out-Segment s).ident.text) (out-Path path.path).segments ≡ codes "core" ∷ codes "cmp" ∷ which.now ∷ function.now ∷ []) }
 {
     let segments = comparison_segments(alloc, which, function)?;
     let written = Written::from_template(alloc, text)?;
@@ -69,8 +71,8 @@ fn comparison_path(
 pub fn built_in_path(alloc: Global, callee: &Callee) -> Result<ExprPath, AllocError>
     ensures tokens { IfOk result (λ path. written_lexemes path.written ≡ path_lexemes callee.now) }
     ensures unqualified { IfOk result (λ path. path.self_type ≡ None) }
-    ensures leading { IfOk result (λ path. path.path.leading ≡ true) }
-    ensures names { IfOk result (λ path. map (λ s. s.ident.text) path.path.segments ≡ path_names callee.now) }
+    ensures leading { IfOk result (λ path. (out-Path path.path).leading ≡ true) }
+    ensures names { IfOk result (λ path. map (λ s. (out-Segment s).ident.text) (out-Path path.path).segments ≡ path_names callee.now) }
 {
     match callee {
         Callee::Ne => {

@@ -6,8 +6,8 @@ ghost use Rattle.educe_body.specs.Callees.{callee_of, first_named, path_of, segm
 
 use crate::answers::Callee;
 use crate::text::is_text;
-use educe_syntax::ExprPath;
 use educe_tokens::Token;
+use educe_tree::ExprPath;
 
 /// The built-in functions, each behind the words of its path, as in `::core::cmp::PartialEq::ne`.
 const BUILT_IN: [([&str; 4], Callee); 3] = [

@@ -1,8 +1,7 @@
 //! The evaluator.
 ghost use Rattle.std.specs.Prelude.{◌≡◌, map, IfOk};
 ghost use Rattle.std.specs.Option.{option_copied};
-ghost use Rattle.std.specs.Str.{bytes_eq};
-ghost use Rattle.educe_syntax.specs.Built.{name_of};
+ghost use Rattle.educe_body.specs.Keys.{keys_from};
 ghost use Rattle.educe_body.specs.Meaning.{scene, value, outcome_of, bindings_of, look_up, list_value, form_value, call_value, answer_flow, with_part, if_return, return_of, some_of, order_arm, partial_arm, match_ordering, reference_value, local_value, field_of, part_of, whole_value, known_thing};
 ghost use Rattle.educe_body.specs.Answering.{answer_of};
 
@@ -10,10 +9,11 @@ use crate::answers::{Answer, Answers, Callee};
 use crate::body::{Body, Names};
 use crate::callee::callee_of;
 use crate::form::{Form, Forms, Known};
+use crate::keys::{has_key, index_of};
 use crate::text::is_text;
 use crate::value::{FieldValue, Value};
-use educe_syntax::{DeriveInput, ExprPath, Field, Shape};
 use educe_tokens::{Seq, Spelling};
+use educe_tree::{DeriveInput, ExprPath, Field, Shape};
 use std::alloc::{AllocError, Global};
 use std::cmp::Ordering;
 
@@ -73,7 +73,7 @@ pub enum Flow {
 }
 
 /// What a body evaluates to over a definition, two values and a table: what it returns, or the
-/// value of its last form; `Stuck` where a name stands for nothing, a value has no such field, a
+/// value of its last form; `Stuck` where a name stands for nothing, a value has no field of that key, a
 /// path names no built-in function, the table has no answer or a form takes another kind of value.
 pub fn eval(
     alloc: Global,
@@ -334,34 +334,37 @@ fn whole(value: Option<&Value>) -> Flow
 }
 
 /// The field of the value that a base stands for.
-fn reference(scope: &Scope, base: Option<Referent>, name: &Spelling) -> Flow
-    ensures { (answers : _) → result ≡ reference_value (scene scope.now answers) base name.now }
+fn reference(scope: &Scope, base: Option<Referent>, key: &Spelling) -> Flow
+    ensures { (answers : _) → result ≡ reference_value (scene scope.now answers) base key.now }
 {
     match base {
         None => Flow::Stuck,
-        Some(Referent::This) => field(scope, scope.this, name),
-        Some(Referent::Other) => field(scope, scope.other, name),
+        Some(Referent::This) => field(scope, scope.this, key),
+        Some(Referent::Other) => field(scope, scope.other, key),
     }
 }
 
-/// The value of a field of a value, where there is one.
-fn field(scope: &Scope, value: Option<&Value>, name: &Spelling) -> Flow
-    ensures { (answers : _) → result ≡ field_of (scene scope.now answers) (option_copied value.entry) name.now }
+/// The value of a field of a value, where there is one: an enum has none, since bodies for enums
+/// are not built yet.
+fn field(scope: &Scope, value: Option<&Value>, key: &Spelling) -> Flow
+    ensures { (answers : _) → result ≡ field_of (scene scope.now answers) (option_copied value.entry) key.now }
 {
     let Some(value) = value else {
         return Flow::Stuck;
     };
     match &scope.ast.shape {
-        Shape::Struct(shape) => part(shape.fields.as_slice(), value.fields.as_slice(), name),
+        Shape::Struct(shape) => part(shape.fields.as_slice(), value.fields.as_slice(), key),
+        Shape::Enum(_) => Flow::Stuck,
     }
 }
 
-/// The value at the place of the first field of that name.
-fn part(fields: &[Field], values: &[FieldValue], name: &Spelling) -> Flow
-    ensures { result ≡ part_of fields.now values.now name.now }
+/// The value at the place of the first field of that key.
+fn part(fields: &[Field], values: &[FieldValue], key: &Spelling) -> Flow
+    ensures { result ≡ part_of (keys_from 0 fields.now) values.now key.now }
 {
+    let index = index_of(key);
     for (i, field) in fields.iter().enumerate() {
-        if is_named(field, name) {
+        if has_key(i, field, key, index) {
             if i < values.len() {
                 return Flow::Gives(Thing::Part(values[i]));
             }
@@ -369,14 +372,4 @@ fn part(fields: &[Field], values: &[FieldValue], name: &Spelling) -> Flow
         }
     }
     Flow::Stuck
-}
-
-/// Whether a field has this name; the name of a field without one is the empty text.
-fn is_named(field: &Field, name: &Spelling) -> bool
-    ensures { result ≡ bytes_eq (name_of field.now) name.now }
-{
-    match &field.ident {
-        Some(ident) => is_text(&ident.text, name.as_str()),
-        None => is_text(name, ""),
-    }
 }

@@ -1,6 +1,6 @@
 //! The forms that bodies are made of.
-use educe_syntax::{ExprPath, Ident};
 use educe_tokens::{Boxed, Seq, Word};
+use educe_tree::{ExprPath, Ident};
 use std::cmp::Ordering;
 
 /// An answer that a body names itself.

@@ -7,12 +7,16 @@ mod built_in;
 mod callee;
 mod evaluator;
 mod form;
+mod keys;
 mod print;
 mod print_items;
 mod print_orders;
 mod speller;
+#[cfg(test)]
+mod tests;
 mod text;
 mod value;
+mod words;
 
 pub use answers::{Answer, Answers, Callee, Row, Rows};
 pub use body::{Body, Function, Functions, ImplItem, Item, Items, Names};
@@ -20,5 +24,7 @@ pub use built_in::built_in_path;
 pub use callee::callee_of;
 pub use evaluator::{Outcome, Scope, eval};
 pub use form::{Form, Forms, Known};
+pub use keys::key_word;
 pub use speller::spell;
 pub use value::{FieldValue, FieldValues, Value};
+pub use words::has_word;

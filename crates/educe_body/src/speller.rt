@@ -41,8 +41,9 @@ mod tests {
     use crate::body::{Body, Function, ImplItem};
     use crate::built_in::built_in_path;
     use crate::form::{Form, Forms, Known};
-    use educe_syntax::{ExprPath, Ident, Path, Trait};
+    use educe_attrs::Trait;
     use educe_tokens::{Boxed, Seq, Span, TokenKind, TokenStream, Word, Written, quote};
+    use educe_tree::{ExprPath, Ident, Path};
     use std::cmp::Ordering;
     use std::test::Fail;
 

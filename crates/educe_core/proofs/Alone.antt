@@ -1,93 +1,31 @@
 -- A text has one cause to be refused, want of memory aside.
-use Rattle.std.proofs.Common.{◌≡◌, ◌≢◌, ◌∙◌, ◌⊎◌, ℕ, true, ℤ, pos, ◌<ℤ◌, List, [], ◌∷◌, ◌++◌, map, Option, Some, inl, inr, refl, sym, ap, subst, arith, chars, append_assoc}
+use Rattle.std.proofs.Common.{◌≡◌, ◌≢◌, ◌∙◌, ℕ, true, ℤ, pos, ◌<ℤ◌, List, [], ◌∷◌, inl, inr, refl, sym, ap, subst, arith, chars}
 use Rattle.std.proofs.lemmas.Bool.{true≢false}
 use Rattle.std.proofs.lemmas.Int.{ints}
 use Rattle.educe_tokens.specs.declared.error.EduceError.{EduceError}
 use Rattle.educe_tokens.specs.declared.error.Kind.TheVariants.{Alloc}
 use Rattle.educe_tokens.specs.declared.span.Span.{Span}
 use Rattle.educe_tokens.specs.declared.token.Token.{Token}
-use Rattle.educe_tokens.specs.Brackets.{IsBalanced, IsShallow}
 use Rattle.educe_tokens.specs.Causes.{IsLexicalCause}
-use Rattle.educe_tokens.specs.Lexes.{Lexes, lexemes}
+use Rattle.educe_tokens.specs.Steps.{IsReading}
 use Rattle.educe_tokens.proofs.Alone.{cause_alone}
 use Rattle.educe_tokens.proofs.Uncaused.{no_cause}
-use Rattle.educe_syntax.specs.declared.data.Field.{Field}
-use Rattle.educe_syntax.specs.declared.derive.DeriveInput.{DeriveInput}
-use Rattle.educe_syntax.specs.declared.ident.Ident.{Ident}
-use Rattle.educe_syntax.specs.declared.traits.Trait.{Trait}
-use Rattle.educe_syntax.specs.declared.traits.Trait.TheVariants.{PartialEq, PartialOrd, Ord}
-use Rattle.educe_syntax.specs.Built.{IsRepeated, AreApart, fields_of, name_of}
-use Rattle.educe_syntax.specs.Refusal.{duplicate_of}
-use Rattle.educe_syntax.specs.Traits.{is_listed}
-use Rattle.educe_syntax.proofs.Repeated.{repeated_together}
+use Rattle.educe_tokens.proofs.Unique.{lexes_one}
+use Rattle.educe_tree.specs.declared.derive.DeriveInput.{DeriveInput}
+use Rattle.educe_grammar.specs.Refusal.{IsRefusalOf}
+use Rattle.educe_grammar.proofs.Refusals.{one_refusal}
+use Rattle.educe_attrs.specs.declared.traits.Trait.{Trait}
+use Rattle.educe_attrs.specs.declared.traits.Trait.TheVariants.{PartialEq, PartialOrd, Ord}
+use Rattle.educe_attrs.specs.Traits.{is_listed}
+use Rattle.educe_body.specs.Keys.{fields_of}
 use Rattle.educe_core.specs.Listed.{listed, traits_before}
 use Rattle.educe_core.specs.Ranks.{Rises}
 use Rattle.educe_core.specs.Settings.{Kept, kept_fields, rank_place, ReusesARank}
 use Rattle.educe_core.specs.Blocks.{HasNoCause, HasNoCausesBefore, ReusesListedRank}
-use Rattle.educe_core.specs.Headline.{Defines, IsCause, not_set_up_of, reuse_of}
-use Rattle.educe_core.proofs.Causes.{one_definition, reads_of, reuse_apart, each_filtered}
+use Rattle.educe_core.specs.Headline.{Defines, IsHandlerCause, IsCause, reuse_of}
+use Rattle.educe_core.proofs.Causes.{whole_of, one_defined, refusal_undefined, reuse_apart, each_filtered}
 use Rattle.educe_core.proofs.Elements.{In, In-all, In-from_Contains}
 use Rattle.educe_core.proofs.Kept.{places_rise}
-
--- a text is one definition
-one_defined : (source : List ℕ) (d other : DeriveInput) → Defines (chars source) d → Defines (chars source) other → d ≡ other
-one_defined source d other defines also = one_definition d.tokens other d (reads_of source d.tokens other defines.lexes also) defines.reads
-
--- ---- names
-
-same_head : {X : Type 0} (x y : X) (xs ys : List X) → x ∷ xs ≡ y ∷ ys → (x ≡ y) × (xs ≡ ys)
-same_head {X} x y xs ys h = (ap (λ (l : List X). elim l [ [] ↦ x | z ∷ zs ↦ z ]) h, ap (λ (l : List X). elim l [ [] ↦ xs | z ∷ zs ↦ zs ]) h)
-
--- of two fronts of a list one goes on by the element behind the other, or these elements are one
-fronts : {X : Type 0} (xs ys : List X) (x y : X) (us vs : List X) → xs ++ x ∷ us ≡ ys ++ y ∷ vs
-    → (x ≡ y) ⊎ (((more : List X) × (ys ≡ xs ++ x ∷ more)) ⊎ ((more : List X) × (xs ≡ ys ++ y ∷ more)))
-fronts [] [] x y us vs h = inl (same_head x y us vs h).0
-fronts [] (z ∷ ys) x y us vs h = inr (inl (ys, ap (λ w. w ∷ ys) (sym (same_head x z us (ys ++ y ∷ vs) h).0)))
-fronts (z ∷ xs) [] x y us vs h = inr (inr (xs, ap (λ w. w ∷ xs) (same_head z y (xs ++ x ∷ us) vs h).0))
-fronts (z ∷ xs) (w ∷ ys) x y us vs h =
-    let same = same_head z w (xs ++ x ∷ us) (ys ++ y ∷ vs) h in
-    elim (fronts xs ys x y us vs same.1) [
-      | inl one ↦ inl one
-      | inr apart ↦ elim apart [
-        | inl on ↦ inr (inl (on.0, λ i. sym same.0 i ∷ on.1 i))
-        | inr on ↦ inr (inr (on.0, λ i. same.0 i ∷ on.1 i))
-      ]
-    ]
-
--- the fields before the one that repeats a name
-abbrev front_of : {ident : Ident} {fields : List Field} → IsRepeated ident fields → List Field
-front_of is = is.before ++ is.first ∷ is.between
-
--- names of which one is given twice are not apart
-twice : (fields : List Field) (ident : Ident) (is : IsRepeated ident fields) (more : List Field) → AreApart (map name_of (front_of is ++ is.later ∷ more)) → ⊥
-twice fields ident is more apart =
-    repeated_together (front_of is ++ is.later ∷ more) ident
-    (record {
-      before = is.before;
-      first = is.first;
-      between = is.between;
-      later = is.later;
-      after = more;
-      is = append_assoc is.before (is.first ∷ is.between) (is.later ∷ more);
-      named = is.named;
-      same = is.same;
-      apart = is.apart;
-    }) apart
-
-same_ident : (x y : Ident) → ◌≡◌ {A = Option Ident} (Some x) (Some y) → x ≡ y
-same_ident x y h = cc
-
--- the first name that is given twice is one
-repeated_once : (fields : List Field) (x y : Ident) → IsRepeated x fields → IsRepeated y fields → x ≡ y
-repeated_once fields x y one two =
-    let whole = append_assoc one.before (one.first ∷ one.between) (one.later ∷ one.after) ∙ sym one.is ∙ two.is ∙ sym (append_assoc two.before (two.first ∷ two.between) (two.later ∷ two.after)) in
-    elim (fronts (front_of one) (front_of two) one.later two.later one.after two.after whole) [
-      | inl same ↦ same_ident x y (sym one.named ∙ ap (λ (f : Field). f.ident) same ∙ two.named)
-      | inr apart ↦ elim apart [
-        | inl on ↦ absurd (twice fields x one on.0 (subst (λ (fs : List Field). AreApart (map name_of fs)) on.1 two.apart))
-        | inr on ↦ absurd (twice fields y two on.0 (subst (λ (fs : List Field). AreApart (map name_of fs)) on.1 one.apart))
-      ]
-    ]
 
 -- ---- ranks
 
@@ -132,57 +70,49 @@ listed_once d r s p q one two = first_order d r s p q one.which two.which one.is
 
 -- ---- causes
 
+-- a definition that lists no trait uses no listed rank again
+lists_none : {X : Type 0} (d : DeriveInput) (rank : ℤ) (place : Span) → listed d ≡ [] → ReusesListedRank d rank place → X
+lists_none d rank place none reuses = absurd (true≢false (sym reuses.lists ∙ ap (λ l. is_listed l reuses.which) none))
+
+-- the handler refuses a definition for one cause
+handled_once : (d : DeriveInput) (e f : EduceError) → IsHandlerCause d e → IsHandlerCause d f → e.kind ≢ Alloc → f.kind ≢ Alloc → e ≡ f
+handled_once d e f IsHandlerCause.memory also kind kind_also = absurd (kind refl)
+handled_once d e f cause IsHandlerCause.memory kind kind_also = absurd (kind_also refl)
+handled_once d e f (IsHandlerCause.unbuilt never) (IsHandlerCause.unbuilt none) kind kind_also = refl
+handled_once d e f (IsHandlerCause.unbuilt never) (IsHandlerCause.not_set_up built none) kind kind_also = absurd (never built)
+handled_once d e f (IsHandlerCause.unbuilt never) (IsHandlerCause.reuse r p built reuses) kind kind_also = absurd (never built)
+handled_once d e f (IsHandlerCause.not_set_up built none) (IsHandlerCause.unbuilt never) kind kind_also = absurd (never built)
+handled_once d e f (IsHandlerCause.reuse r p built reuses) (IsHandlerCause.unbuilt never) kind kind_also = absurd (never built)
+handled_once d e f (IsHandlerCause.not_set_up built none) (IsHandlerCause.not_set_up also none_also) kind kind_also = refl
+handled_once d e f (IsHandlerCause.not_set_up built none) (IsHandlerCause.reuse r p also reuses) kind kind_also = lists_none d r p none reuses
+handled_once d e f (IsHandlerCause.reuse r p also reuses) (IsHandlerCause.not_set_up built none) kind kind_also = lists_none d r p none reuses
+handled_once d e f (IsHandlerCause.reuse r p built reuses) (IsHandlerCause.reuse s q also reuses_also) kind kind_also =
+    let same = listed_once d r s p q reuses reuses_also in (λ i. reuse_of (same.0 i) (same.1 i))
+
 module _ (source : List ℕ) where
   -- a text that has tokens whose brackets close in order, not too deep, has no lexical cause
-  not_lexical : {X : Type 0} (tokens : List Token) (e : EduceError) → Lexes (chars source) tokens → IsBalanced (lexemes tokens) → IsShallow (lexemes tokens) → IsLexicalCause (chars source) e → e.kind ≢ Alloc → X
-  not_lexical tokens e lexes balanced shallow cause kind = absurd (kind (no_cause (chars source) tokens lexes balanced shallow e cause))
+  not_lexical : {X : Type 0} (tokens : List Token) (e : EduceError) → IsReading (chars source) tokens → IsLexicalCause (chars source) e → e.kind ≢ Alloc → X
+  not_lexical tokens e are cause kind = absurd (kind (no_cause (chars source) tokens are.lexes are.balanced are.shallow e cause))
 
-  -- a definition has no lexical cause
-  defined_lexes : {X : Type 0} (d : DeriveInput) (e : EduceError) → Defines (chars source) d → IsLexicalCause (chars source) e → e.kind ≢ Alloc → X
-  defined_lexes d e defines cause kind = not_lexical d.tokens e defines.lexes defines.balanced defines.shallow cause kind
-
-  -- names that are apart are not given twice
-  apart_once : {X : Type 0} (d other : DeriveInput) (ident : Ident) → Defines (chars source) d → AreApart (map name_of (fields_of d)) → Defines (chars source) other → IsRepeated ident (fields_of other) → X
-  apart_once d other ident defines apart also repeats =
-      absurd (repeated_together (fields_of other) ident repeats (subst (λ (x : DeriveInput). AreApart (map name_of (fields_of x))) (one_defined source d other defines also) apart))
-
-  -- a definition that lists no trait uses no listed rank again
-  lists_none : {X : Type 0} (d other : DeriveInput) (rank : ℤ) (place : Span) → Defines (chars source) d → listed d ≡ [] → Defines (chars source) other → ReusesListedRank other rank place → X
-  lists_none d other rank place defines none also reuses =
-      absurd (true≢false (sym reuses.lists ∙ ap (λ l. is_listed l reuses.which) (ap listed (sym (one_defined source d other defines also)) ∙ none)))
+  -- a definition has no cause in its tokens
+  not_grammatical : {X : Type 0} (tokens : List Token) (d : DeriveInput) (e : EduceError) → IsReading (chars source) tokens → IsRefusalOf tokens e → Defines (chars source) d → e.kind ≢ Alloc → X
+  not_grammatical tokens d e are refusal defines kind = absurd (refusal_undefined tokens d e (whole_of source tokens d are defines) defines.names_apart refusal kind)
 
   -- two causes are one, want of memory aside
-  pub cause_once : (e f : EduceError) → IsCause source e → IsCause source f → e.kind ≢ Alloc → f.kind ≢ Alloc → e ≡ f
+  cause_once : (e f : EduceError) → IsCause source e → IsCause source f → e.kind ≢ Alloc → f.kind ≢ Alloc → e ≡ f
   cause_once e f IsCause.memory also kind kind_also = absurd (kind refl)
   cause_once e f cause IsCause.memory kind kind_also = absurd (kind_also refl)
   cause_once e f (IsCause.lexical cause) (IsCause.lexical also) kind kind_also = cause_alone (chars source) e f cause also kind kind_also
-  cause_once e f (IsCause.lexical cause) (IsCause.unbuilt ts lexes balanced shallow none) kind kind_also = not_lexical ts e lexes balanced shallow cause kind
-  cause_once e f (IsCause.lexical cause) (IsCause.not_set_up d defines apart none) kind kind_also = defined_lexes d e defines cause kind
-  cause_once e f (IsCause.lexical cause) (IsCause.duplicate d i defines repeats) kind kind_also = defined_lexes d e defines cause kind
-  cause_once e f (IsCause.lexical cause) (IsCause.reuse d r p defines apart reuses) kind kind_also = defined_lexes d e defines cause kind
-  cause_once e f (IsCause.unbuilt ts lexes balanced shallow none) (IsCause.lexical cause) kind kind_also = not_lexical ts f lexes balanced shallow cause kind_also
-  cause_once e f (IsCause.not_set_up d defines apart none) (IsCause.lexical cause) kind kind_also = defined_lexes d f defines cause kind_also
-  cause_once e f (IsCause.duplicate d i defines repeats) (IsCause.lexical cause) kind kind_also = defined_lexes d f defines cause kind_also
-  cause_once e f (IsCause.reuse d r p defines apart reuses) (IsCause.lexical cause) kind kind_also = defined_lexes d f defines cause kind_also
-  cause_once e f (IsCause.unbuilt ts lexes balanced shallow none) (IsCause.unbuilt us also balanced_also shallow_also none_also) kind kind_also = refl
-  cause_once e f (IsCause.unbuilt ts lexes balanced shallow none) (IsCause.not_set_up d defines apart lists) kind kind_also = absurd (none d (reads_of source ts d lexes defines) defines.built)
-  cause_once e f (IsCause.unbuilt ts lexes balanced shallow none) (IsCause.duplicate d i defines repeats) kind kind_also = absurd (none d (reads_of source ts d lexes defines) defines.built)
-  cause_once e f (IsCause.unbuilt ts lexes balanced shallow none) (IsCause.reuse d r p defines apart reuses) kind kind_also = absurd (none d (reads_of source ts d lexes defines) defines.built)
-  cause_once e f (IsCause.not_set_up d defines apart lists) (IsCause.unbuilt ts lexes balanced shallow none) kind kind_also = absurd (none d (reads_of source ts d lexes defines) defines.built)
-  cause_once e f (IsCause.duplicate d i defines repeats) (IsCause.unbuilt ts lexes balanced shallow none) kind kind_also = absurd (none d (reads_of source ts d lexes defines) defines.built)
-  cause_once e f (IsCause.reuse d r p defines apart reuses) (IsCause.unbuilt ts lexes balanced shallow none) kind kind_also = absurd (none d (reads_of source ts d lexes defines) defines.built)
-  cause_once e f (IsCause.not_set_up d defines apart lists) (IsCause.not_set_up o also apart_also lists_also) kind kind_also = ap not_set_up_of (one_defined source d o defines also)
-  cause_once e f (IsCause.not_set_up d defines apart lists) (IsCause.duplicate o i also repeats) kind kind_also = apart_once d o i defines apart also repeats
-  cause_once e f (IsCause.duplicate o i also repeats) (IsCause.not_set_up d defines apart lists) kind kind_also = apart_once d o i defines apart also repeats
-  cause_once e f (IsCause.not_set_up d defines apart lists) (IsCause.reuse o r p also apart_also reuses) kind kind_also = lists_none d o r p defines lists also reuses
-  cause_once e f (IsCause.reuse o r p also apart_also reuses) (IsCause.not_set_up d defines apart lists) kind kind_also = lists_none d o r p defines lists also reuses
-  cause_once e f (IsCause.duplicate d i defines repeats) (IsCause.duplicate o j also repeats_also) kind kind_also =
-      ap duplicate_of (repeated_once (fields_of o) i j (subst (λ (x : DeriveInput). IsRepeated i (fields_of x)) (one_defined source d o defines also) repeats) repeats_also)
-  cause_once e f (IsCause.duplicate o i also repeats) (IsCause.reuse d r p defines apart reuses) kind kind_also = apart_once d o i defines apart also repeats
-  cause_once e f (IsCause.reuse d r p defines apart reuses) (IsCause.duplicate o i also repeats) kind kind_also = apart_once d o i defines apart also repeats
-  cause_once e f (IsCause.reuse d r p defines apart reuses) (IsCause.reuse o s q also apart_also reuses_also) kind kind_also =
-      let same = listed_once o r s p q (subst (λ (x : DeriveInput). ReusesListedRank x r p) (one_defined source d o defines also) reuses) reuses_also in
-      (λ i. reuse_of (same.0 i) (same.1 i))
+  cause_once e f (IsCause.lexical cause) (IsCause.grammatical ts are refusal) kind kind_also = not_lexical ts e are cause kind
+  cause_once e f (IsCause.lexical cause) (IsCause.handled d defines also) kind kind_also = not_lexical d.tokens e defines.tokens_are cause kind
+  cause_once e f (IsCause.grammatical ts are refusal) (IsCause.lexical cause) kind kind_also = not_lexical ts f are cause kind_also
+  cause_once e f (IsCause.handled d defines also) (IsCause.lexical cause) kind kind_also = not_lexical d.tokens f defines.tokens_are cause kind_also
+  cause_once e f (IsCause.grammatical ts are refusal) (IsCause.grammatical us are_also also) kind kind_also =
+      one_refusal us e f (subst (λ (xs : List Token). IsRefusalOf xs e) (lexes_one (chars source) ts us are.lexes are_also.lexes) refusal) also kind kind_also
+  cause_once e f (IsCause.grammatical ts are refusal) (IsCause.handled d defines also) kind kind_also = not_grammatical ts d e are refusal defines kind
+  cause_once e f (IsCause.handled d defines also) (IsCause.grammatical ts are refusal) kind kind_also = not_grammatical ts d f are refusal defines kind_also
+  cause_once e f (IsCause.handled d defines cause) (IsCause.handled o also cause_also) kind kind_also =
+      handled_once o e f (subst (λ (x : DeriveInput). IsHandlerCause x e) (one_defined source d o defines also) cause) cause_also kind kind_also
 
   -- a refusal with a cause is the only one
   pub alone : (e : EduceError) → IsCause source e → (f : EduceError) → e.kind ≢ Alloc → f.kind ≢ Alloc → IsCause source f → f ≡ e

@@ -1,5 +1,5 @@
--- Refusals, their causes and their places.
-use Rattle.std.proofs.Common.{◌≡◌, ◌≢◌, ◌∙◌, ℕ, Bool, true, false, ◌==◌, List, [], ◌∷◌, map, length, Result, Ok, Err, inl, inr, refl, sym, ap, subst, arith, rules, chars, IsUtf8, ℤ}
+-- Refusals and their causes, words and places.
+use Rattle.std.proofs.Common.{◌≡◌, ◌≢◌, ◌∙◌, ℕ, Bool, true, false, List, [], ◌∷◌, map, Result, Ok, Err, inl, inr, refl, sym, ap, subst, arith, chars, IsUtf8, ℤ}
 use Rattle.std.specs.Prelude.{IfOk, IfErr, if◌then◌else◌}
 use Rattle.std.specs.List.{AllByRecursion, IsDistinct, filter}
 use Rattle.std.specs.Ordering.{int_eq}
@@ -8,56 +8,50 @@ use Rattle.std.specs.Str.{IsCharBoundary}
 use Rattle.std.proofs.lemmas.Bool.{true≢false}
 use Rattle.std.proofs.lemmas.Str.{IsCharBoundary-start}
 use Rattle.educe_tokens.specs.declared.error.EduceError.{EduceError}
-use Rattle.educe_tokens.specs.declared.error.Kind.TheVariants.{Alloc}
+use Rattle.educe_tokens.specs.declared.error.Kind.TheVariants.{NotBuilt, Alloc}
 use Rattle.educe_tokens.specs.declared.span.Span.{Span}
 use Rattle.educe_tokens.specs.declared.token.Token.{Token}
-use Rattle.educe_tokens.specs.Brackets.{IsBalanced, IsShallow}
 use Rattle.educe_tokens.specs.Steps.{IsReading}
 use Rattle.educe_tokens.specs.Refusals.{placeless}
+use Rattle.educe_tokens.specs.Message.{HasWords}
 use Rattle.educe_tokens.proofs.Places as places
 use Rattle.educe_tokens.proofs.Unique.{lexes_one}
 use Rattle.educe_tokens.proofs.Uncaused.{no_cause}
-use Rattle.educe_tokens.specs.Lexes.{Lexes, lexemes}
-use Rattle.educe_tokens.specs.Message.{HasWords}
-use Rattle.educe_syntax.specs.declared.derive.DeriveInput.{DeriveInput}
-use Rattle.educe_syntax.specs.declared.parse_error.ParseError.{ParseError}
-use Rattle.educe_syntax.specs.declared.traits.Trait.{Trait}
-use Rattle.educe_syntax.specs.declared.traits.Trait.TheVariants.{PartialEq, PartialOrd, Ord}
-use Rattle.educe_syntax.specs.Built.{IsBuilt, AreApart, fields_of, name_of}
-use Rattle.educe_syntax.specs.Reading.{Reads}
-use Rattle.educe_syntax.specs.Refusal.{IsRefusalOf, unbuilt, memory, repeated}
-use Rattle.educe_syntax.specs.Traits.{is_listed}
-use Rattle.educe_syntax.proofs.Again.{definition_again}
-use Rattle.educe_syntax.proofs.Repeated.{repeated_together}
+use Rattle.educe_tree.specs.declared.derive.DeriveInput.{DeriveInput}
+use Rattle.educe_grammar.specs.Definitions.{definition}
+use Rattle.educe_grammar.specs.Naming.{AreNamesApart, scopes}
+use Rattle.educe_grammar.specs.Parsed.{depth_limit, IsWhole, IsParseCause}
+use Rattle.educe_grammar.specs.Reading.{Parses}
+use Rattle.educe_grammar.specs.Refusal.{IsRefusalOf}
+use Rattle.educe_grammar.proofs.ReadsAgain.{definition_again, one_reading}
+use Rattle.educe_grammar.proofs.Refusals.{refused_undefined}
+use Rattle.educe_grammar.proofs.Repeated.{never_all_apart}
+use Rattle.educe_grammar.proofs.Unions.{union_undefined}
+use Rattle.educe_attrs.specs.declared.traits.Trait.{Trait}
+use Rattle.educe_attrs.specs.declared.traits.Trait.TheVariants.{PartialEq, PartialOrd, Ord}
+use Rattle.educe_attrs.specs.Traits.{is_listed}
+use Rattle.educe_core.specs.Built.{IsBuilt}
 use Rattle.educe_core.specs.Listed.{listed, fixed_order}
 use Rattle.educe_core.specs.Ranks.{AreRanksApart}
 use Rattle.educe_core.specs.Settings.{Kept, kept_fields, RanksDiffer, ReusesARank}
 use Rattle.educe_core.specs.Blocks.{HasNoCause, HasNoCauses, ReusesListedRank}
 use Rattle.educe_core.specs.Headline.{Defines, IsHandlerCause, IsCause, IsValid, not_set_up_of, reuse_of}
 use Rattle.educe_core.proofs.Elements.{In, In-all, In-mapped, In-from_Contains}
-use Rattle.educe_core.proofs.Places.{reuse_is_placed, name_is_placed}
+use Rattle.educe_core.proofs.Places.{refusal_is_placed, reuse_is_placed}
 
 -- ---- the handler
 
 pub handler_memory : (d : DeriveInput) (e : EduceError) → e ≡ placeless Alloc → IsHandlerCause d e
 handler_memory d e is = subst (IsHandlerCause d) (sym is) IsHandlerCause.memory
 
-pub handler_not_set_up : (d : DeriveInput) (e : EduceError) → e ≡ not_set_up_of d → listed d ≡ [] → IsHandlerCause d e
-handler_not_set_up d e is none = subst (IsHandlerCause d) (sym is) (IsHandlerCause.not_set_up none)
+pub handler_unbuilt : (d : DeriveInput) (e : EduceError) → e ≡ placeless NotBuilt → (IsBuilt d → ⊥) → IsHandlerCause d e
+handler_unbuilt d e is never = subst (IsHandlerCause d) (sym is) (IsHandlerCause.unbuilt never)
 
--- nothing is in a list without length
-pub nothing : {X : Type 0} (xs : List X) → (length xs == 0) ≡ true → xs ≡ []
-nothing [] empty = refl
-nothing (x ∷ xs) empty = search rules
+pub handler_not_set_up : (d : DeriveInput) (e : EduceError) → e ≡ not_set_up_of d → IsBuilt d → listed d ≡ [] → IsHandlerCause d e
+handler_not_set_up d e is built none = subst (IsHandlerCause d) (sym is) (IsHandlerCause.not_set_up built none)
 
-pub handler_reuse : (d : DeriveInput) (e : EduceError) (rank : ℤ) (place : Span) → e ≡ reuse_of rank place → ReusesListedRank d rank place → IsHandlerCause d e
-handler_reuse d e rank place is reuses = subst (IsHandlerCause d) (sym is) (IsHandlerCause.reuse rank place reuses)
-
--- what the handler refuses has a cause
-pub handler_cause : (source : List ℕ) (d : DeriveInput) (e : EduceError) → Defines (chars source) d → AreApart (map name_of (fields_of d)) → IsHandlerCause d e → IsCause source e
-handler_cause source d e defines apart (IsHandlerCause.not_set_up none) = IsCause.not_set_up d defines apart none
-handler_cause source d e defines apart (IsHandlerCause.reuse rank place reuses) = IsCause.reuse d rank place defines apart reuses
-handler_cause source d e defines apart IsHandlerCause.memory = IsCause.memory
+pub handler_reuse : (d : DeriveInput) (e : EduceError) (rank : ℤ) (place : Span) → e ≡ reuse_of rank place → IsBuilt d → ReusesListedRank d rank place → IsHandlerCause d e
+handler_reuse d e rank place is built reuses = subst (IsHandlerCause d) (sym is) (IsHandlerCause.reuse rank place built reuses)
 
 -- ---- ranks that are apart
 
@@ -111,84 +105,100 @@ listed_reuse_apart d rank place reuses none =
 
 -- ---- readings
 
-abbrev given : DeriveInput → Result (DeriveInput × List Token) ParseError → DeriveInput
-given other (Ok found) = found.0
-given other (Err e) = other
-
--- tokens are one definition
-pub one_definition : (tokens : List Token) (d found : DeriveInput) → Reads tokens d → Reads tokens found → found ≡ d
-one_definition tokens d found reads also = ap (given d) (sym (definition_again tokens found also) ∙ definition_again tokens d reads)
-
 pub memory_cause : (source : List ℕ) (e : EduceError) → e ≡ placeless Alloc → IsCause source e
 memory_cause source e is = subst (IsCause source) (sym is) IsCause.memory
 
+-- a definition has the tokens that it was read from
+tokens_read : (tokens : List Token) (d : DeriveInput) → IsWhole definition tokens d → d.tokens ≡ tokens
+unfolding definition Parses
+tokens_read tokens d whole = ap (λ (x : DeriveInput). x.tokens) whole.1 ∙ whole.2.1
+
 -- a text is the definition that its tokens are
-defined_by : (source : List ℕ) (tokens : List Token) (d : DeriveInput) → IsReading (chars source) tokens → Reads tokens d → IsBuilt d → Defines (chars source) d
-defined_by source tokens d are reads built =
-    let same = sym reads.whole in record {
-      lexes = subst (Lexes (chars source)) same are.lexes;
-      balanced = subst (λ (ts : List Token). IsBalanced (lexemes ts)) same are.balanced;
-      shallow = subst (λ (ts : List Token). IsShallow (lexemes ts)) same are.shallow;
-      reads = subst (λ (ts : List Token). Reads ts d) same reads;
-      built = built;
+defined_by : (source : List ℕ) (tokens : List Token) (d : DeriveInput) → IsReading (chars source) tokens → IsWhole definition tokens d → AreNamesApart d → Defines (chars source) d
+defined_by source tokens d are whole apart =
+    let same = sym (tokens_read tokens d whole) in record {
+      tokens_are = subst (IsReading (chars source)) same are;
+      whole = subst (λ (ts : List Token). IsWhole definition ts d) same whole;
+      names_apart = apart;
     }
 
 -- the tokens of a text are those of the definition that it is
-pub reads_of : (source : List ℕ) (tokens : List Token) (d : DeriveInput) → Lexes (chars source) tokens → Defines (chars source) d → Reads tokens d
-reads_of source tokens d lexes defines = subst (λ (ts : List Token). Reads ts d) (lexes_one (chars source) d.tokens tokens defines.lexes lexes) defines.reads
+pub whole_of : (source : List ℕ) (tokens : List Token) (d : DeriveInput) → IsReading (chars source) tokens → Defines (chars source) d → IsWhole definition tokens d
+whole_of source tokens d are defines = subst (λ (ts : List Token). IsWhole definition ts d) (lexes_one (chars source) d.tokens tokens defines.tokens_are.lexes are.lexes) defines.whole
 
-refused_cause : (source : List ℕ) (tokens : List Token) (e : EduceError) → IsReading (chars source) tokens → IsRefusalOf tokens e → IsCause source e
-refused_cause source tokens e are (unbuilt none) = IsCause.unbuilt tokens are.lexes are.balanced are.shallow none
-refused_cause source tokens e are memory = IsCause.memory
-refused_cause source tokens e are (repeated d ident reads built repeats) = IsCause.duplicate d ident (defined_by source tokens d are reads built) repeats
+-- a text is one definition
+pub one_defined : (source : List ℕ) (d other : DeriveInput) → Defines (chars source) d → Defines (chars source) other → d ≡ other
+one_defined source d other defines also = one_reading definition definition_again depth_limit d.tokens d other defines.whole (whole_of source d.tokens other defines.tokens_are also)
+
+-- what the parser reads is the definition
+pub parsed_defines : (source : List ℕ) (tokens : List Token) (r : Result DeriveInput EduceError) → IsReading (chars source) tokens → IfOk r (IsWhole definition tokens) → IfOk r AreNamesApart → IfOk r (Defines (chars source))
+parsed_defines source tokens (Ok found) are whole apart = defined_by source tokens found are whole apart
+parsed_defines source tokens (Err e) are whole apart = tt
 
 -- what the parser refuses has a cause
 pub parsed_cause : (source : List ℕ) (tokens : List Token) (r : Result DeriveInput EduceError) → IsReading (chars source) tokens → IfErr r (IsRefusalOf tokens) → IfErr r (IsCause source)
 parsed_cause source tokens (Ok found) are refused = tt
-parsed_cause source tokens (Err e) are refused = refused_cause source tokens e are refused
+parsed_cause source tokens (Err e) are refused = IsCause.grammatical tokens are refused
 
--- a text is one definition
-pub parsed_once : (source : List ℕ) (tokens : List Token) (r : Result DeriveInput EduceError) → IsReading (chars source) tokens → IfOk r (Reads tokens)
-    → IfOk r (λ found. (d : DeriveInput) → Defines (chars source) d → found ≡ d)
-parsed_once source tokens (Ok found) are reads = λ d defines. one_definition tokens d found (reads_of source tokens d are.lexes defines) reads
-parsed_once source tokens (Err e) are reads = tt
+-- a definition whose names are apart is not refused
+pub refusal_undefined : (tokens : List Token) (d : DeriveInput) (e : EduceError) → IsWhole definition tokens d → AreNamesApart d → IsRefusalOf tokens e → e.kind ≢ Alloc → ⊥
+refusal_undefined tokens d e whole apart (IsRefusalOf.union word is) some = union_undefined tokens word d is whole
+refusal_undefined tokens d e whole apart (IsRefusalOf.grammar never cause) some = refused_undefined tokens e d cause whole some
+refusal_undefined tokens d e whole apart IsRefusalOf.memory some = some refl
+refusal_undefined tokens d e whole apart (IsRefusalOf.repeated found name all twice) some =
+    never_all_apart (scopes found) name twice (subst AreNamesApart (one_reading definition definition_again depth_limit tokens d found whole all) apart)
 
 -- ---- words and places
 
+refusal_words : (tokens : List Token) (e : EduceError) → IsRefusalOf tokens e → HasWords e.kind e.words
+refusal_words tokens e (IsRefusalOf.union word is) = refl
+refusal_words tokens e (IsRefusalOf.grammar never (IsParseCause.syntax left none stop)) = refl
+refusal_words tokens e (IsRefusalOf.grammar never (IsParseCause.too_deep front rest t none stop is many)) = refl
+refusal_words tokens e (IsRefusalOf.grammar never IsParseCause.memory) = refl
+refusal_words tokens e IsRefusalOf.memory = refl
+refusal_words tokens e (IsRefusalOf.repeated found name whole twice) = refl
+
+handler_words : (d : DeriveInput) (e : EduceError) → IsHandlerCause d e → HasWords e.kind e.words
+handler_words d e (IsHandlerCause.unbuilt never) = refl
+handler_words d e (IsHandlerCause.not_set_up built none) = refl
+handler_words d e (IsHandlerCause.reuse rank place built reuses) = refl
+handler_words d e IsHandlerCause.memory = refl
+
 pub cause_words : (source : List ℕ) (e : EduceError) → IsCause source e → HasWords e.kind e.words
 cause_words source e (IsCause.lexical cause) = places.cause_words (chars source) e cause
-cause_words source e (IsCause.unbuilt tokens lexes balanced shallow none) = refl
-cause_words source e (IsCause.not_set_up d defines apart none) = refl
-cause_words source e (IsCause.duplicate d ident defines repeats) = refl
-cause_words source e (IsCause.reuse d rank place defines apart reuses) = refl
+cause_words source e (IsCause.grammatical tokens are refusal) = refusal_words tokens e refusal
+cause_words source e (IsCause.handled d defines cause) = handler_words d e cause
 cause_words source e IsCause.memory = refl
+
+handler_placed : (source : List ℕ) (d : DeriveInput) (e : EduceError) → IsUtf8 source → Defines (chars source) d → IsHandlerCause d e → IsCharBoundary source e.span.start
+handler_placed source d e utf8 defines (IsHandlerCause.unbuilt never) = IsCharBoundary-start source utf8
+handler_placed source d e utf8 defines (IsHandlerCause.not_set_up built none) = IsCharBoundary-start source utf8
+handler_placed source d e utf8 defines (IsHandlerCause.reuse rank place built reuses) = reuse_is_placed source utf8 d.tokens defines.tokens_are.lexes d reuses.which rank place defines.whole reuses.reuses
+handler_placed source d e utf8 defines IsHandlerCause.memory = IsCharBoundary-start source utf8
 
 pub cause_placed : (source : List ℕ) (e : EduceError) → IsUtf8 source → IsCause source e → IsCharBoundary source e.span.start
 cause_placed source e utf8 (IsCause.lexical cause) = places.cause_placed source e utf8 cause
-cause_placed source e utf8 (IsCause.unbuilt tokens lexes balanced shallow none) = IsCharBoundary-start source utf8
-cause_placed source e utf8 (IsCause.not_set_up d defines apart none) = IsCharBoundary-start source utf8
-cause_placed source e utf8 (IsCause.duplicate d ident defines repeats) = name_is_placed source d ident utf8 defines.lexes defines.reads repeats
-cause_placed source e utf8 (IsCause.reuse d rank place defines apart reuses) = reuse_is_placed source d reuses.which rank place utf8 defines.lexes defines.reads reuses.reuses
+cause_placed source e utf8 (IsCause.grammatical tokens are refusal) = refusal_is_placed source utf8 tokens are.lexes e refusal
+cause_placed source e utf8 (IsCause.handled d defines cause) = handler_placed source d e utf8 defines cause
 cause_placed source e utf8 IsCause.memory = IsCharBoundary-start source utf8
 
 -- ---- what is done has no cause
 
-pub done_uncaused : (source : List ℕ) (d : DeriveInput) → Defines (chars source) d → ((other : DeriveInput) → Defines (chars source) other → d ≡ other)
-    → AreApart (map name_of (fields_of d)) → listed d ≢ [] → HasNoCauses d → (e : EduceError) → e.kind ≢ Alloc → IsCause source e → ⊥
-done_uncaused source d defines only apart lists none e kind (IsCause.lexical cause) =
-    kind (no_cause (chars source) d.tokens defines.lexes defines.balanced defines.shallow e cause)
-done_uncaused source d defines only apart lists none e kind (IsCause.unbuilt tokens lexes balanced shallow no_definition) =
-    no_definition d (reads_of source tokens d lexes defines) defines.built
-done_uncaused source d defines only apart lists none e kind (IsCause.not_set_up other other_defines names lists_none) = lists (ap listed (only other other_defines) ∙ lists_none)
-done_uncaused source d defines only apart lists none e kind (IsCause.duplicate other ident other_defines repeats) =
-    repeated_together (fields_of other) ident repeats (subst (λ (x : DeriveInput). AreApart (map name_of (fields_of x))) (only other other_defines) apart)
-done_uncaused source d defines only apart lists none e kind (IsCause.reuse other rank place other_defines names reuses) =
-    listed_reuse_apart other rank place reuses (subst HasNoCauses (only other other_defines) none)
-done_uncaused source d defines only apart lists none e kind IsCause.memory = kind refl
+handled_undone : (d : DeriveInput) (e : EduceError) → IsBuilt d → listed d ≢ [] → HasNoCauses d → IsHandlerCause d e → e.kind ≡ Alloc
+handled_undone d e built lists none (IsHandlerCause.unbuilt never) = absurd (never built)
+handled_undone d e built lists none (IsHandlerCause.not_set_up also lists_none) = absurd (lists lists_none)
+handled_undone d e built lists none (IsHandlerCause.reuse rank place also reuses) = absurd (listed_reuse_apart d rank place reuses none)
+handled_undone d e built lists none IsHandlerCause.memory = refl
+
+pub done_uncaused : (source : List ℕ) (d : DeriveInput) → Defines (chars source) d → IsBuilt d → listed d ≢ [] → HasNoCauses d → (e : EduceError) → e.kind ≢ Alloc → IsCause source e → ⊥
+done_uncaused source d defines built lists none e kind (IsCause.lexical cause) =
+    kind (no_cause (chars source) d.tokens defines.tokens_are.lexes defines.tokens_are.balanced defines.tokens_are.shallow e cause)
+done_uncaused source d defines built lists none e kind (IsCause.grammatical tokens are refusal) = refusal_undefined tokens d e (whole_of source tokens d are defines) defines.names_apart refusal kind
+done_uncaused source d defines built lists none e kind (IsCause.handled other also cause) =
+    kind (handled_undone d e built lists none (subst (λ (x : DeriveInput). IsHandlerCause x e) (one_defined source other d also defines) cause))
+done_uncaused source d defines built lists none e kind IsCause.memory = kind refl
 
 -- the handler refuses a valid text for want of memory alone
-pub valid_handler : (source : List ℕ) (d : DeriveInput) (e : EduceError) → ((other : DeriveInput) → Defines (chars source) other → d ≡ other) → IsHandlerCause d e → IsValid source → e.kind ≡ Alloc
-valid_handler source d e only (IsHandlerCause.not_set_up none) valid = absurd (valid.lists (ap listed (sym (only valid.definition valid.defines)) ∙ none))
-valid_handler source d e only (IsHandlerCause.reuse rank place reuses) valid =
-    absurd (listed_reuse_apart d rank place reuses (subst HasNoCauses (sym (only valid.definition valid.defines)) valid.ranks_apart))
-valid_handler source d e only IsHandlerCause.memory valid = refl
+pub valid_handler : (source : List ℕ) (d : DeriveInput) (e : EduceError) → Defines (chars source) d → IsHandlerCause d e → IsValid source → e.kind ≡ Alloc
+valid_handler source d e defines cause valid =
+    handled_undone valid.definition e valid.built valid.lists valid.ranks_apart (subst (λ (x : DeriveInput). IsHandlerCause x e) (one_defined source d valid.definition defines valid.defines) cause)

@@ -10,12 +10,11 @@ use Rattle.educe_tokens.specs.Lexes.{Lexeme, lexemes}
 use Rattle.educe_tokens.specs.Quote.{quoted}
 use Rattle.educe_tokens.specs.WrittenLexemes.{written_lexemes}
 use Rattle.educe_tokens.proofs.Copying.{copied_spellings}
-use Rattle.educe_syntax.specs.declared.data.Field.{Field}
-use Rattle.educe_syntax.specs.declared.derive.DeriveInput.{DeriveInput}
-use Rattle.educe_syntax.specs.declared.path.ExprPath.{ExprPath}
-use Rattle.educe_syntax.specs.declared.traits.Trait.{Trait}
-use Rattle.educe_syntax.specs.declared.traits.Trait.TheVariants.{PartialEq, PartialOrd, Ord}
-use Rattle.educe_syntax.specs.Built.{fields_of, name_of, AreApart}
+use Rattle.educe_tree.specs.declared.data.Field.{Field}
+use Rattle.educe_tree.specs.declared.derive.DeriveInput.{DeriveInput}
+use Rattle.educe_tree.specs.declared.expr.ExprPath.{ExprPath}
+use Rattle.educe_attrs.specs.declared.traits.Trait.{Trait}
+use Rattle.educe_attrs.specs.declared.traits.Trait.TheVariants.{PartialEq, PartialOrd, Ord}
 use Rattle.educe_body.specs.declared.value.FieldValue.{FieldValue}
 use Rattle.educe_body.specs.declared.value.Value.{Value}
 use Rattle.educe_body.specs.declared.answers.Answer.{Answer}
@@ -38,7 +37,8 @@ use Rattle.educe_body.specs.Answering.{answer_of}
 use Rattle.educe_body.specs.BuiltIn.{path_lexemes}
 use Rattle.educe_body.specs.Callees.{callee_named, callee_of, spellings}
 use Rattle.educe_body.specs.Meaning.{Scene, bindings_of, look_up, part_of, form_value, list_value, call_named, call_answer, reference_value, answer_flow, if_return, match_ordering, go_on, outcome_of}
-use Rattle.educe_body.proofs.Fields.{NamesGive, NamesGive-part_of}
+use Rattle.educe_body.specs.Keys.{AreDifferent, fields_of, key_of, keys_from, keys_of}
+use Rattle.educe_body.proofs.Fields.{KeysGive, KeysGive-part_of}
 use Rattle.educe_body.proofs.Rows.{form_value-Call, form_value-IfReturn, form_value-MatchOrdering}
 use Rattle.educe_core.specs.Settings.{Kept, is_kept, kept_at, kept_from, kept_fields}
 use Rattle.educe_core.specs.Comparing.{Compared, compared_from, compared, comparison, comparison_answer, HaveTypes, IsAnswered, opposite_truth, order_answered, partial_order_answered, is_apart, differs_in_order, differs_in_partial_order, order_of, partial_order_of, equal, order, partial_order, meaning}
@@ -115,7 +115,7 @@ step_case PartialEq table c cs next known go = truth_case (equal table cs) next 
 step_case PartialOrd table c cs next known go = partial_case table c (first_where (differs_in_partial_order table) cs) next (comparison_answer PartialOrd table c) refl known go
 step_case Ord table c cs next known go = order_case table c (first_where (differs_in_order table) cs) next (comparison_answer Ord table c) refl known go
 
--- ---- the value of a field by its name
+-- ---- the value of a field by its key
 
 -- the field value that a look-up gives
 abbrev part_in : Flow → FieldValue
@@ -123,16 +123,16 @@ part_in (Gives (Part x)) = x
 part_in _ = record { ty = 0; number = pos 0 }
 
 module _ (look_a look_b : List ℕ → Flow) where
-  -- a field with the values that its name gives
+  -- a field with the values that its key gives
   abbrev seen : Kept → Compared
-  seen k = record { kept = k; first = part_in (look_a (name_of k.field)); second = part_in (look_b (name_of k.field)) }
+  seen k = record { kept = k; first = part_in (look_a (key_of k.place k.field)); second = part_in (look_b (key_of k.place k.field)) }
 
-  seen_step : (which : Trait) (place : ℕ) (f : Field) (x y : FieldValue) (rest : List Compared) (kept : List Kept) (keeps : Bool) → look_a (name_of f) ≡ Gives (Part x) → look_b (name_of f) ≡ Gives (Part y) → rest ≡ map seen kept
+  seen_step : (which : Trait) (place : ℕ) (f : Field) (x y : FieldValue) (rest : List Compared) (kept : List Kept) (keeps : Bool) → look_a (key_of place f) ≡ Gives (Part x) → look_b (key_of place f) ≡ Gives (Part y) → rest ≡ map seen kept
       → (if keeps then record { kept = kept_at which place f; first = x; second = y } ∷ rest else rest) ≡ map seen (if keeps then kept_at which place f ∷ kept else kept)
   seen_step which place f x y rest kept true at_a at_b same = λ i. record { kept = kept_at which place f; first = part_in (sym at_a i); second = part_in (sym at_b i) } ∷ same i
   seen_step which place f x y rest kept false at_a at_b same = same
 
-  compared-seen : (which : Trait) (place : ℕ) (fs : List Field) (xs ys : List FieldValue) → NamesGive look_a fs xs → NamesGive look_b fs ys → compared_from which place fs xs ys ≡ map seen (kept_from which place fs)
+  compared-seen : (which : Trait) (place : ℕ) (fs : List Field) (xs ys : List FieldValue) → KeysGive look_a (keys_from place fs) xs → KeysGive look_b (keys_from place fs) ys → compared_from which place fs xs ys ≡ map seen (kept_from which place fs)
   compared-seen which place [] xs ys give_a give_b = refl
   compared-seen which place (f ∷ fs) [] ys give_a give_b = absurd give_a
   compared-seen which place (f ∷ fs) (x ∷ xs) [] give_a give_b = absurd give_b
@@ -140,19 +140,19 @@ module _ (look_a look_b : List ℕ → Flow) where
       seen_step which place f x y (compared_from which (place + 1) fs xs ys) (kept_from which (place + 1) fs) (is_kept which f) give_a.0 give_b.0
       (compared-seen which (place + 1) fs xs ys give_a.1 give_b.1)
 
--- the field's name gives a value
+-- the field's key gives a value
 abbrev IsGiven : (List ℕ → Flow) → Kept → Type 0
-IsGiven look k = look (name_of k.field) ≡ Gives (Part (part_in (look (name_of k.field))))
+IsGiven look k = look (key_of k.place k.field) ≡ Gives (Part (part_in (look (key_of k.place k.field))))
 
-given_one : (look : List ℕ → Flow) (f : Field) (x : FieldValue) → look (name_of f) ≡ Gives (Part x) → look (name_of f) ≡ Gives (Part (part_in (look (name_of f))))
-given_one look f x at = at ∙ ap (λ (flow : Flow). Gives (Part (part_in flow))) (sym at)
+given_one : (look : List ℕ → Flow) (key : List ℕ) (x : FieldValue) → look key ≡ Gives (Part x) → look key ≡ Gives (Part (part_in (look key)))
+given_one look key x at = at ∙ ap (λ (flow : Flow). Gives (Part (part_in flow))) (sym at)
 
-given_step : (look : List ℕ → Flow) (which : Trait) (place : ℕ) (f : Field) (x : FieldValue) (kept : List Kept) (keeps : Bool) → look (name_of f) ≡ Gives (Part x) → AllByRecursion (IsGiven look) kept
+given_step : (look : List ℕ → Flow) (which : Trait) (place : ℕ) (f : Field) (x : FieldValue) (kept : List Kept) (keeps : Bool) → look (key_of place f) ≡ Gives (Part x) → AllByRecursion (IsGiven look) kept
     → AllByRecursion (IsGiven look) (if keeps then kept_at which place f ∷ kept else kept)
-given_step look which place f x kept true at given = (given_one look f x at, given)
+given_step look which place f x kept true at given = (given_one look (key_of place f) x at, given)
 given_step look which place f x kept false at given = given
 
-each_given : (look : List ℕ → Flow) (which : Trait) (place : ℕ) (fs : List Field) (xs : List FieldValue) → NamesGive look fs xs → AllByRecursion (IsGiven look) (kept_from which place fs)
+each_given : (look : List ℕ → Flow) (which : Trait) (place : ℕ) (fs : List Field) (xs : List FieldValue) → KeysGive look (keys_from place fs) xs → AllByRecursion (IsGiven look) (kept_from which place fs)
 each_given look which place [] xs give = tt
 each_given look which place (f ∷ fs) [] give = absurd give
 each_given look which place (f ∷ fs) (x ∷ xs) give = given_step look which place f x (kept_from which (place + 1) fs) (is_kept which f) give.0 (each_given look which (place + 1) fs xs give.1)
@@ -170,10 +170,10 @@ module _ (d : DeriveInput) (a b : Value) (table : Answers) (param : List ℕ) (i
   names = names_for param
 
   abbrev look_a : List ℕ → Flow
-  look_a = part_of (fields_of d) a.fields
+  look_a = part_of (keys_of d) a.fields
 
   abbrev look_b : List ℕ → Flow
-  look_b = part_of (fields_of d) b.fields
+  look_b = part_of (keys_of d) b.fields
 
   self_found : look_up names (codes "self") ≡ Some This
   self_found = ap (λ (text : List ℕ). look_up (names_for text) (codes "self")) is_other
@@ -182,24 +182,24 @@ module _ (d : DeriveInput) (a b : Value) (table : Answers) (param : List ℕ) (i
   other_found = ap (λ (text : List ℕ). look_up (names_for text) text) is_other
 
   -- a reference gives the field of the value that its base stands for
-  own_value : (f : Field) (x : Form) (y : FieldValue) → IsReference (codes "self") f x → look_a (name_of f) ≡ Gives (Part y) → form_value scene names x ≡ Gives (Part y)
-  own_value f x y r at =
-      ap (form_value scene names) r.is ∙ (λ i. reference_value scene (look_up names (r.base_is i)) (r.field_is i))
-      ∙ ap (λ (o : Option Referent). reference_value scene o (name_of f)) self_found ∙ at
+  own_value : (place : ℕ) (f : Field) (x : Form) (y : FieldValue) → IsReference (codes "self") place f x → look_a (key_of place f) ≡ Gives (Part y) → form_value scene names x ≡ Gives (Part y)
+  own_value place f x y r at =
+      ap (form_value scene names) r.is ∙ (λ i. reference_value scene (look_up names (r.base_is i)) (r.key_is i))
+      ∙ ap (λ (o : Option Referent). reference_value scene o (key_of place f)) self_found ∙ at
 
-  others_value : (f : Field) (x : Form) (y : FieldValue) → IsReference param f x → look_b (name_of f) ≡ Gives (Part y) → form_value scene names x ≡ Gives (Part y)
-  others_value f x y r at =
-      ap (form_value scene names) r.is ∙ (λ i. reference_value scene (look_up names (r.base_is i)) (r.field_is i))
-      ∙ ap (λ (o : Option Referent). reference_value scene o (name_of f)) other_found ∙ at
+  others_value : (place : ℕ) (f : Field) (x : Form) (y : FieldValue) → IsReference param place f x → look_b (key_of place f) ≡ Gives (Part y) → form_value scene names x ≡ Gives (Part y)
+  others_value place f x y r at =
+      ap (form_value scene names) r.is ∙ (λ i. reference_value scene (look_up names (r.base_is i)) (r.key_is i))
+      ∙ ap (λ (o : Option Referent). reference_value scene o (key_of place f)) other_found ∙ at
 
   -- the value of a comparison is the answer on the field's two values
-  comparison_value : (which : Trait) (f : Field) (x : Form) (y z : FieldValue) → IsComparison which param f x → look_a (name_of f) ≡ Gives (Part y) → look_b (name_of f) ≡ Gives (Part z)
+  comparison_value : (which : Trait) (place : ℕ) (f : Field) (x : Form) (y z : FieldValue) → IsComparison which param place f x → look_a (key_of place f) ≡ Gives (Part y) → look_b (key_of place f) ≡ Gives (Part z)
       → form_value scene names x ≡ answer_flow (answer_of table (comparison which) (Some y) (Some z))
-  comparison_value which f x y z is at_a at_b =
+  comparison_value which place f x y z is at_a at_b =
       ap (form_value scene names) is.is
       ∙ form_value-Call scene names is.path (is.own ∷ is.others ∷ [])
       ∙ ap (λ (c : Option Callee). call_named scene c (map (form_value scene names) (is.own ∷ is.others ∷ []))) (callee_of-comparison which is.path is.path_is)
-      ∙ (λ i. call_answer table (comparison which) (own_value f is.own y is.own_is at_a i ∷ others_value f is.others z is.others_is at_b i ∷ []))
+      ∙ (λ i. call_answer table (comparison which) (own_value place f is.own y is.own_is at_a i ∷ others_value place f is.others z is.others_is at_b i ∷ []))
 
   step_of-value : (which : Trait) (x : Form) → form_value scene names (step_of which x) ≡ step_flow which (form_value scene names x)
   step_of-value PartialEq x = form_value-IfReturn scene names x
@@ -213,7 +213,7 @@ module _ (d : DeriveInput) (a b : Value) (table : Answers) (param : List ℕ) (i
   last_value Ord last = refl
 
   -- the steps on fields, and what is answered where none returned
-  steps_value : (which : Trait) (ks : List Kept) (steps : List Form) (last : Thing) → AllZip (λ k step. IsStep which param k.field step) ks steps
+  steps_value : (which : Trait) (ks : List Kept) (steps : List Form) (last : Thing) → AllZip (λ k step. IsStep which param k.place k.field step) ks steps
       → AllByRecursion (IsGiven look_a) ks → AllByRecursion (IsGiven look_b) ks → AllByRecursion (λ k. IsAnswered which table (seen look_a look_b k)) ks
       → outcome_of (list_value scene names last (steps ++ form.Known (last_of which) ∷ [])) ≡ means which table (map (seen look_a look_b) ks)
   steps_value which [] [] last are given_a given_b known = last_value which last
@@ -222,7 +222,7 @@ module _ (d : DeriveInput) (a b : Value) (table : Answers) (param : List ℕ) (i
   steps_value which (k ∷ ks) (s ∷ steps) last are given_a given_b known =
       let c = seen look_a look_b k in
       let next : Thing → Flow = λ thing. list_value scene names thing (steps ++ form.Known (last_of which) ∷ []) in
-      let here = comparison_value which k.field are.0.compares c.first c.second are.0.comparison_is given_a.0 given_b.0 in
+      let here = comparison_value which k.place k.field are.0.compares c.first c.second are.0.comparison_is given_a.0 given_b.0 in
       ap (λ (x : Form). outcome_of (go_on (form_value scene names x) next)) are.0.is
       ∙ ap (λ (flow : Flow). outcome_of (go_on flow next)) (step_of-value which are.0.compares ∙ ap (step_flow which) here)
       ∙ step_case which table c (map (seen look_a look_b) ks) next known.0 (steps_value which ks steps Nothing are.1 given_a.1 given_b.1 known.1)
@@ -262,15 +262,20 @@ length_from_types all [] (x ∷ xs) h = absurd h
 length_from_types all (f ∷ fs) [] h = absurd h
 length_from_types all (f ∷ fs) (x ∷ xs) h = ap suc (length_from_types all fs xs h.1)
 
+-- as many keys as fields
+length_keys : (place : ℕ) (fs : List Field) → length (keys_from place fs) ≡ length fs
+length_keys place [] = refl
+length_keys place (f ∷ fs) = ap suc (length_keys (place + 1) fs)
+
 -- the body of a comparison evaluates to what its trait means
-pub body_evaluates : (which : Trait) (d : DeriveInput) (body : Body) → AreApart (map name_of (fields_of d)) → IsBody which d body → Evaluates which d body
-body_evaluates which d body apart k table a b covers =
+pub body_evaluates : (which : Trait) (d : DeriveInput) (body : Body) → AreDifferent (keys_of d) → IsBody which d body → Evaluates which d body
+body_evaluates which d body differ k table a b covers =
     let fs = fields_of d in
     let kept = kept_fields which d in
-    let at_a = part_of fs a.fields in
-    let at_b = part_of fs b.fields in
-    let give : (v : Value) → HaveTypes fs fs v.fields → NamesGive (part_of fs v.fields) fs v.fields =
-    λ v types. NamesGive-part_of fs v.fields apart (length_from_types fs fs v.fields types) in
+    let at_a = part_of (keys_of d) a.fields in
+    let at_b = part_of (keys_of d) b.fields in
+    let give : (v : Value) → HaveTypes fs fs v.fields → KeysGive (part_of (keys_of d) v.fields) (keys_of d) v.fields =
+    λ v types. KeysGive-part_of (keys_of d) v.fields differ (length_keys 0 fs ∙ length_from_types fs fs v.fields types) in
     let give_a = give a covers.first.fields in
     let give_b = give b covers.second.fields in
     let same : compared which d a b ≡ map (seen at_a at_b) kept = compared-seen at_a at_b which 0 fs a.fields b.fields give_a give_b in

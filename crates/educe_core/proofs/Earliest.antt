@@ -1,7 +1,7 @@
 -- Of the fields that have the rank of the one before them in the order of ranks, the one that is written first.
 use Rattle.std.proofs.Common.{◌≡◌, ◌≢◌, ℕ, zero, suc, ◌+◌, ◌<◌, ◌≤◌, ◌⊎◌, inl, inr, List, [], ◌∷◌, Option, Some, None, length, get_or, refl, sym, ap, ◌∙◌, subst, arith}
 use Rattle.std.specs.Prelude.{IfSome}
-use Rattle.educe_core.specs.declared.ranks.Ranked.{Ranked}
+use Rattle.educe_core.specs.declared.ranked.Ranked.{Ranked}
 use Rattle.educe_core.specs.Ranked.{IsNoLater}
 use Rattle.educe_core.specs.Ranks.{IsRepeatAt}
 

@@ -1,45 +1,20 @@
 -- From the fields of a definition to the blocks of its traits.
-use Rattle.std.proofs.Common.{◌≡◌, ℕ, ◌+◌, ◌<◌, Bool, true, false, List, [], ◌∷◌, ◌++◌, map, length, take, get_or, refl, sym, ap, ◌∙◌, subst}
-use Rattle.std.specs.Prelude.{if◌then◌else◌, All, IsSome}
+use Rattle.std.proofs.Common.{◌≡◌, ℕ, ◌+◌, ◌<◌, Bool, true, false, List, [], ◌∷◌, ◌++◌, length, take, get_or, refl, sym, ap, ◌∙◌, subst}
+use Rattle.std.specs.Prelude.{if◌then◌else◌}
 use Rattle.std.specs.List.{filter, AllByRecursion, AllZip}
 use Rattle.std.proofs.lemmas.List.{take_more}
-use Rattle.std.proofs.lemmas.List.Elements.{All-from_recursion}
-use Rattle.educe_syntax.specs.declared.data.Field.{Field}
-use Rattle.educe_syntax.specs.declared.derive.DeriveInput.{DeriveInput}
-use Rattle.educe_syntax.specs.declared.traits.Trait.{Trait}
-use Rattle.educe_syntax.specs.declared.traits.Trait.TheVariants.{PartialEq, PartialOrd, Ord}
-use Rattle.educe_syntax.specs.Built.{fields_of, IsNamed}
-use Rattle.educe_core.specs.declared.ranks.Ranked.{Ranked}
-use Rattle.educe_core.specs.Ranked.{kept_of}
-use Rattle.educe_core.specs.Settings.{Kept, is_kept, kept_at, kept_from, kept_fields}
+use Rattle.educe_attrs.specs.declared.traits.Trait.{Trait}
+use Rattle.educe_attrs.specs.declared.traits.Trait.TheVariants.{PartialEq, PartialOrd, Ord}
+use Rattle.educe_core.specs.Settings.{Kept}
 use Rattle.educe_core.specs.Blocks.{IsInOrder}
-use Rattle.educe_core.proofs.Elements.{each_map, each_moved}
+use Rattle.educe_core.proofs.Elements.{each_moved}
 use Rattle.educe_core.proofs.Lists.{zip_push}
-
--- ---- names
-
-abbrev HasName : Kept → Type 0
-HasName k = IsNamed k.field
-
-named_step : (which : Trait) (place : ℕ) (f : Field) (rest : List Kept) (keeps : Bool) → IsSome f.ident → AllByRecursion HasName rest → AllByRecursion HasName (if keeps then kept_at which place f ∷ rest else rest)
-named_step which place f rest true named names = (named, names)
-named_step which place f rest false named names = names
-
-kept_named : (which : Trait) (place : ℕ) (fs : List Field) → AllByRecursion IsNamed fs → AllByRecursion HasName (kept_from which place fs)
-kept_named which place [] names = tt
-kept_named which place (f ∷ fs) names = named_step which place f (kept_from which (place + 1) fs) (is_kept which f) names.0 (kept_named which (place + 1) fs names.1)
 
 -- what holds of each field that takes part holds of each in the order of the trait
 pub each_in_order : (which : Trait) (P : Kept → Type 0) (kept ordered : List Kept) → IsInOrder which kept ordered → AllByRecursion P kept → AllByRecursion P ordered
 each_in_order PartialEq P kept ordered in_order each = subst (AllByRecursion P) (sym in_order) each
 each_in_order PartialOrd P kept ordered in_order each = each_moved P kept ordered in_order.same each
 each_in_order Ord P kept ordered in_order each = each_moved P kept ordered in_order.same each
-
--- the fields that a handler goes over have names
-pub fields_named : (which : Trait) (d : DeriveInput) (fields : List Ranked) → AllByRecursion IsNamed (fields_of d) → IsInOrder which (kept_fields which d) (map kept_of fields) → All (λ (r : Ranked). IsSome r.field.now.ident) fields
-fields_named which d fields names in_order =
-    All-from_recursion (λ (r : Ranked). IsSome r.field.now.ident) fields
-    (each_map HasName kept_of fields (each_in_order which HasName (kept_fields which d) (map kept_of fields) in_order (kept_named which 0 (fields_of d) names)))
 
 -- ---- the listed traits, one after the other
 

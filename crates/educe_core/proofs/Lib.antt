@@ -6,12 +6,14 @@ pub mod Outcomes
 pub mod Elements
 pub mod Least
 pub mod Sorting
+pub mod Forms
 pub mod Kept
 pub mod Earliest
 pub mod Repeats
 pub mod Handling
 pub mod Comparisons
 pub mod Evaluating
+pub mod FieldPlaces
 pub mod Places
 pub mod Causes
 pub mod Alone

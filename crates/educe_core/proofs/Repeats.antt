@@ -6,10 +6,10 @@ use Rattle.std.specs.List.Sorted.{IsStableByKey}
 use Rattle.std.specs.Ordering.{int_cmp}
 use Rattle.std.proofs.lemmas.Int.{ints}
 use Rattle.std.proofs.lemmas.List.Sorted.{IsPermutation-map, IsPermutation-sym}
-use Rattle.educe_syntax.specs.declared.derive.DeriveInput.{DeriveInput}
-use Rattle.educe_syntax.specs.declared.traits.Trait.{Trait}
-use Rattle.educe_syntax.specs.Built.{fields_of}
-use Rattle.educe_core.specs.declared.ranks.Ranked.{Ranked}
+use Rattle.educe_tree.specs.declared.derive.DeriveInput.{DeriveInput}
+use Rattle.educe_attrs.specs.declared.traits.Trait.{Trait}
+use Rattle.educe_body.specs.Keys.{fields_of}
+use Rattle.educe_core.specs.declared.ranked.Ranked.{Ranked}
 use Rattle.educe_core.specs.Ranked.{kept_of}
 use Rattle.educe_core.specs.Ranks.{Rises, IsRepeatAt, IsEarliestRepeat}
 use Rattle.educe_core.specs.Settings.{Kept, kept_fields, rank_place, RanksDiffer, IsEarliest, ReusesARank}

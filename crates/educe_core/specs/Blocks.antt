@@ -6,14 +6,15 @@ use Rattle.educe_tokens.specs.declared.span.Span.{Span}
 use Rattle.educe_tokens.specs.declared.word.Word.{Word}
 use Rattle.educe_tokens.specs.Quote.{quoted}
 use Rattle.educe_tokens.specs.WrittenLexemes.{written_lexemes}
-use Rattle.educe_syntax.specs.declared.ident.Ident.{Ident}
-use Rattle.educe_syntax.specs.declared.path.ExprPath.{ExprPath}
-use Rattle.educe_syntax.specs.declared.data.Field.{Field}
-use Rattle.educe_syntax.specs.declared.derive.DeriveInput.{DeriveInput}
-use Rattle.educe_syntax.specs.declared.traits.Trait.{Trait}
-use Rattle.educe_syntax.specs.declared.traits.Trait.TheVariants.{PartialEq, PartialOrd, Ord}
-use Rattle.educe_syntax.specs.Built.{IsNotNamed, name_of}
-use Rattle.educe_syntax.specs.Traits.{is_listed}
+use Rattle.educe_tree.specs.declared.ident.Ident.{Ident}
+use Rattle.educe_tree.specs.declared.expr.ExprPath.{ExprPath}
+use Rattle.educe_tree.specs.declared.path.Path.{out-Path}
+use Rattle.educe_tree.specs.declared.path.Segment.{out-Segment}
+use Rattle.educe_tree.specs.declared.data.Field.{Field}
+use Rattle.educe_tree.specs.declared.derive.DeriveInput.{DeriveInput}
+use Rattle.educe_attrs.specs.declared.traits.Trait.{Trait}
+use Rattle.educe_attrs.specs.declared.traits.Trait.TheVariants.{PartialEq, PartialOrd, Ord}
+use Rattle.educe_attrs.specs.Traits.{is_listed}
 use Rattle.educe_body.specs.declared.form.Form.{Form, Reference, Call, IfReturn, MatchOrdering}
 use Rattle.educe_body.specs.declared.form.Form as form
 use Rattle.educe_body.specs.declared.form.Known.{Known}
@@ -26,7 +27,9 @@ use Rattle.educe_body.specs.declared.body.Item.TheVariants.{Impl}
 use Rattle.educe_body.specs.declared.answers.Answers.{Answers}
 use Rattle.educe_body.specs.declared.value.Value.{Value}
 use Rattle.educe_body.specs.BuiltIn.{path_lexemes, path_names}
+use Rattle.educe_body.specs.Keys.{key_of}
 use Rattle.educe_body.specs.Meaning.{Scene, value}
+use Rattle.educe_body.specs.Words.{HasWord}
 use Rattle.educe_core.specs.declared.handler_error.HandlerError.{HandlerError}
 use Rattle.educe_core.specs.declared.handler_error.HandlerError.TheVariants.{ReuseARank, Memory}
 use Rattle.educe_core.specs.Listed.{listed, listed_in_order, traits_before}
@@ -34,30 +37,30 @@ use Rattle.educe_core.specs.Ranks.{Rises}
 use Rattle.educe_core.specs.Settings.{Kept, kept_fields, RanksDiffer, ReusesARank}
 use Rattle.educe_core.specs.Comparing.{comparison, Covers, meaning}
 
--- `& base . name` for the field of that name
-pub record IsReference (base : List ℕ) (field : Field) (x : Form) : Type 0 where
+-- `& base . key` for the field at a place: the key is its name, or its place where it has none
+pub record IsReference (base : List ℕ) (place : ℕ) (field : Field) (x : Form) : Type 0 where
   pub base_name : Ident
-  pub field_name : Word
-  pub is : x ≡ Reference base_name field_name
+  pub key : Word
+  pub is : x ≡ Reference base_name key
   pub base_is : base_name.text ≡ base
-  pub field_is : field_name.text ≡ name_of field
+  pub key_is : key.text ≡ key_of place field
 
 -- the tree of a path has these names, the first one first, behind `::` and no type
 pub record HasNames (path : ExprPath) (names : List (List ℕ)) : Type 0 where
   pub unqualified : path.self_type ≡ None
-  pub leading : path.path.leading ≡ true
-  pub names_are : map (λ s. s.ident.text) path.path.segments ≡ names
+  pub leading : (out-Path path.path).leading ≡ true
+  pub names_are : map (λ s. (out-Segment s).ident.text) (out-Path path.path).segments ≡ names
 
--- `comparison ( & self . name , & other . name )`: the trait's comparison of this field of both values
-pub record IsComparison (which : Trait) (other : List ℕ) (field : Field) (x : Form) : Type 0 where
+-- `comparison ( & self . key , & other . key )`: the trait's comparison of this field of both values
+pub record IsComparison (which : Trait) (other : List ℕ) (place : ℕ) (field : Field) (x : Form) : Type 0 where
   pub path : ExprPath
   pub own : Form
   pub others : Form
   pub is : x ≡ Call path (own ∷ others ∷ [])
   pub path_is : written_lexemes path.written ≡ path_lexemes (comparison which)
   pub path_has : HasNames path (path_names (comparison which))
-  pub own_is : IsReference (codes "self") field own
-  pub others_is : IsReference other field others
+  pub own_is : IsReference (codes "self") place field own
+  pub others_is : IsReference other place field others
 
 -- what a trait does with a comparison: `eq` returns false where they differ; an order goes on where it is Equal,
 -- and else returns it
@@ -67,10 +70,10 @@ step_of PartialOrd comparison = MatchOrdering comparison true Greater Less
 step_of Ord comparison = MatchOrdering comparison false Greater Less
 
 -- the step of a trait on this field of both values and no other
-pub record IsStep (which : Trait) (other : List ℕ) (field : Field) (x : Form) : Type 0 where
+pub record IsStep (which : Trait) (other : List ℕ) (place : ℕ) (field : Field) (x : Form) : Type 0 where
   pub compares : Form
   pub is : x ≡ step_of which compares
-  pub comparison_is : IsComparison which other field compares
+  pub comparison_is : IsComparison which other place field compares
 
 -- what is answered where no step returned
 abbrev pub last_of : Trait → Known
@@ -92,16 +95,15 @@ IsInOrder Ord kept ordered = IsByRank kept ordered
 -- one step for each of these fields, and then what is answered where no step returned
 pub record HasSteps (which : Trait) (other : List ℕ) (ordered : List Kept) (block : List Form) : Type 0 where
   pub steps : List Form
-  pub steps_are : AllZip (λ k step. IsStep which other k.field step) ordered steps
+  pub steps_are : AllZip (λ k step. IsStep which other k.place k.field step) ordered steps
   pub block_is : block ≡ steps ++ form.Known (last_of which) ∷ []
 
--- the body of a comparison: its parameter is no identifier of the input, a leading `r#` aside, and its block has one step
--- for each field that takes part, in the order of the trait
+-- the body of a comparison: its parameter is no word of the input, and its block has one step for each field that takes part, in the order of the trait
 pub record IsBody (which : Trait) (definition : DeriveInput) (body : Body) : Type 0 where
   pub param : Word
   pub params_are : body.params ≡ param ∷ []
   pub param_is : param.text ≡ codes "other"
-  pub no_word : AllByRecursion (IsNotNamed param.text) definition.tokens
+  pub no_word : HasWord definition.tokens param.text → ⊥
   pub ordered : List Kept
   pub ordered_is : IsInOrder which (kept_fields which definition) ordered
   pub block_has : HasSteps which param.text ordered body.block
@@ -119,7 +121,7 @@ pub record AreFunctions (which : Trait) (definition : DeriveInput) (functions : 
   pub name_is : name.text ≡ function_name which
   pub body_is : IsBody which definition body
 
--- no cause stands for which a listed trait is refused
+-- no cause stands for which the trait is refused: where it is an order, no two fields that take part have one rank
 abbrev pub HasNoCause : Trait → DeriveInput → Type 0
 HasNoCause PartialEq definition = Unit {0}
 HasNoCause PartialOrd definition = RanksDiffer PartialOrd definition
@@ -141,7 +143,7 @@ IsTraitCause PartialEq definition e = IsMemory e
 IsTraitCause PartialOrd definition e = IsRankCause PartialOrd definition e
 IsTraitCause Ord definition e = IsRankCause Ord definition e
 
--- no cause stands for which a listed trait is refused
+-- so for each listed trait
 abbrev pub HasNoCauses : DeriveInput → Type 0
 HasNoCauses definition = AllByRecursion (λ which. HasNoCause which definition) (listed_in_order definition)
 

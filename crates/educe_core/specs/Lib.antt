@@ -2,6 +2,8 @@ pub mod Ranks
 pub mod Settings
 pub mod Ranked
 pub mod Listed
+pub mod Built
+pub mod Model
 pub mod Comparing
 pub mod Blocks
 pub mod Headline

@@ -1,6 +1,6 @@
 -- The fields that a handler goes over.
 use Rattle.std.specs.Prelude.{ℕ, ◌+◌, ◌≤◌, List, slice_index_or}
-use Rattle.educe_core.specs.declared.ranks.Ranked.{Ranked}
+use Rattle.educe_core.specs.declared.ranked.Ranked.{Ranked}
 use Rattle.educe_core.specs.Settings.{Kept}
 
 -- the field behind the reference, its place and its rank

@@ -2,47 +2,44 @@
 use Rattle.std.specs.Prelude.{ℕ, ℤ, pos, ◌-ℤ◌, ◌+◌, ◌^◌, ◌<◌, ◌≤◌, ◌≡◌, Bool, true, not, List, [], ◌∷◌, Option, Some, None, if◌then◌else◌, unwrap_or, option_and_then}
 use Rattle.std.specs.List.{Contains}
 use Rattle.educe_tokens.specs.declared.span.Span.{Span}
-use Rattle.educe_tokens.specs.declared.token.Token.{Token}
-use Rattle.educe_syntax.specs.declared.attr.Attribute.{Attribute}
-use Rattle.educe_syntax.specs.declared.attr.Meta.{Meta}
-use Rattle.educe_syntax.specs.declared.attr.Meta.TheVariants as meta
-use Rattle.educe_syntax.specs.declared.data.Field.{Field}
-use Rattle.educe_syntax.specs.declared.derive.DeriveInput.{DeriveInput}
-use Rattle.educe_syntax.specs.declared.traits.Trait.{Trait}
-use Rattle.educe_syntax.specs.declared.traits.Trait.TheVariants.{PartialEq, PartialOrd, Ord}
-use Rattle.educe_syntax.specs.Built.{fields_of}
-use Rattle.educe_syntax.specs.Settings.{params_of, ignores, rank_in, rank_span_in}
+use Rattle.educe_tree.specs.declared.data.Field.{Field}
+use Rattle.educe_tree.specs.declared.derive.DeriveInput.{DeriveInput}
+use Rattle.educe_attrs.specs.declared.param.Param.{Param}
+use Rattle.educe_attrs.specs.declared.setting.Setting.{Setting}
+use Rattle.educe_attrs.specs.declared.traits.Trait.{Trait}
+use Rattle.educe_attrs.specs.declared.traits.Trait.TheVariants.{PartialEq, PartialOrd, Ord}
+use Rattle.educe_attrs.specs.Params.{ignores, rank_in, rank_span_in}
+use Rattle.educe_attrs.specs.Said.{settings_by}
+use Rattle.educe_attrs.specs.Settings.{params_of}
+use Rattle.educe_body.specs.Keys.{fields_of}
 use Rattle.educe_core.specs.Ranks.{AreRanksApart}
 
--- the brackets of an attribute and what stands in them
-abbrev pub bracketed : Meta → List Token
-bracketed (meta.List path written span) = written.tokens
+-- ---- settings
+
+-- the settings of a field; none where an attribute may not stand there
+unfoldable pub settings_of : Field → List Setting
+settings_of field = unwrap_or (settings_by field.attrs) []
 
 -- the first, or else the second
-abbrev pub or_else : Option (List Token) → Option (List Token) → Option (List Token)
+abbrev pub or_else : Option (List Param) → Option (List Param) → Option (List Param)
 or_else None second = second
 or_else (Some first) second = Some first
 
--- the parameters behind the trait's name in the first attribute that has it
-abbrev pub own_params : Trait → List Attribute → Option (List Token)
-own_params which [] = None
-own_params which (a ∷ more) = or_else (params_of which (bracketed a.meta)) (own_params which more)
+-- where there is no setting of the trait: each of the two orders takes that of the other one
+abbrev pub other_params : Trait → List Setting → Option (List Param)
+other_params PartialEq settings = None
+other_params PartialOrd settings = params_of Ord settings
+other_params Ord settings = params_of PartialOrd settings
 
--- where a field has no attribute of the trait: each of the two orders takes the settings of the other one
-abbrev pub other_params : Trait → List Attribute → Option (List Token)
-other_params PartialEq attributes = None
-other_params PartialOrd attributes = own_params Ord attributes
-other_params Ord attributes = own_params PartialOrd attributes
+-- the parameters that are set for a trait
+unfoldable pub params_among : Trait → List Setting → Option (List Param)
+params_among which settings = or_else (params_of which settings) (other_params which settings)
 
--- the parameters by which a field is set for a trait
-unfoldable pub params_for : Trait → Field → Option (List Token)
-params_for which field = or_else (own_params which field.attrs) (other_params which field.attrs)
-
--- the field takes part in the trait
-abbrev pub is_kept : Trait → Field → Bool
-is_kept which field = kept_by (params_for which field)
+-- by these settings a field takes part in the trait
+abbrev pub keeps : Trait → List Setting → Bool
+keeps which settings = kept_by (params_among which settings)
   where
-    kept_by : Option (List Token) → Bool
+    kept_by : Option (List Param) → Bool
     kept_by None = true
     kept_by (Some params) = not (ignores params)
 
@@ -50,13 +47,27 @@ is_kept which field = kept_by (params_for which field)
 abbrev pub default_rank : ℕ → ℤ
 default_rank place = pos place -ℤ pos (2 ^ 63)
 
+-- the rank that these settings give at a place, or else the default one
+abbrev pub rank_by : Trait → ℕ → List Setting → ℤ
+rank_by which place settings = unwrap_or (option_and_then rank_in (params_among which settings)) (default_rank place)
+
+-- where these settings give the rank, or else the other place
+abbrev pub rank_place_by : Trait → List Setting → Span → Span
+rank_place_by which settings other = unwrap_or (option_and_then rank_span_in (params_among which settings)) other
+
+-- ---- fields
+
+-- the field takes part in the trait
+abbrev pub is_kept : Trait → Field → Bool
+is_kept which field = keeps which (settings_of field)
+
 -- the rank that is set, or else the default one
 abbrev pub rank_of : Trait → ℕ → Field → ℤ
-rank_of which place field = unwrap_or (option_and_then rank_in (params_for which field)) (default_rank place)
+rank_of which place field = rank_by which place (settings_of field)
 
 -- where the rank stands: the parameter, or the field where it has none
 abbrev pub rank_place : Trait → Field → Span
-rank_place which field = unwrap_or (option_and_then rank_span_in (params_for which field)) field.span
+rank_place which field = rank_place_by which (settings_of field) field.span
 
 -- a field that takes part, its place among all fields, counted from 0, and its rank
 pub record Kept : Type 0 where

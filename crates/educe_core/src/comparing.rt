@@ -1,24 +1,25 @@
 //! The blocks of the traits that compare two values.
-ghost use Rattle.std.specs.Prelude.{◌≡◌, [], ◌∷◌, IfOk, IsTrue, IsSome, All, codes, map};
+ghost use Rattle.std.specs.Prelude.{◌≡◌, [], ◌∷◌, IfOk, IsTrue, codes, map};
 ghost use Rattle.educe_tokens.specs.Quote.{is_ascii_name};
-ghost use Rattle.educe_syntax.specs.Built.{fields_of, IsBuilt};
-ghost use Rattle.educe_core.specs.declared.ranks.Ranked.{Ranked};
+ghost use Rattle.educe_body.specs.Words.{HasWord};
+ghost use Rattle.educe_core.specs.declared.ranked.Ranked.{Ranked};
 ghost use Rattle.educe_core.specs.Ranked.{kept_of};
 ghost use Rattle.educe_core.specs.Settings as settings;
 ghost use Rattle.educe_core.specs.Comparing as meaning;
 ghost use Rattle.educe_core.specs.Blocks as spec;
 
-use crate::ranks::Ranked;
+use crate::ranked::Ranked;
+use educe_attrs::Trait;
 use educe_body::{
-    Body, Callee, Form, Forms, Function, Functions, ImplItem, Item, Known, built_in_path,
+    Body, Callee, Form, Forms, Function, Functions, ImplItem, Item, Known, built_in_path, key_word,
 };
-use educe_syntax::{DeriveInput, Field, Ident, Trait};
 use educe_tokens::{Boxed, Seq, Word, Written};
+use educe_tree::{DeriveInput, Duplicate, Field, Ident};
 use std::alloc::{AllocError, Global};
 use std::cmp::Ordering;
 
 /// The name that generated code gives the second value.
-const OTHER: &str = "other";
+pub const OTHER: &str = "other";
 
 /// The function by which a trait compares two values of a field.
 fn comparison(which: Trait) -> Callee
@@ -31,29 +32,24 @@ fn comparison(which: Trait) -> Callee
     }
 }
 
-/// `&base.field`, of the field's own name.
-fn reference(alloc: Global, base: &str, field: &Field) -> Result<Form, AllocError>
+/// `&base.key`, for the field at a place.
+fn reference(alloc: Global, base: &str, place: usize, field: &Field) -> Result<Form, AllocError>
     requires base { IsTrue (is_ascii_name base.now) }
-    requires named { IsSome field.now.ident }
-    ensures { IfOk result (spec.IsReference base.now field.now) }
+    ensures { IfOk result (spec.IsReference base.now place field.now) }
 {
     let base = Ident::from_name(alloc, base)?;
-    let name = match &field.ident {
-        Some(ident) => Word::new(ident.text.duplicate(alloc)?),
-        None => unreachable!(),
-    };
-    Ok(Form::Reference(base, name))
+    let key = key_word(alloc, place, field)?;
+    Ok(Form::Reference(base, key))
 }
 
-/// `comparison(&self.field, &other.field)`
-fn compared(alloc: Global, which: Trait, field: &Field) -> Result<Form, AllocError>
-    requires { IsSome field.now.ident }
-    ensures { IfOk result (spec.IsComparison which (codes "other") field.now) }
+/// `comparison(&self.key, &other.key)`
+fn compared(alloc: Global, which: Trait, place: usize, field: &Field) -> Result<Form, AllocError>
+    ensures { IfOk result (spec.IsComparison which (codes "other") place field.now) }
 {
     let path = built_in_path(alloc, &comparison(which))?;
     let mut arguments = Seq::new(alloc);
-    arguments.push(reference(alloc, "self", field)?)?;
-    arguments.push(reference(alloc, OTHER, field)?)?;
+    arguments.push(reference(alloc, "self", place, field)?)?;
+    arguments.push(reference(alloc, OTHER, place, field)?)?;
     Ok(Form::Call(path, arguments))
 }
 
@@ -70,12 +66,11 @@ fn step_of(which: Trait, comparison: Boxed<Form>) -> Form
     }
 }
 
-/// The step of a trait on a field.
-fn step(alloc: Global, which: Trait, field: &Field) -> Result<Form, AllocError>
-    requires { IsSome field.now.ident }
-    ensures { IfOk result (spec.IsStep which (codes "other") field.now) }
+/// The step of a trait on the field at a place.
+fn step(alloc: Global, which: Trait, place: usize, field: &Field) -> Result<Form, AllocError>
+    ensures { IfOk result (spec.IsStep which (codes "other") place field.now) }
 {
-    let comparison = compared(alloc, which, field)?;
+    let comparison = compared(alloc, which, place, field)?;
     Ok(step_of(which, Boxed::new(alloc, comparison)?))
 }
 
@@ -92,12 +87,11 @@ fn last_of(which: Trait) -> Known
 
 /// A step for each field, and then what is answered where none returned.
 fn steps(alloc: Global, which: Trait, fields: &[Ranked<'_>]) -> Result<Forms, AllocError>
-    requires { All (λ (f : Ranked). IsSome f.field.now.ident) fields.now }
     ensures { IfOk result (spec.HasSteps which (codes "other") (map kept_of fields.now)) }
 {
     let mut block = Seq::new(alloc);
     for ranked in fields {
-        block.push(step(alloc, which, ranked.field)?)?;
+        block.push(step(alloc, which, ranked.place, ranked.field)?)?;
     }
     block.push(Form::Known(last_of(which)))?;
     Ok(block)
@@ -110,8 +104,7 @@ fn body(
     ast: &DeriveInput,
     fields: &[Ranked<'_>],
 ) -> Result<Body, AllocError>
-    requires built { IsBuilt ast.now }
-    requires named { All (λ (f : Ranked). IsSome f.field.now.ident) fields.now }
+    requires no_other { HasWord ast.now.tokens (codes "other") → ⊥ }
     requires in_order { spec.IsInOrder which (settings.kept_fields which ast.now) (map kept_of fields.now) }
     ensures { IfOk result (spec.IsBody which ast.now) }
 {
@@ -149,8 +142,7 @@ pub fn comparison_block(
     ast: &DeriveInput,
     fields: &[Ranked<'_>],
 ) -> Result<Item, AllocError>
-    requires built { IsBuilt ast.now }
-    requires named { All (λ (f : Ranked). IsSome f.field.now.ident) fields.now }
+    requires no_other { HasWord ast.now.tokens (codes "other") → ⊥ }
     requires in_order { spec.IsInOrder which (settings.kept_fields which ast.now) (map kept_of fields.now) }
     ensures { IfOk result (spec.IsBlock which ast.now) }
 {

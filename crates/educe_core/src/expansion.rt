@@ -1,15 +1,16 @@
 //! From the text of a definition to the text of its impls.
-ghost use Rattle.std.specs.Prelude.{◌≡◌, ◌≢◌, ◌≤◌, length, map, chars, IfOk, IfErr, IsCharBoundary};
-ghost use Rattle.educe_syntax.specs.declared.derive.DeriveInput.{DeriveInput};
-ghost use Rattle.educe_syntax.specs.Built.{IsDefinition, AreApart, fields_of, name_of};
+ghost use Rattle.std.specs.Prelude.{◌≡◌, ◌≢◌, ◌≤◌, length, chars, IfOk, IfErr, IsCharBoundary};
+ghost use Rattle.educe_tree.specs.declared.derive.DeriveInput.{DeriveInput};
+ghost use Rattle.educe_grammar.specs.Parsed.{IsOnly};
 ghost use Rattle.educe_tokens.specs.Message.{HasWords};
 ghost use Rattle.educe_core.specs.Headline.{Defines, IsExpansion, IsCause, IsValid};
 ghost use Rattle.educe_core.specs.Expansion.{text_of_expansion, items_of_expansion};
 
 use crate::handler::derive_input_handler;
 use educe_body::{Items, spell};
-use educe_syntax::{DeriveInput, parse_derive_input};
-use educe_tokens::{EduceError, Kind, SOURCE_LIMIT, lex};
+use educe_parser::parse_derive_input;
+use educe_tokens::{EduceError, Kind, SOURCE_LIMIT, TokenSlice, lex};
+use educe_tree::DeriveInput;
 use std::alloc::Global;
 
 /// The impls of a definition, as text.
@@ -37,28 +38,28 @@ impl Expansion {
     }
 }
 
-/// The definition that a source is, where it is of the form that is built so far and its fields
-/// have names that are apart.
+/// The definition that a source is, within the limits, where its names are apart.
 fn read(alloc: Global, source: &str) -> Result<DeriveInput, EduceError>
     requires { length source.now ≤ SOURCE_LIMIT }
     ensures defines { IfOk result (Defines (chars source.now)) }
-    ensures apart { IfOk result (λ found. AreApart (map name_of (fields_of found))) }
     ensures cause { IfErr result (IsCause source.now) }
-    // There is no other definition, and where the names are apart no other refusal.
-    ensures once { IfOk result (λ found. (definition : DeriveInput) →
-        Defines (chars source.now) definition → found ≡ definition) }
+    // There is no other definition, and where there is one no other refusal.
     ensures only { (definition : DeriveInput) → Defines (chars source.now) definition →
-        AreApart (map name_of (fields_of definition)) → IsDefinition definition result }
+        IsOnly definition result }
 {
-    match lex(alloc, source) {
+    let tokens = match lex(alloc, source) {
+        Ok(tokens) => tokens,
+        Err(lexical) => return Err(lexical),
+    };
+    match TokenSlice::new(alloc, tokens) {
         Ok(tokens) => parse_derive_input(alloc, &tokens),
-        Err(error) => Err(error),
+        Err(_) => Err(EduceError::alloc(alloc)),
     }
 }
 
 /// The expansion of a definition with `educe` attributes. Refused where the source does not lex, is
-/// no definition of the form that is built so far, lists no trait, gives two fields one name, or two
-/// fields that take part in an order one rank.
+/// no definition within the limits, gives a name twice, is not of the form that is built so far, lists
+/// no trait, or gives two fields that take part in an order one rank.
 pub fn expand(alloc: Global, source: &str) -> Result<Expansion, EduceError>
     requires { length source.now ≤ SOURCE_LIMIT }
     ensures done { IfOk result (λ e.
@@ -77,7 +78,7 @@ pub fn expand(alloc: Global, source: &str) -> Result<Expansion, EduceError>
 {
     let ast = match read(alloc, source) {
         Ok(ast) => ast,
-        Err(error) => return Err(error),
+        Err(unread) => return Err(unread),
     };
     let items = match derive_input_handler(alloc, &ast) {
         Ok(items) => items,

@@ -1,14 +1,15 @@
 //! The derive compiler's top: what a definition is expanded to, and the command that runs it.
 #![tactic(auto)]
 
+mod built;
 mod comparing;
 mod devices;
 mod expansion;
 mod handler;
 mod handler_error;
-mod listed;
 mod memory;
 mod program;
+mod ranked;
 mod ranks;
 mod reading;
 mod refusing;

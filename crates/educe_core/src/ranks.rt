@@ -1,39 +1,43 @@
 //! The fields that take part in a trait, and their ranks.
 ghost use Rattle.std.specs.Prelude.{◌≡◌, ◌+◌, ◌<◌, ◌⊎◌, length, map, Some, IfOk, IfErr, IfSome, IfNone};
+ghost use Rattle.educe_body.specs.Keys.{fields_of};
 ghost use Rattle.educe_core.specs.Ranks.{NeighboursDiffer, IsRepeatAt, IsEarliestRepeat};
 ghost use Rattle.educe_core.specs.Settings as spec;
+ghost use Rattle.educe_core.specs.Settings.{settings_of};
 ghost use Rattle.educe_core.specs.Ranked.{kept_of, IsNoLater};
 ghost use Rattle.educe_core.specs.Blocks.{IsByRank, IsRankCause};
-ghost use Rattle.educe_core.specs.declared.ranks.Ranked.{Ranked};
+ghost use Rattle.educe_core.specs.declared.ranked.Ranked.{Ranked};
 ghost use Rattle.educe_core.specs.declared.handler_error.HandlerError.TheVariants.{ReuseARank};
 
+use crate::built::fields_of;
 use crate::handler_error::HandlerError;
+use crate::ranked::Ranked;
 use crate::settings::{is_kept, rank_of, rank_place};
-use educe_syntax::{DeriveInput, Field, Trait};
+use educe_attrs::{Settings, Trait};
+use educe_tree::DeriveInput;
 use std::alloc::{AllocError, Global};
-
-/// A field that takes part in a trait, its place among all fields, counted from 0, and its rank.
-#[derive(Clone, Copy)]
-pub struct Ranked<'a> {
-    pub field: &'a Field,
-    pub place: usize,
-    pub rank: i64,
-}
 
 /// The fields that take part in a trait, in written order.
 pub fn kept_fields<'a>(
     alloc: Global,
     which: Trait,
     ast: &'a DeriveInput,
+    settings: &'a [Settings],
 ) -> Result<Vec<Ranked<'a>>, AllocError>
+    requires { settings.now ≡ map settings_of (fields_of ast.now) }
     ensures { IfOk result (λ kept. map kept_of kept.items ≡ spec.kept_fields which ast.now) }
 {
-    let fields = ast.fields().as_slice();
     let mut kept = Vec::new(alloc);
-    for (place, field) in fields.iter().enumerate() {
-        if is_kept(which, field) {
-            let rank = rank_of(which, place, field);
-            kept.push(Ranked { field, place, rank })?;
+    for (place, field) in fields_of(ast).iter().enumerate() {
+        let settings = settings[place].as_slice();
+        if is_kept(which, settings) {
+            let rank = rank_of(which, place, settings);
+            kept.push(Ranked {
+                field,
+                settings,
+                place,
+                rank,
+            })?;
         }
     }
     Ok(kept)
@@ -75,7 +79,7 @@ fn reuse(which: Trait, later: &Ranked<'_>) -> HandlerError
 {
     HandlerError::ReuseARank {
         rank: later.rank,
-        place: rank_place(which, later.field),
+        place: rank_place(which, later.settings, later.field.span),
     }
 }
 
@@ -85,13 +89,15 @@ pub fn by_rank<'a>(
     alloc: Global,
     which: Trait,
     ast: &'a DeriveInput,
+    settings: &'a [Settings],
 ) -> Result<Vec<Ranked<'a>>, HandlerError>
+    requires { settings.now ≡ map settings_of (fields_of ast.now) }
     ensures sorted { IfOk result (λ sorted.
         IsByRank (spec.kept_fields which ast.now) (map kept_of sorted.items)) }
     ensures apart { IfOk result (λ _. spec.RanksDiffer which ast.now) }
     ensures err { IfErr result (IsRankCause which ast.now) }
 {
-    let mut sorted = kept_fields(alloc, which, ast)?;
+    let mut sorted = kept_fields(alloc, which, ast, settings)?;
     sorted.sort_by_key(|field| field.rank)?;
     match repeat_at(&sorted) {
         Some(at) => Err(reuse(which, &sorted[at + 1])),

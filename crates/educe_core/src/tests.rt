@@ -3,8 +3,9 @@ ghost use Rattle.std.specs.Prelude.{◌≤◌, length};
 
 use super::*;
 use educe_body::{Answer, Answers, Callee, FieldValue, Item, Outcome, Row, Scope, Value, eval};
-use educe_syntax::{DeriveInput, parse_derive_input};
-use educe_tokens::{SOURCE_LIMIT, Seq, lex};
+use educe_parser::parse_derive_input;
+use educe_tokens::{SOURCE_LIMIT, Seq, TokenSlice, lex};
+use educe_tree::DeriveInput;
 use std::alloc::Global;
 use std::cmp::Ordering;
 use std::process::Abort;
@@ -82,9 +83,63 @@ fn refusals_have_a_line(rt: HostRuntime) -> Result<(), Fail> {
     let not_set_up =
         "1:1: you are using `Educe` in the `derive` attribute, but it has not been set up yet\n";
     let not_built = "1:1: not built yet\n";
-    let cases: [(&[u8], &str); 18] = [
+    let cases: [(&[u8], &str); 36] = [
         (b"struct S { f1: u8 }", not_set_up),
-        (b"", not_built),
+        (b"", "1:1: syntax error\n"),
+        (
+            b"struct S<T, T>;",
+            "1:13: the name `T` is defined more than once\n",
+        ),
+        (b"struct S { a: impl X }", "1:15: syntax error\n"),
+        (b"union U { a: u8 }", "1:1: `union` is not supported\n"),
+        (
+            b"#[educe(Clone)] union U { a: u8 }",
+            "1:17: `union` is not supported\n",
+        ),
+        (
+            b"#[educe(Clone)] struct S { a: u8, r#a: u8 }",
+            "1:35: the name `r#a` is defined more than once\n",
+        ),
+        (b"union U { a: impl X }", "1:1: `union` is not supported\n"),
+        (
+            b"#[educe(PartialEq)] /** the other one */ struct S { a: u8 }",
+            not_built,
+        ),
+        (b"#[educe(PartialEq)] struct S<T> { a: T }", not_built),
+        (
+            b"#[educe(PartialEq)] struct S where u8: Copy { a: u8 }",
+            not_built,
+        ),
+        (
+            b"#[educe(PartialEq)] struct S<T> { a: impl X }",
+            "1:38: syntax error\n",
+        ),
+        (
+            b"#[educe(PartialEq, PartialEq)] struct S { a: u8 }",
+            not_built,
+        ),
+        (
+            b"#[educe(PartialEq)] #[repr(C)] struct S { a: u8 }",
+            not_built,
+        ),
+        (
+            b"#[educe(PartialEq)] struct S { #[educe(PartialEq(ignore), PartialEq(ignore))] a: u8 }",
+            not_built,
+        ),
+        (b"#[educe(Other)] struct S { a: u8 }", not_built),
+        (
+            b"#[educe(PartialEq)] struct S { a: u8 } struct",
+            "1:40: syntax error\n",
+        ),
+        (
+            b"#[educe(PartialEq)] struct S { a: 'other }",
+            "1:35: syntax error\n",
+        ),
+        (b"#[educe(PartialEq)] struct S { a: &'other u8 }", not_built),
+        (
+            b"#[educe(PartialEq)] struct S { #[note = \"an other\"] a: u8 }",
+            not_built,
+        ),
         (b"#[educe(PartialEq)] struct S { other: u8 }", not_built),
         (b"#[educe()] struct S { a: u8 }", not_set_up),
         (
@@ -111,7 +166,7 @@ fn refusals_have_a_line(rt: HostRuntime) -> Result<(), Fail> {
         ),
         (b"struct S { r#other: u8 }", not_built),
         (b"struct S { a: r#other }", not_built),
-        (b"struct fn { a: u8 }", not_built),
+        (b"struct fn { a: u8 }", "1:8: syntax error\n"),
         (
             b"#[educe(Ord)] struct S { #[educe(Ord(rank = 1.5))] a: u8 }",
             "1:45: `1.5` is not supported\n",
@@ -133,6 +188,63 @@ fn refusals_have_a_line(rt: HostRuntime) -> Result<(), Fail> {
         Case::of(input, 1, "", notes).check(&rt, rt.alloc())?;
     }
     Ok(())
+}
+
+#[test]
+fn fields_without_names_are_read_by_their_places(rt: HostRuntime) -> Result<(), Fail> {
+    let input = b"#[educe(PartialEq)] struct S(u8, Vec<u8>);";
+    let text =
+        "# [ automatically_derived ] impl :: core :: cmp :: PartialEq for S { fn eq ( & self , other : & Self ) -> :: core :: primitive :: bool { if :: core :: cmp :: PartialEq :: ne ( & self . 0 , & other . 0 ) { return false ; } if :: core :: cmp :: PartialEq :: ne ( & self . 1 , & other . 1 ) { return false ; } true } }\n";
+    Case::of(input, 0, text, "").check(&rt, rt.alloc())
+}
+
+#[test]
+fn a_struct_without_fields_is_equal(rt: HostRuntime) -> Result<(), Fail> {
+    let text =
+        "# [ automatically_derived ] impl :: core :: cmp :: PartialEq for S { fn eq ( & self , other : & Self ) -> :: core :: primitive :: bool { true } }\n";
+    Case::of(b"#[educe(PartialEq)] struct S;", 0, text, "").check(&rt, rt.alloc())
+}
+
+#[test]
+fn other_attributes_are_left_unread(rt: HostRuntime) -> Result<(), Fail> {
+    let inputs: [&[u8]; 5] = [
+        b"#[derive(Debug)] #[educe(PartialEq)] struct S { a: u8 }",
+        b"#[educe[PartialEq]] struct S { a: u8 }",
+        b"/// one more\n#[educe(PartialEq)] struct S { a: u8 }",
+        b"#[educe(PartialEq)] struct S { #[serde(rename = \"b\")] #[doc(hidden)] #[inline] a: u8 }",
+        b"#[educe(PartialEq)] pub(crate) struct S { pub a: [<u8 as X<{ 1 + 1 }>>::Y; 3] }",
+    ];
+    for input in inputs {
+        Case::of(input, 0, ONE_FIELD, "").check(&rt, rt.alloc())?;
+    }
+    Ok(())
+}
+
+#[test]
+fn types_nest_so_far(rt: HostRuntime) -> Result<(), Fail> {
+    let alloc = rt.alloc();
+    let mut input = String::from_str(alloc, "#[educe(PartialEq)] struct S(")?;
+    for _ in 0..127 {
+        input.push_str("&")?;
+    }
+    input.push_str("u8);")?;
+    let found = notes_of(&rt, alloc, input.as_bytes())?;
+    assert_eq!(rt; found.bytes(), "".as_bytes());
+    let mut deeper = String::from_str(alloc, "#[educe(PartialEq)] struct S(")?;
+    for _ in 0..128 {
+        deeper.push_str("&")?;
+    }
+    deeper.push_str("u8);")?;
+    let found = notes_of(&rt, alloc, deeper.as_bytes())?;
+    assert_eq!(rt; found.bytes(), "1:157: nested too deeply\n".as_bytes());
+    Ok(())
+}
+
+#[test]
+fn blanks_alone_are_no_definition(rt: HostRuntime) -> Result<(), Fail> {
+    let alloc = rt.alloc();
+    let spaces = vec![in alloc; b' '; 131_072]?;
+    Case::of(&spaces, 1, "", "1:1: syntax error\n").check(&rt, alloc)
 }
 
 /// The notes of a run of `expand`, which are empty exactly where it ends with 0.
@@ -272,7 +384,9 @@ fn evaluated(
     requires { length source.now ≤ SOURCE_LIMIT }
 {
     let tokens = lex(alloc, source).ok().ok_or("lex")?;
-    let ast = parse_derive_input(alloc, &tokens).ok().ok_or("parse")?;
+    let ast = parse_derive_input(alloc, &TokenSlice::new(alloc, tokens)?)
+        .ok()
+        .ok_or("parse")?;
     let expansion = expand(alloc, source).ok().ok_or("expand")?;
     let Some(Item::Impl(item)) = expansion.items().get(index) else {
         return Err(Fail::from("no item"));

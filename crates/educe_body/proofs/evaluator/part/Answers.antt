@@ -1,12 +1,15 @@
-use Rattle.std.proofs.Common.{◌∙◌, sym, ap, add-one}
-use Rattle.educe_syntax.specs.declared.data.Field.{Field}
-use Rattle.educe_syntax.specs.Built.{name_of}
+use Rattle.std.proofs.Common.{◌∙◌, ◌+◌, drop, refl, sym, ap, add-one, arith}
 use Rattle.std.specs.Str.{bytes_eq}
+use Rattle.educe_tree.specs.declared.data.Field.{Field}
+use Rattle.educe_body.specs.Keys.{key_of, keys_from}
+use Rattle.educe_body.specs.Meaning.{part_of}
 use Rattle.educe_body.proofs.Steps.{part_of-drop}
 use Rattle.educe_body.proofs.evaluator.part.Goals as goal
 
 pub loop-i-preserved : goal.loop-i-preserved
 loop-i-preserved c =
-    let name = c.args.name.now in
-    let differs = ap (λ (f : Field). bytes_eq (name_of f) name) (sym c.index-fields-i.is) ∙ sym c.is_named.ensures ∙ c.if-is_named.false in
-    rw add-one (part_of-drop c.args.fields.now c.args.values.now name c.loop-i.i c.index-fields-i.result c.loop-i-test.true differs ∙ c.loop-i.invariant)
+    let key = c.args.key.now in
+    let i = c.loop-i.i in
+    let differs = ap (λ (f : Field). bytes_eq (key_of i f) key) (sym c.index-fields-i.is) ∙ sym c.has_key.ensures ∙ c.if-has_key.false in
+    ap (λ n. part_of (keys_from (i + 1) (drop n c.args.fields.now)) (drop n c.args.values.now) key) (add-one i)
+    ∙ part_of-drop c.args.fields.now c.args.values.now key 0 i i (i + 1) c.index-fields-i.result (omega arith) refl c.loop-i-test.true differs ∙ c.loop-i.invariant

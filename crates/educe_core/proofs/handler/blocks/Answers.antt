@@ -1,8 +1,8 @@
 use Rattle.std.proofs.Common.{◌≡◌, Bool, true, false, List, get_or, refl, sym, ap, ◌∙◌}
-use Rattle.educe_syntax.specs.declared.traits.Trait.{Trait}
-use Rattle.educe_syntax.specs.declared.traits.Trait.TheVariants.{PartialEq}
+use Rattle.educe_attrs.specs.declared.traits.Trait.{Trait}
+use Rattle.educe_attrs.specs.declared.traits.Trait.TheVariants.{PartialEq}
 use Rattle.educe_body.specs.declared.body.Item.{Item}
-use Rattle.educe_syntax.specs.Traits.{is_listed}
+use Rattle.educe_attrs.specs.Traits.{is_listed}
 use Rattle.educe_core.specs.Listed.{listed, fixed_order}
 use Rattle.educe_core.specs.Blocks.{IsBlock, HasNoCause}
 use Rattle.educe_core.proofs.Handling.{zip_passed, zip_skipped, each_passed, each_skipped}
@@ -18,7 +18,7 @@ loop-which-preserved c =
     let Block : Trait → Item → Type 0 = λ which item. IsBlock which ast item in
     let Uncaused : Trait → Type 0 = λ which. HasNoCause which ast in
     let before = c.loop-which.items in
-    let asked : c.is_listed.result ≡ passes which = c.is_listed.ensures ∙ ap (λ (traits : List Trait). is_listed traits which) c.requires.listed in
+    let asked : c.is_listed.result ≡ passes which = c.is_listed.ensures ∙ ap (λ (traits : List Trait). is_listed traits which) (c.as_slice.ensures ∙ c.requires.traits_are) in
     elim c.if-is_listed.branch [
       | then-is_listed+in_ok-block+in_ok-push w ↦ (
           let lists : passes which ≡ true = sym asked ∙ w.if-is_listed.true in

@@ -1,25 +1,16 @@
-use Rattle.std.proofs.Common.{rules, sym, ◌∙◌}
-use Rattle.educe_core.specs.Listed.{listed_in_order}
-use Rattle.educe_syntax.proofs.Repeated.{read_named}
-use Rattle.educe_core.proofs.Evaluating.{blocks_evaluate}
-use Rattle.educe_core.proofs.Causes.{handler_memory, handler_not_set_up, handler_reuse, nothing}
+use Rattle.std.proofs.Common.{arith}
+use Rattle.educe_body.proofs.Apart.{keys_of-differ}
+use Rattle.educe_core.proofs.Causes.{handler_memory, handler_unbuilt}
+use Rattle.educe_core.proofs.Evaluating.{results_evaluate}
 use Rattle.educe_core.proofs.handler.derive_input_handler.Goals as goal
 
-pub blocks-requires-clause-named : goal.blocks-requires-clause-named
-blocks-requires-clause-named c = read_named c.args.ast.now.tokens c.args.ast.now c.requires.reads
+pub returns-in-Ok-Some-clause-evaluates : goal.returns-in-Ok-Some-clause-evaluates
+returns-in-Ok-Some-clause-evaluates c = λ apart.
+    let model = rw c.in-Ok-Some.field-0-is at c.in-Ok-Some.ensures.some in
+    results_evaluate c.args.ast.now c.items_of.result (keys_of-differ c.args.ast.now apart (omega (arith, model.few))) c.items_of.ensures.one_each
 
-pub returns-in-Ok-blocks-clause-evaluates : goal.returns-in-Ok-blocks-clause-evaluates
-returns-in-Ok-blocks-clause-evaluates c =
-    blocks_evaluate c.args.ast.now (listed_in_order c.args.ast.now) c.in-Ok-blocks.items c.requires.apart c.in-Ok-blocks.ensures.ok
+pub returns-in-Ok-None-clause-err : goal.returns-in-Ok-None-clause-err
+returns-in-Ok-None-clause-err c = handler_unbuilt c.args.ast.now c.new.result c.new.ensures (rw c.in-Ok-None.field-0-is at c.in-Ok-None.ensures.none)
 
-pub returns-in_default-clause-err : goal.returns-in_default-clause-err
-returns-in_default-clause-err c = handler_memory c.args.ast.now c.alloc.result c.alloc.ensures
-
-pub returns-then-is_empty-clause-err : goal.returns-then-is_empty-clause-err
-returns-then-is_empty-clause-err c = handler_not_set_up c.args.ast.now c.new.result (search rules) (sym c.in-Ok.ensures ∙ sym c.as_slice.ensures ∙ nothing c.as_slice.result.now (sym c.is_empty.ensures ∙ c.if-is_empty.true))
-
-pub returns-in-Err-ReuseARank-clause-err : goal.returns-in-Err-ReuseARank-clause-err
-returns-in-Err-ReuseARank-clause-err c = handler_reuse c.args.ast.now c.new-in-Err-ReuseARank.result c.in-Err-ReuseARank.rank c.in-Err-ReuseARank.place (search rules) (rw c.in-Err-ReuseARank.field-0-is at c.in-Err-ReuseARank.ensures.err)
-
-pub returns-clause-err : goal.returns-clause-err
-returns-clause-err c = handler_memory c.args.ast.now c.alloc-in-Err-Memory.result c.alloc-in-Err-Memory.ensures
+pub returns-in-Err-clause-err : goal.returns-in-Err-clause-err
+returns-in-Err-clause-err c = handler_memory c.args.ast.now c.alloc.result c.alloc.ensures

@@ -1,5 +1,5 @@
 use Rattle.std.proofs.Common.{rules, sym, subst}
-use Rattle.educe_core.specs.declared.ranks.Ranked.{Ranked}
+use Rattle.educe_core.specs.declared.ranked.Ranked.{Ranked}
 use Rattle.educe_core.specs.declared.handler_error.HandlerError.{HandlerError}
 use Rattle.educe_core.specs.Ranks.{Rises}
 use Rattle.educe_core.specs.Blocks.{IsRankCause}

@@ -1,5 +1,5 @@
 use Rattle.std.proofs.Common.{◌≡◌, ◌≢◌, ℕ, ◌+◌, ◌-◌, ◌<◌, length, get_or, subst, sym, arith, rules, Some}
-use Rattle.educe_core.specs.declared.ranks.Ranked.{Ranked}
+use Rattle.educe_core.specs.declared.ranked.Ranked.{Ranked}
 use Rattle.educe_core.proofs.Earliest.{EarliestBefore, earliest_more, earliest_same}
 use Rattle.educe_core.proofs.ranks.repeat_at.Goals.{then-sorted-i, else-sorted-i}
 use Rattle.educe_core.proofs.ranks.repeat_at.Goals as goal

@@ -1,0 +1,4 @@
+pub mod Words
+pub mod OneWord
+pub mod Joining
+pub mod Inside

@@ -1,0 +1,188 @@
+//! What no clause says: that words are made and fields are read, and that the words of the contracts
+//! mean what they are to mean.
+use super::*;
+use educe_tokens::{SOURCE_LIMIT, Seq, Span, TokenSlice, Word, Written, lex};
+use educe_tree::{
+    DeriveInput, Field, FieldForm, FieldShape, Fields, Generics, Ident, Shape, Ty, TypeForm,
+};
+use std::alloc::{AllocError, Global};
+use std::cmp::Ordering;
+use std::test::Fail;
+
+/// A field, by this name where there is one.
+#[tactic(auto, unfolding(educe_tokens::specs::Quote::quoted))]
+fn field(alloc: Global, ident: Option<Ident>) -> Result<Field, AllocError> {
+    let written = Written::from_template(alloc, "a")?;
+    let form = TypeForm::Never;
+    Ok(Field {
+        attrs: Seq::new(alloc),
+        ident,
+        ty: Ty { form, written },
+        span: Span::NONE,
+    })
+}
+
+#[test]
+fn keys_are_names_and_places(rt: HostRuntime) -> Result<(), Fail> {
+    let alloc = rt.alloc();
+    let named = field(alloc, Some(Ident::from_name(alloc, "x")?))?;
+    assert_eq!(rt; key_word(alloc, 3, &named)?.as_str(), "x");
+    let unnamed = field(alloc, None)?;
+    for (place, key) in [
+        (0, "0"),
+        (9, "9"),
+        (10, "10"),
+        (usize::MAX, "18446744073709551615"),
+    ] {
+        assert_eq!(rt; key_word(alloc, place, &unnamed)?.as_str(), key);
+    }
+    Ok(())
+}
+
+/// The definition `S` of this shape.
+fn definition(alloc: Global, shape: Shape) -> Result<DeriveInput, AllocError> {
+    Ok(DeriveInput {
+        attrs: Seq::new(alloc),
+        ident: Ident::from_name(alloc, "S")?,
+        generics: Generics {
+            params: Seq::new(alloc),
+            predicates: Seq::new(alloc),
+        },
+        shape,
+        tokens: TokenSlice::new(alloc, Seq::new(alloc))?,
+    })
+}
+
+/// The shape of two fields that are written so.
+fn shape(form: FieldForm, fields: Fields) -> Shape {
+    Shape::Struct(FieldShape { form, fields })
+}
+
+/// Two fields without names.
+fn unnamed(alloc: Global) -> Result<Shape, AllocError> {
+    let mut fields = Seq::new(alloc);
+    fields.push(field(alloc, None)?)?;
+    fields.push(field(alloc, None)?)?;
+    Ok(shape(FieldForm::Unnamed, fields))
+}
+
+/// The fields `x` and `y`.
+fn named(alloc: Global) -> Result<Shape, AllocError> {
+    let mut fields = Seq::new(alloc);
+    fields.push(field(alloc, Some(Ident::from_name(alloc, "x")?))?)?;
+    fields.push(field(alloc, Some(Ident::from_name(alloc, "y")?))?)?;
+    Ok(shape(FieldForm::Named, fields))
+}
+
+/// The comparison of two fields of `self` by these keys.
+fn compared(alloc: Global, first: Word, second: Word) -> Result<Body, AllocError> {
+    let mut arguments = Forms::new(alloc);
+    arguments.push(Form::Reference(Ident::from_name(alloc, "self")?, first))?;
+    arguments.push(Form::Reference(Ident::from_name(alloc, "self")?, second))?;
+    let path = built_in_path(alloc, &Callee::Cmp)?;
+    let mut block = Forms::new(alloc);
+    block.push(Form::Call(path, arguments))?;
+    Ok(Body {
+        params: Seq::new(alloc),
+        block,
+    })
+}
+
+/// What the comparison gives over the values 5 and 7.
+fn order(alloc: Global, shape: Shape, first: Word, second: Word) -> Result<Outcome, AllocError> {
+    let ast = definition(alloc, shape)?;
+    let mut fields = Seq::new(alloc);
+    fields.push(FieldValue { ty: 0, number: 5 })?;
+    fields.push(FieldValue { ty: 0, number: 7 })?;
+    let value = Value { variant: 0, fields };
+    let scope = Scope {
+        ast: &ast,
+        this: Some(&value),
+        other: None,
+    };
+    let answers = Answers {
+        rows: Seq::new(alloc),
+        by_number: true,
+    };
+    eval(alloc, &compared(alloc, first, second)?, &scope, &answers)
+}
+
+/// The key of a field without a name.
+fn index(alloc: Global, place: usize) -> Result<Word, AllocError> {
+    key_word(alloc, place, &field(alloc, None)?)
+}
+
+#[test]
+fn reads_fields_by_their_places(rt: HostRuntime) -> Result<(), Fail> {
+    let alloc = rt.alloc();
+    let found = order(alloc, unnamed(alloc)?, index(alloc, 0)?, index(alloc, 1)?)?;
+    assert_eq!(rt; found, Outcome::Order(Ordering::Less));
+    let found = order(alloc, unnamed(alloc)?, index(alloc, 1)?, index(alloc, 0)?)?;
+    assert_eq!(rt; found, Outcome::Order(Ordering::Greater));
+    let found = order(alloc, unnamed(alloc)?, index(alloc, 1)?, index(alloc, 2)?)?;
+    assert_eq!(rt; found, Outcome::Stuck);
+    Ok(())
+}
+
+#[test]
+fn reads_fields_by_their_names(rt: HostRuntime) -> Result<(), Fail> {
+    let alloc = rt.alloc();
+    let x = Word::from_name(alloc, "x")?;
+    let y = Word::from_name(alloc, "y")?;
+    let found = order(alloc, named(alloc)?, x, y)?;
+    assert_eq!(rt; found, Outcome::Order(Ordering::Less));
+    let found = order(alloc, named(alloc)?, index(alloc, 0)?, index(alloc, 1)?)?;
+    assert_eq!(rt; found, Outcome::Stuck);
+    let none = Shape::Enum(Seq::new(alloc));
+    let found = order(alloc, none, index(alloc, 0)?, index(alloc, 1)?)?;
+    assert_eq!(rt; found, Outcome::Stuck);
+    Ok(())
+}
+
+/// Whether the tokens of a text have a word.
+fn has(alloc: Global, source: &str, word: &str) -> Result<bool, Fail> {
+    if source.len() > SOURCE_LIMIT {
+        return Err(Fail::from("too long"));
+    }
+    let Ok(tokens) = lex(alloc, source) else {
+        return Err(Fail::from(source));
+    };
+    Ok(has_word(alloc, tokens.as_slice(), word)?)
+}
+
+#[test]
+fn finds_words(rt: HostRuntime) -> Result<(), Fail> {
+    for source in [
+        "struct S { a: u8, other: u8 }",
+        "r#other",
+        "&'other x",
+        "#[a = \"x::other(1)\"]",
+        "\"other\"",
+        "r#\"[other]\"#",
+        "\"x \\x6fther\"",
+        "/// the other one\na",
+        "/** other */",
+    ] {
+        assert!(rt; has(rt.alloc(), source, "other")?, "{source}");
+    }
+    Ok(())
+}
+
+#[test]
+fn finds_no_parts_of_words(rt: HostRuntime) -> Result<(), Fail> {
+    for source in [
+        "",
+        "others another r#others",
+        "'others",
+        "\"another\"",
+        "\"other_\"",
+        "\"\\u{e9}other other1\"",
+        "b\"other\"",
+        "/// another",
+        "// other\na",
+    ] {
+        assert!(rt; !has(rt.alloc(), source, "other")?, "{source}");
+    }
+    assert!(rt; !has(rt.alloc(), "a \"\" \"b c\"", "")?);
+    Ok(())
+}

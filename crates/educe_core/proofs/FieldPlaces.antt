@@ -1,0 +1,406 @@
+-- The fields of a definition begin where tokens do, and so do the ranks in their attributes.
+use Rattle.std.proofs.Common.{ℕ, zero, suc, ◌+◌, ◌-◌, ◌≡◌, Bool, true, false, ℤ, List, [], ◌∷◌, ◌++◌, Option, Some, None, length, take, drop, refl, sym, subst}
+use Rattle.std.specs.Prelude.{if◌then◌else◌, IfSome, slice_get, unwrap_or, option_and_then, codes}
+use Rattle.std.specs.Option.{option_map}
+use Rattle.std.specs.List.{AllByRecursion, find}
+use Rattle.educe_tokens.specs.declared.span.Span.{Span}
+use Rattle.educe_tokens.specs.declared.token.Token.{Token}
+use Rattle.educe_tree.specs.declared.attr.Attribute.{Attribute}
+use Rattle.educe_tree.specs.declared.attr.Meta.{Meta}
+use Rattle.educe_tree.specs.declared.attr.Meta.TheVariants as said
+use Rattle.educe_tree.specs.declared.attr.MetaPath.{MetaPath}
+use Rattle.educe_tree.specs.declared.data.Field.{Field}
+use Rattle.educe_tree.specs.declared.data.FieldShape.{FieldShape}
+use Rattle.educe_tree.specs.declared.derive.DeriveInput.{DeriveInput}
+use Rattle.educe_grammar.specs.Attributes.{MetaTail, no_tail, group_tail, value_tail, unread_tail, between, span_of, written_group, unread, meta_path, meta_of, meta, metas, outer_meta, documented, attribute_of, attribute, attributes}
+use Rattle.educe_grammar.specs.Expressions.{group}
+use Rattle.educe_grammar.specs.Definitions.{flat, named_field_of, named_field, tuple_field_of, tuple_field, named_shape, named_fields, tuple_shape, tuple_fields, unit_shape, Body, struct_body_of, swapped, struct_body, enum_body_of, enum_body, Item, struct_item, enum_item, definition_of, definition}
+use Rattle.educe_grammar.specs.Parsed.{depth_limit, IsWhole}
+use Rattle.educe_grammar.specs.Reading.{Parts, Parses, Repeated}
+use Rattle.educe_grammar.specs.Reads.{parts}
+use Rattle.educe_grammar.specs.Rules.{Rule, sliced, written, documentation}
+use Rattle.educe_grammar.specs.Steps.{Tokens}
+use Rattle.educe_grammar.proofs.NamesPlaced.{AllPlaced, Places, all_front, all_behind, placed_any, placed_empty, placed_made, placed_first, placed_second, placed_skipping, placed_leaving, placed_either, placed_list, placed_nest}
+use Rattle.educe_attrs.specs.declared.param.Param.{Param}
+use Rattle.educe_attrs.specs.declared.param.Param.TheVariants.{Ignore, Rank}
+use Rattle.educe_attrs.specs.declared.setting.Setting.{Setting}
+use Rattle.educe_attrs.specs.declared.traits.Trait.{Trait}
+use Rattle.educe_attrs.specs.declared.traits.Trait.TheVariants.{PartialEq, PartialOrd, Ord}
+use Rattle.educe_attrs.specs.Gathered.{behind, all_joined, alone, all_some}
+use Rattle.educe_attrs.specs.Metas.{inside, metas_in}
+use Rattle.educe_attrs.specs.Named.{trait_named}
+use Rattle.educe_attrs.specs.Params.{written_rank, param_of, params_in, are_params, first_rank, rank_span_in}
+use Rattle.educe_attrs.specs.Said.{unless_educe, settings_said, settings_by}
+use Rattle.educe_attrs.specs.Settings.{begins_round, is_ignore_alone, fitting, order_params, params_for, with_params, setting_of, settings_in, params_of}
+use Rattle.educe_attrs.specs.Traits.{same_trait}
+use Rattle.educe_attrs.specs.Words.{is_one_word}
+use Rattle.educe_attrs.proofs.Inside.{are_metas_inside}
+use Rattle.educe_body.specs.Keys.{shape_fields, fields_of}
+use Rattle.educe_core.specs.Settings.{settings_of, or_else, other_params, params_among, rank_place, Kept, is_kept, kept_at, kept_from, kept_fields, ReusesARank}
+use Rattle.educe_core.proofs.Elements.{In-all, In-from_Contains}
+
+-- ---- values that may be none
+
+-- one of two
+chosen : {Y : Type 0} (Q : Y → Type 0) (b : Bool) (first second : Option Y) → IfSome first Q → IfSome second Q → IfSome (if b then first else second) Q
+chosen Q true first second has also = has
+chosen Q false first second has also = also
+
+-- what is made of a value
+mapped : {X Y : Type 0} (f : X → Y) (P : X → Type 0) (Q : Y → Type 0) → ((x : X) → P x → Q (f x)) → (o : Option X) → IfSome o P → IfSome (option_map f o) Q
+mapped f P Q into None has = tt
+mapped f P Q into (Some x) has = into x has
+
+-- what follows from a value
+followed : {X Y : Type 0} (f : X → Option Y) (P : X → Type 0) (Q : Y → Type 0) → ((x : X) → P x → IfSome (f x) Q) → (o : Option X) → IfSome o P → IfSome (option_and_then f o) Q
+followed f P Q into None has = tt
+followed f P Q into (Some x) has = into x has
+
+-- of any value this can be said
+any_some : {X : Type 0} (o : Option X) → IfSome o (λ _. Unit {0})
+any_some None = tt
+any_some (Some x) = tt
+
+-- the value, or else another one
+unwrapped : {X : Type 0} (P : X → Type 0) (o : Option X) (other : X) → IfSome o P → P other → P (unwrap_or o other)
+unwrapped P None other has fallback = fallback
+unwrapped P (Some x) other has fallback = has
+
+-- ---- lists
+
+both_all : {X : Type 0} (P : X → Type 0) (xs ys : List X) → AllByRecursion P xs → AllByRecursion P ys → AllByRecursion P (xs ++ ys)
+both_all P [] ys first second = second
+both_all P (x ∷ xs) ys first second = (first.0, both_all P xs ys first.1 second)
+
+take_all : {X : Type 0} (P : X → Type 0) (n : ℕ) (xs : List X) → AllByRecursion P xs → AllByRecursion P (take n xs)
+take_all P zero [] all = tt
+take_all P zero (x ∷ xs) all = tt
+take_all P (suc n) [] all = tt
+take_all P (suc n) (x ∷ xs) all = (all.0, take_all P n xs all.1)
+
+behind_first : {X : Type 0} (P : X → Type 0) (xs : List X) → AllByRecursion P xs → AllByRecursion P (drop 1 xs)
+behind_first P [] all = tt
+behind_first P (x ∷ xs) all = all.1
+
+-- the lists of all items, one behind the other
+joined_step : {Y : Type 0} (Q : Y → Type 0) (found rest : Option (List Y)) → IfSome found (AllByRecursion Q) → IfSome rest (AllByRecursion Q) → IfSome (option_and_then (λ ys. behind ys rest) found) (AllByRecursion Q)
+joined_step Q None rest has more = tt
+joined_step Q (Some ys) None has more = tt
+joined_step Q (Some ys) (Some zs) has more = both_all Q ys zs has more
+
+joined : {X Y : Type 0} (lists : X → Option (List Y)) (P : X → Type 0) (Q : Y → Type 0) → ((x : X) → P x → IfSome (lists x) (AllByRecursion Q)) → (xs : List X) → AllByRecursion P xs → IfSome (all_joined lists xs) (AllByRecursion Q)
+joined lists P Q each [] all = tt
+joined lists P Q each (x ∷ xs) all = joined_step Q (lists x) (all_joined lists xs) (each x all.0) (joined lists P Q each xs all.1)
+
+-- the values of all items
+some_all : {X Y : Type 0} (value : X → Option Y) (P : X → Type 0) (Q : Y → Type 0) → ((x : X) → P x → IfSome (value x) Q) → (xs : List X) → AllByRecursion P xs → IfSome (all_some value xs) (AllByRecursion Q)
+some_all value P Q each xs all = joined (λ x. alone (value x)) P Q (λ x has. mapped (λ y. y ∷ []) Q (AllByRecursion Q) (λ y one. (one, tt)) (value x) (each x has)) xs all
+
+-- the first that passes
+found_all : {X : Type 0} (P : X → Type 0) (test : X → Bool) (xs : List X) → AllByRecursion P xs → IfSome (find test xs) P
+found_all P test [] all = tt
+found_all P test (x ∷ xs) all = chosen P (test x) (Some x) (find test xs) all.0 (found_all P test xs all.1)
+
+module _ (P : ℕ → Type 0) (none : P 0) where
+  -- the span begins at such a place
+  abbrev Begins : Span → Type 0
+  Begins s = P s.start
+
+  -- so does each token
+  abbrev Placed : Tokens → Type 0
+  Placed tokens = AllPlaced Begins tokens
+
+  between_placed : (first last : Option Token) → IfSome first (λ (t : Token). P t.span.start) → P (between first last).start
+  between_placed None last placed = none
+  between_placed (Some first) None placed = none
+  between_placed (Some first) (Some last) placed = placed
+
+  -- and the span of tokens
+  span_placed : (tokens : Tokens) → Placed tokens → Begins (span_of tokens)
+  unfolding span_of
+  span_placed [] placed = none
+  span_placed (t ∷ ts) placed = between_placed (Some t) (slice_get (t ∷ ts) (length (t ∷ ts) - 1)) placed.0
+
+  -- ---- attributes
+
+  abbrev TailPlaced : MetaTail → Type 0
+  TailPlaced no_tail = Unit {0}
+  TailPlaced (group_tail tokens) = Placed tokens.tokens
+  TailPlaced (value_tail value) = Unit {0}
+  TailPlaced (unread_tail tokens) = Unit {0}
+
+  -- the tokens of a group do, and a name with a value does
+  abbrev MetaPlaced : Meta → Type 0
+  MetaPlaced (said.Word path) = Unit {0}
+  MetaPlaced (said.List path tokens place) = Placed tokens.tokens
+  MetaPlaced (said.NameValue path value place) = Begins place
+  MetaPlaced (said.Doc t) = Unit {0}
+  MetaPlaced (said.Unread path tokens place) = Unit {0}
+
+  abbrev AttributePlaced : Attribute → Type 0
+  AttributePlaced a = MetaPlaced a.meta
+
+  -- the field does, and what its attributes say
+  abbrev FieldPlaced : Field → Type 0
+  FieldPlaced f = Begins f.span × AllByRecursion AttributePlaced f.attrs
+
+  meta_has : (x : (MetaPath × MetaTail) × Tokens) → TailPlaced x.0.1 → Placed x.1 → MetaPlaced (meta_of x)
+  meta_has ((path, no_tail), tokens) has placed = tt
+  meta_has ((path, group_tail inner), tokens) has placed = has
+  meta_has ((path, value_tail value), tokens) has placed = span_placed tokens placed
+  meta_has ((path, unread_tail inner), tokens) has placed = tt
+
+  module _ (parts : Parts) where
+    -- the tokens that a value is read from are kept
+    placed_slice : {A : Type 0} (g : Rule A) (Q : A → Type 0) → Places Begins parts g Q → Places Begins parts (sliced g) (λ x. Q x.0 × Placed x.1)
+    unfolding Parses
+    placed_slice g Q p = record { places = λ budget tokens x all is. (p.places budget tokens x.0 all is.0, subst Placed (sym is.1) all) }
+
+    placed_text : {A : Type 0} (g : Rule A) (Q : A → Type 0) → Places Begins parts g Q → Places Begins parts (written g) (λ x. Q x.0 × Placed x.1.tokens)
+    unfolding Parses
+    placed_text g Q p = record { places = λ budget tokens x all is. (p.places budget tokens x.0 all is.0, subst Placed (sym is.1) all) }
+
+    repeated_placed : {A : Type 0} (g : Rule A) (Q : A → Type 0) → Places Begins parts g Q → (budget : ℕ) {tokens : Tokens} {xs : List A} → Repeated (Parses parts budget g) tokens xs → Placed tokens → AllByRecursion Q xs
+    repeated_placed g Q p budget Repeated.none all = tt
+    repeated_placed g Q p budget (Repeated.more {x = x} front rest is others) all = (
+      p.places budget front x (all_front (λ (t : Token). P t.span.start) front rest all) is,
+      repeated_placed g Q p budget others (all_behind (λ (t : Token). P t.span.start) front rest all),
+    )
+
+    group_placed : Places Begins parts written_group TailPlaced
+    unfolding written_group
+    group_placed = placed_made Begins parts (λ p. group_tail p.1) _ (λ x. Unit {0} × Placed x.1.tokens) TailPlaced (λ x has. has.1) (placed_text group (λ _. Unit {0}) (placed_any Begins parts group))
+
+    unread_placed : Places Begins parts unread TailPlaced
+    unfolding unread
+    unread_placed = placed_made Begins parts (λ p. unread_tail p.1) _ (λ _. Unit {0}) TailPlaced (λ x has. tt) (placed_any Begins parts _)
+
+    -- a meta in a list
+    meta_placed : Places Begins parts meta MetaPlaced
+    unfolding meta
+    meta_placed =
+        placed_made Begins parts meta_of _ (λ x. TailPlaced x.0.1 × Placed x.1) MetaPlaced (λ x has. meta_has x has.0 has.1)
+        (placed_slice _ (λ x. TailPlaced x.1) (placed_second Begins parts meta_path _ TailPlaced
+        (placed_either Begins parts _ written_group _ TailPlaced group_placed
+        (placed_either Begins parts _ _ _ TailPlaced (placed_made Begins parts value_tail _ (λ _. Unit {0}) TailPlaced (λ x has. tt) (placed_any Begins parts _)) (placed_empty Begins parts no_tail TailPlaced tt)))))
+
+    metas_placed : Places Begins parts metas (AllByRecursion MetaPlaced)
+    unfolding metas
+    metas_placed = placed_list Begins parts _ _ meta MetaPlaced meta_placed
+
+    -- the meta of an attribute
+    outer_placed : Places Begins parts outer_meta MetaPlaced
+    unfolding outer_meta
+    outer_placed =
+        placed_made Begins parts meta_of _ (λ x. TailPlaced x.0.1 × Placed x.1) MetaPlaced (λ x has. meta_has x has.0 has.1)
+        (placed_slice _ (λ x. TailPlaced x.1) (placed_second Begins parts meta_path _ TailPlaced
+        (placed_either Begins parts _ written_group _ TailPlaced group_placed
+        (placed_either Begins parts _ unread _ TailPlaced unread_placed (placed_empty Begins parts no_tail TailPlaced tt)))))
+
+    attribute_placed : Places Begins parts attribute AttributePlaced
+    unfolding attribute
+    attribute_placed =
+        placed_either Begins parts _ _ _ AttributePlaced
+        (placed_made Begins parts documented documentation (λ _. Unit {0}) AttributePlaced (λ x has. tt) (placed_any Begins parts documentation))
+        (placed_made Begins parts attribute_of _ MetaPlaced AttributePlaced (λ x has. has) (placed_skipping Begins parts _ _ MetaPlaced (placed_nest Begins parts _ outer_meta MetaPlaced outer_placed)))
+
+    attributes_placed : Places Begins parts attributes (AllByRecursion AttributePlaced)
+    unfolding attributes Parses
+    attributes_placed = record { places = λ budget tokens xs all is. repeated_placed attribute AttributePlaced attribute_placed budget is all }
+
+    -- ---- fields
+
+    named_field_placed : Places Begins parts named_field FieldPlaced
+    unfolding named_field
+    named_field_placed =
+        placed_made Begins parts named_field_of _ (λ x. AllByRecursion AttributePlaced x.0.0 × Placed x.1) FieldPlaced (λ x has. (span_placed x.1 has.1, has.0))
+        (placed_slice _ (λ x. AllByRecursion AttributePlaced x.0)
+        (placed_made Begins parts flat _ (λ x. AllByRecursion AttributePlaced x.0) (λ x. AllByRecursion AttributePlaced x.0) (λ x has. has)
+        (placed_first Begins parts attributes _ (AllByRecursion AttributePlaced) attributes_placed)))
+
+    tuple_field_placed : Places Begins parts tuple_field FieldPlaced
+    unfolding tuple_field
+    tuple_field_placed =
+        placed_made Begins parts tuple_field_of _ (λ x. AllByRecursion AttributePlaced x.0.0 × Placed x.1) FieldPlaced (λ x has. (span_placed x.1 has.1, has.0))
+        (placed_slice _ (λ x. AllByRecursion AttributePlaced x.0) (placed_first Begins parts attributes _ (AllByRecursion AttributePlaced) attributes_placed))
+
+    abbrev ShapePlaced : FieldShape → Type 0
+    ShapePlaced shape = AllByRecursion FieldPlaced shape.fields
+
+    named_fields_placed : Places Begins parts named_fields ShapePlaced
+    unfolding named_fields
+    named_fields_placed =
+        placed_made Begins parts named_shape _ (AllByRecursion FieldPlaced) ShapePlaced (λ x has. has)
+        (placed_nest Begins parts _ _ (AllByRecursion FieldPlaced) (placed_list Begins parts _ _ named_field FieldPlaced named_field_placed))
+
+    tuple_fields_placed : Places Begins parts tuple_fields ShapePlaced
+    unfolding tuple_fields
+    tuple_fields_placed =
+        placed_made Begins parts tuple_shape _ (AllByRecursion FieldPlaced) ShapePlaced (λ x has. has)
+        (placed_nest Begins parts _ _ (AllByRecursion FieldPlaced) (placed_list Begins parts _ _ tuple_field FieldPlaced tuple_field_placed))
+
+    abbrev BodyPlaced : Body → Type 0
+    BodyPlaced b = AllByRecursion FieldPlaced (shape_fields b.0)
+
+    struct_body_placed : Places Begins parts struct_body BodyPlaced
+    unfolding struct_body
+    struct_body_placed =
+        placed_made Begins parts struct_body_of _ (λ x. ShapePlaced x.0) BodyPlaced (λ x has. has)
+        (placed_either Begins parts _ _ _ (λ x. ShapePlaced x.0)
+        (placed_leaving Begins parts _ _ (λ x. ShapePlaced x.0) (placed_first Begins parts tuple_fields _ ShapePlaced tuple_fields_placed))
+        (placed_made Begins parts swapped _ (λ x. ShapePlaced x.1) (λ x. ShapePlaced x.0) (λ x has. has)
+        (placed_second Begins parts _ _ ShapePlaced
+        (placed_either Begins parts _ named_fields _ ShapePlaced named_fields_placed (placed_made Begins parts (λ _. unit_shape) _ (λ _. Unit {0}) ShapePlaced (λ x has. tt) (placed_any Begins parts _))))))
+
+    enum_body_placed : Places Begins parts enum_body BodyPlaced
+    unfolding enum_body
+    enum_body_placed = placed_made Begins parts enum_body_of _ (λ _. Unit {0}) BodyPlaced (λ x has. tt) (placed_any Begins parts _)
+
+    abbrev ItemPlaced : Item → Type 0
+    ItemPlaced i = BodyPlaced i.1.1
+
+    struct_item_placed : Places Begins parts struct_item ItemPlaced
+    unfolding struct_item
+    struct_item_placed =
+        placed_skipping Begins parts _ _ ItemPlaced (placed_second Begins parts _ _ (λ x. BodyPlaced x.1) (placed_second Begins parts _ struct_body BodyPlaced struct_body_placed))
+
+    enum_item_placed : Places Begins parts enum_item ItemPlaced
+    unfolding enum_item
+    enum_item_placed =
+        placed_skipping Begins parts _ _ ItemPlaced (placed_second Begins parts _ _ (λ x. BodyPlaced x.1) (placed_second Begins parts _ enum_body BodyPlaced enum_body_placed))
+
+    definition_placed : Places Begins parts definition (λ d. AllByRecursion FieldPlaced (fields_of d))
+    unfolding definition
+    definition_placed =
+        placed_made Begins parts definition_of _ (λ x. ItemPlaced x.0.1 × Placed x.1) (λ d. AllByRecursion FieldPlaced (fields_of d)) (λ x has. has.0)
+        (placed_slice _ (λ x. ItemPlaced x.1) (placed_second Begins parts _ _ ItemPlaced (placed_skipping Begins parts _ _ ItemPlaced
+        (placed_either Begins parts _ enum_item struct_item ItemPlaced enum_item_placed struct_item_placed))))
+
+  -- the fields of a definition
+  fields_placed : (tokens : Tokens) (d : DeriveInput) → IsWhole definition tokens d → Placed tokens → AllByRecursion FieldPlaced (fields_of d)
+  fields_placed tokens d whole placed = (definition_placed parts).places depth_limit tokens d placed whole
+
+  -- ---- settings
+
+  abbrev ParamPlaced : Param → Type 0
+  ParamPlaced Ignore = Unit {0}
+  ParamPlaced (Rank rank place) = Begins place
+
+  abbrev SettingPlaced : Setting → Type 0
+  SettingPlaced s = AllByRecursion ParamPlaced s.params
+
+  -- the metas in a bracket pair
+  metas_in_placed : (tokens : List Token) → Placed tokens → IfSome (metas_in tokens) (AllByRecursion MetaPlaced)
+  metas_in_placed tokens placed = go (metas_in tokens) refl
+    where
+      go : (o : Option (List Meta)) → metas_in tokens ≡ o → IfSome o (AllByRecursion MetaPlaced)
+      go None is = tt
+      go (Some found) is =
+          let within = take_all (λ (t : Token). P t.span.start) (length tokens - 2) (drop 1 tokens) (behind_first (λ (t : Token). P t.span.start) tokens placed) in
+          (metas_placed parts).places depth_limit (inside tokens) found within ((are_metas_inside tokens found).0 is)
+
+  param_placed : (m : Meta) → MetaPlaced m → IfSome (param_of m) ParamPlaced
+  param_placed (said.Word path) has = chosen ParamPlaced (is_one_word (codes "ignore") path.written.tokens) (Some Ignore) None tt tt
+  param_placed (said.List path tokens place) has = tt
+  param_placed (said.NameValue path value place) has =
+      let rank = written_rank value.written.tokens in
+      chosen ParamPlaced (is_one_word (codes "rank") path.written.tokens) (option_map (λ rank. Rank rank place) rank) None
+      (mapped (λ rank. Rank rank place) (λ _. Unit {0}) ParamPlaced (λ rank any. has) rank (any_some rank)) tt
+  param_placed (said.Doc t) has = tt
+  param_placed (said.Unread path tokens place) has = tt
+
+  params_in_placed : (tokens : List Token) → Placed tokens → IfSome (params_in tokens) (AllByRecursion ParamPlaced)
+  params_in_placed tokens placed =
+      followed (all_some param_of) (AllByRecursion MetaPlaced) (AllByRecursion ParamPlaced) (λ ms has. some_all param_of MetaPlaced ParamPlaced param_placed ms has) (metas_in tokens) (metas_in_placed tokens placed)
+
+  order_placed : (tokens : List Token) → Placed tokens → IfSome (order_params tokens) (AllByRecursion ParamPlaced)
+  order_placed tokens placed =
+      chosen (AllByRecursion ParamPlaced) (begins_round tokens) (option_and_then fitting (params_in tokens)) None
+      (followed fitting (AllByRecursion ParamPlaced) (AllByRecursion ParamPlaced) (λ params has. chosen (AllByRecursion ParamPlaced) (are_params params) (Some params) None has tt) (params_in tokens) (params_in_placed tokens placed)) tt
+
+  params_for_placed : (which : Trait) (tokens : List Token) → Placed tokens → IfSome (params_for which tokens) (AllByRecursion ParamPlaced)
+  params_for_placed PartialEq tokens placed = chosen (AllByRecursion ParamPlaced) (is_ignore_alone tokens) (Some (Ignore ∷ [])) None (tt, tt) tt
+  params_for_placed PartialOrd tokens placed = order_placed tokens placed
+  params_for_placed Ord tokens placed = order_placed tokens placed
+
+  setting_placed : (m : Meta) → MetaPlaced m → IfSome (setting_of m) SettingPlaced
+  setting_placed (said.Word path) has = tt
+  setting_placed (said.List path tokens place) has =
+      let which = trait_named path.written.tokens in
+      followed (λ which. option_map (with_params which) (params_for which tokens.tokens)) (λ _. Unit {0}) SettingPlaced
+      (λ which any. mapped (with_params which) (AllByRecursion ParamPlaced) SettingPlaced (λ params all. all) (params_for which tokens.tokens) (params_for_placed which tokens.tokens has)) which (any_some which)
+  setting_placed (said.NameValue path value place) has = tt
+  setting_placed (said.Doc t) has = tt
+  setting_placed (said.Unread path tokens place) has = tt
+
+  settings_in_placed : (tokens : List Token) → Placed tokens → IfSome (settings_in tokens) (AllByRecursion SettingPlaced)
+  settings_in_placed tokens placed =
+      followed (all_some setting_of) (AllByRecursion MetaPlaced) (AllByRecursion SettingPlaced) (λ ms has. some_all setting_of MetaPlaced SettingPlaced setting_placed ms has) (metas_in tokens) (metas_in_placed tokens placed)
+
+  unless_placed : (path : MetaPath) → IfSome (unless_educe path) (AllByRecursion SettingPlaced)
+  unless_placed path = chosen (AllByRecursion SettingPlaced) (is_one_word (codes "educe") path.written.tokens) None (Some []) tt tt
+
+  said_placed : (m : Meta) → MetaPlaced m → IfSome (settings_said m) (AllByRecursion SettingPlaced)
+  said_placed (said.Word path) has = unless_placed path
+  said_placed (said.List path tokens place) has =
+      chosen (AllByRecursion SettingPlaced) (is_one_word (codes "educe") path.written.tokens) (settings_in tokens.tokens) (Some []) (settings_in_placed tokens.tokens has) tt
+  said_placed (said.NameValue path value place) has = unless_placed path
+  said_placed (said.Doc t) has = tt
+  said_placed (said.Unread path tokens place) has = unless_placed path
+
+  settings_placed : (f : Field) → FieldPlaced f → AllByRecursion SettingPlaced (settings_of f)
+  unfolding settings_of
+  settings_placed f placed =
+      unwrapped (AllByRecursion SettingPlaced) (settings_by f.attrs) [] (joined (λ (a : Attribute). settings_said a.meta) AttributePlaced SettingPlaced (λ a has. said_placed a.meta has) f.attrs placed.1) tt
+
+  -- ---- ranks
+
+  abbrev ParamsPlaced : Option (List Param) → Type 0
+  ParamsPlaced params = IfSome params (AllByRecursion ParamPlaced)
+
+  own_placed : (which : Trait) (settings : List Setting) → AllByRecursion SettingPlaced settings → ParamsPlaced (params_of which settings)
+  own_placed which settings placed =
+      let passes : Setting → Bool = λ s. same_trait which s.which in
+      mapped (λ (s : Setting). s.params) SettingPlaced (AllByRecursion ParamPlaced) (λ s has. has) (find passes settings) (found_all SettingPlaced passes settings placed)
+
+  other_placed : (which : Trait) (settings : List Setting) → AllByRecursion SettingPlaced settings → ParamsPlaced (other_params which settings)
+  other_placed PartialEq settings placed = tt
+  other_placed PartialOrd settings placed = own_placed Ord settings placed
+  other_placed Ord settings placed = own_placed PartialOrd settings placed
+
+  else_placed : (first second : Option (List Param)) → ParamsPlaced first → ParamsPlaced second → ParamsPlaced (or_else first second)
+  else_placed None second placed other = other
+  else_placed (Some first) second placed other = placed
+
+  among_placed : (which : Trait) (settings : List Setting) → AllByRecursion SettingPlaced settings → ParamsPlaced (params_among which settings)
+  unfolding params_among
+  among_placed which settings placed = else_placed (params_of which settings) (other_params which settings) (own_placed which settings placed) (other_placed which settings placed)
+
+  first_placed : (params : List Param) → AllByRecursion ParamPlaced params → IfSome (first_rank params) (λ (found : ℤ × Span). Begins found.1)
+  first_placed [] placed = tt
+  first_placed (Ignore ∷ params) placed = first_placed params placed.1
+  first_placed (Rank rank place ∷ params) placed = placed.0
+
+  rank_placed : (which : Trait) (f : Field) → FieldPlaced f → Begins (rank_place which f)
+  rank_placed which f placed =
+      let params = params_among which (settings_of f) in
+      unwrapped Begins (option_and_then rank_span_in params) f.span
+      (followed rank_span_in (AllByRecursion ParamPlaced) Begins
+      (λ params has. mapped (λ (found : ℤ × Span). found.1) (λ (found : ℤ × Span). Begins found.1) Begins (λ found has. has) (first_rank params) (first_placed params has))
+      params (among_placed which (settings_of f) (settings_placed f placed)))
+      placed.0
+
+  kept_step : (which : Trait) (place : ℕ) (f : Field) (rest : List Kept) (keeps : Bool) → FieldPlaced f → AllByRecursion (λ (k : Kept). FieldPlaced k.field) rest
+      → AllByRecursion (λ (k : Kept). FieldPlaced k.field) (if keeps then kept_at which place f ∷ rest else rest)
+  kept_step which place f rest true here more = (here, more)
+  kept_step which place f rest false here more = more
+
+  kept_placed : (which : Trait) (place : ℕ) (fs : List Field) → AllByRecursion FieldPlaced fs → AllByRecursion (λ (k : Kept). FieldPlaced k.field) (kept_from which place fs)
+  kept_placed which place [] placed = tt
+  kept_placed which place (f ∷ fs) placed = kept_step which place f (kept_from which (place + 1) fs) (is_kept which f) placed.0 (kept_placed which (place + 1) fs placed.1)
+
+  -- the place of a rank that is used again
+  pub reuse_placed : (which : Trait) (tokens : Tokens) (d : DeriveInput) (rank : ℤ) (place : Span) → IsWhole definition tokens d → Placed tokens → ReusesARank which d rank place → Begins place
+  reuse_placed which tokens d rank place whole placed reuses =
+      let later = In-all (λ (k : Kept). FieldPlaced k.field) (kept_fields which d) reuses.later (kept_placed which 0 (fields_of d) (fields_placed tokens d whole placed)) (In-from_Contains (kept_fields which d) reuses.later reuses.later_kept) in
+      subst Begins (sym reuses.place_is) (rank_placed which reuses.later.field later)

@@ -1,6 +1,0 @@
-use Rattle.educe_syntax.proofs.Words.{list_any-KEYWORDS}
-use Rattle.educe_syntax.proofs.names.is_keyword.Goals as goal
-use Rattle.std.proofs.Common.{◌∙◌}
-
-pub returns : goal.returns
-returns c = c.is_one_of.ensures ∙ list_any-KEYWORDS c.args.text.now
