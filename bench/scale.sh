@@ -56,8 +56,30 @@ def script_names(size):
     """Long names in another script."""
     return filled(size // 2, "PartialEq", lambda n: f"{'ж' * 1000}{n}:u8,")
 
+def deep_type(size):
+    """A type of 126 levels around a list of as many types as fit."""
+    front, back = SMALL[:-1] + ", b: " + "Box<" * 125 + "(", ")" + ">" * 125 + "}"
+    return repeated(front, "u8,", back)(size)
+
+def numbered(front, part, back):
+    """As many parts as fit, each of which its number makes, between a front and a back."""
+    def make(size):
+        parts, used = [], len(front + back)
+        while used + len(part(len(parts))) <= size:
+            used += len(part(len(parts)))
+            parts.append(part(len(parts)))
+        return front + "".join(parts) + back
+    return make
+
 shapes = [
     ("fields", fields),
+    ("variants", numbered("#[educe(PartialEq)] enum E {", lambda n: f"V{n}{{a:u8,b:T}},", "}")),
+    ("deep_type", deep_type),
+    ("generics", numbered("#[educe(PartialEq)] struct S<", lambda n: f"T{n}:A<B>+'a,", "> { a: u8 }")),
+    ("predicates", numbered("#[educe(PartialEq)] struct S where ", lambda n: f"T{n}:for<'a>A<'a,B=C>,", "{ a: u8 }")),
+    ("chains", numbered("#[educe(PartialEq)] enum E {", lambda n: f"V{n}=1" + "+a.b()" * 60 + ",", "}")),
+    ("attributes", repeated("", "#[a(b = c, d)] ", SMALL)),
+    ("own", numbered("#[educe(PartialEq)] struct S {", lambda n: f"#[serde(rename = \"x\")]#[educe(PartialEq(ignore))]/// of x\nf{n}:Vec<u8>,", "}")),
     ("ord", ranked("Ord")),
     ("partial_ord", ranked("PartialOrd")),
     ("all", ranked("PartialEq,PartialOrd,Ord")),
@@ -83,7 +105,7 @@ ratio() {
 }
 
 printf '%-12s %7s %8s %7s %10s %7s %9s\n' shape bytes seconds ratio 'Minstr' ratio 'peak MB'
-for name in fields ord partial_ord all long_names blanks small_tokens comment nested string raw_string brackets script; do
+for name in fields variants deep_type generics predicates chains attributes own ord partial_ord all long_names blanks small_tokens comment nested string raw_string brackets script; do
   seconds_before=0
   count_before=0
   for kib in 16 32 64 128; do

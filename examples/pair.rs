@@ -1,0 +1,9 @@
+/// A name and how often it was seen.
+#[derive(Debug)]
+#[educe(PartialEq, Ord)]
+#[educe(PartialOrd)]
+pub struct Seen(
+    pub String,
+    #[educe(Ord(rank = -1))]
+    pub(crate) Vec<(u32, Option<Box<[u8; 4]>>)>,
+);

@@ -1,0 +1,2 @@
+#[educe(PartialEq)]
+struct Nothing;
