@@ -36,7 +36,7 @@ fn check_limit(
     for part in parts {
         let within = text(alloc, around, *part, limit)?;
         check(rt, alloc, "Ok", &[within.as_str()])?;
-        let past = text(alloc, around, *part, limit + 1)?;
+        let past = text(alloc, around, *part, limit.saturating_add(1))?;
         check(rt, alloc, "TooDeep", &[past.as_str()])?;
     }
     Ok(())
