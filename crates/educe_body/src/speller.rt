@@ -43,7 +43,7 @@ mod tests {
     use crate::form::{Form, Forms, Known};
     use educe_attrs::Trait;
     use educe_tokens::{Boxed, Seq, Span, TokenKind, TokenStream, Word, Written, quote};
-    use educe_tree::{ExprPath, Ident, Path};
+    use educe_tree::Ident;
     use std::cmp::Ordering;
     use std::test::Fail;
 
@@ -77,16 +77,8 @@ mod tests {
         Ok(Written::from_template(alloc, text)?)
     }
 
-    #[tactic(auto, unfolding(educe_tokens::specs::Quote::quoted))]
     fn compared_field(alloc: Global) -> Result<Form, Fail> {
-        let path = ExprPath {
-            self_type: None,
-            path: Path {
-                leading: true,
-                segments: Seq::new(alloc),
-            },
-            written: written(alloc, ":: core :: cmp :: PartialEq :: ne")?,
-        };
+        let path = built_in_path(alloc, &Callee::Ne)?;
         let mut arguments = Forms::new(alloc);
         arguments.push(Form::Reference(name(alloc, "self")?, word(alloc, "a")?))?;
         arguments.push(Form::Reference(name(alloc, "other")?, word(alloc, "a")?))?;

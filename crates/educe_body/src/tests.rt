@@ -88,6 +88,13 @@ fn compared(alloc: Global, first: Word, second: Word) -> Result<Body, AllocError
     })
 }
 
+/// A definition and a value for `self`, without one for a parameter.
+fn scope<'a>(ast: &'a DeriveInput, this: &'a Value) -> Scope<'a> {
+    let this = Some(this);
+    let other = None;
+    Scope { ast, this, other }
+}
+
 /// What the comparison gives over the values 5 and 7.
 fn order(alloc: Global, shape: Shape, first: Word, second: Word) -> Result<Outcome, AllocError> {
     let ast = definition(alloc, shape)?;
@@ -95,16 +102,12 @@ fn order(alloc: Global, shape: Shape, first: Word, second: Word) -> Result<Outco
     fields.push(FieldValue { ty: 0, number: 5 })?;
     fields.push(FieldValue { ty: 0, number: 7 })?;
     let value = Value { variant: 0, fields };
-    let scope = Scope {
-        ast: &ast,
-        this: Some(&value),
-        other: None,
-    };
     let answers = Answers {
         rows: Seq::new(alloc),
         by_number: true,
     };
-    eval(alloc, &compared(alloc, first, second)?, &scope, &answers)
+    let body = compared(alloc, first, second)?;
+    eval(alloc, &body, &scope(&ast, &value), &answers)
 }
 
 /// The key of a field without a name.
