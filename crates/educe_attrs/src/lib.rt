@@ -18,6 +18,3 @@ pub use param::{Param, Params, ignores, rank_in, rank_span_in};
 pub use said::{listed_by, settings_by};
 pub use setting::{Setting, Settings, params_of};
 pub use traits::{Trait, Traits, all_listed, each_once, is_listed, same_trait};
-
-#[cfg(test)]
-mod tests;

@@ -12,8 +12,6 @@ mod print;
 mod print_items;
 mod print_orders;
 mod speller;
-#[cfg(test)]
-mod tests;
 mod text;
 mod value;
 mod words;

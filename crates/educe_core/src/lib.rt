@@ -15,8 +15,6 @@ mod reading;
 mod refusing;
 mod settings;
 mod status;
-#[cfg(test)]
-mod tests;
 mod writing;
 
 pub use devices::{Failed, Sink, Source, Stopped};

@@ -27,6 +27,3 @@ pub use calls::{
     parse_derive_input, parse_expr, parse_ident, parse_metas, parse_path, parse_predicates,
 };
 pub use naming::{Name, repeated_name};
-
-#[cfg(test)]
-mod tests;

@@ -217,20 +217,3 @@ pub fn int_value(text: &str) -> Option<u128>
     }
     Some(value)
 }
-
-#[cfg(test)]
-mod tests {
-    use super::*;
-
-    #[test]
-    fn values(rt: HostRuntime) {
-        assert_eq!(rt; int_value("1_000"), Some(1000));
-        assert_eq!(rt; int_value("0x_Fu8"), Some(15));
-        assert_eq!(rt; int_value("0o17"), Some(15));
-        assert_eq!(rt; int_value("0b101i128"), Some(5));
-        assert_eq!(rt;
-            int_value("340282366920938463463374607431768211455"),
-            Some(u128::MAX)
-        );
-    }
-}

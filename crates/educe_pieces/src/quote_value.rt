@@ -38,31 +38,3 @@ pub fn str_value(alloc: Global, literal: &str) -> Result<String, AllocError>
     }
     Ok(value)
 }
-
-#[cfg(test)]
-mod tests {
-    use super::*;
-    use std::test::Fail;
-
-    #[test]
-    fn values(rt: HostRuntime) -> Result<(), Fail> {
-        for (literal, value) in [
-            (r#""""#, ""),
-            (r#""a b""#, "a b"),
-            ("\"a\\\n   b\"", "ab"),
-            ("\"a\\\r\n \t\r\n b c\"", "ab c"),
-            ("\"\\\n \\\n \\n \"", "\n "),
-            (r#""\u{41}\x42C""#, "ABC"),
-            (r#""\u{1_F600_}\x7f""#, "\u{1F600}\u{7F}"),
-            (r#""\n\r\t\\\0\'\"""#, "\n\r\t\\\0'\""),
-            (r#""é\u{e9}""#, "éé"),
-        ] {
-            assert_eq!(rt;
-                str_value(rt.alloc(), literal)?.as_str(),
-                value,
-                "{literal}"
-            );
-        }
-        Ok(())
-    }
-}

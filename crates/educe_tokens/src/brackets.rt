@@ -83,23 +83,3 @@ pub fn check_brackets(alloc: Global, tokens: &TokenStream, end: u32) -> Result<(
         Err(EduceError::new(alloc, Kind::Syntax, Span { start: end, end }))
     }
 }
-
-#[cfg(test)]
-mod tests {
-    use super::*;
-    use std::test::Fail;
-
-    #[test]
-    fn closes_the_innermost(rt: HostRuntime) -> Result<(), Fail> {
-        let mut outer = Vec::new(rt.alloc());
-        assert_eq!(rt;
-            take_kind(&mut outer, TokenKind::Start(Bracket::Round)),
-            Ok(())
-        );
-        assert_eq!(rt; take_kind(&mut outer, TokenKind::Ident), Ok(()));
-        assert_eq!(rt; outer.len(), 1);
-        let stop = TokenKind::Stop(Bracket::Square);
-        assert_eq!(rt; take_kind(&mut outer, stop), Err(BracketError::WrongClose));
-        Ok(())
-    }
-}

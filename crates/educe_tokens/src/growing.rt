@@ -62,32 +62,3 @@ pub(crate) fn push_spelled(
     })?;
     Ok(())
 }
-
-#[cfg(test)]
-mod tests {
-    use super::*;
-    use crate::seq::Seq;
-    use crate::slice::TokenSlice;
-    use crate::template::quote;
-    use std::test::Fail;
-
-    // The part `a:` of `a::b`.
-    #[test]
-    fn a_copy_ends_apart(rt: HostRuntime) -> Result<(), Fail> {
-        let alloc = rt.alloc();
-        let mut tokens = Seq::new(alloc);
-        quote(alloc, &mut tokens, "a :: b")?;
-        let all = TokenSlice::new(alloc, tokens)?;
-        assert!(rt; all.len() == 4);
-        let written = Written::new(all.part(0, 2)?).duplicate()?;
-        let last = written.tokens().as_slice().last().ok_or("no token")?;
-        assert_eq!(rt; last.kind, TokenKind::Punct(':', true));
-        let mut copies = Seq::new(alloc);
-        append_written(alloc, &mut copies, &written)?;
-        assert_eq!(rt; copies.len(), 2);
-        let copy = copies.get(1).ok_or("no copy")?;
-        assert_eq!(rt; copy.kind, TokenKind::Punct(':', false));
-        assert_eq!(rt; copy.span, last.span);
-        Ok(())
-    }
-}

@@ -13,8 +13,6 @@ mod slice;
 mod span;
 mod spelling;
 mod template;
-#[cfg(test)]
-mod tests;
 mod to_tokens;
 mod token;
 mod value;

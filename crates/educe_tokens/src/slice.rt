@@ -84,30 +84,3 @@ impl TokenSlice {
         self.part(0, self.len())
     }
 }
-
-#[cfg(test)]
-mod tests {
-    use super::*;
-    use crate::seq::Seq;
-    use crate::template::quote;
-    use std::test::Fail;
-
-    #[test]
-    fn parts_share_a_list(rt: HostRuntime) -> Result<(), Fail> {
-        let alloc = rt.alloc();
-        let mut tokens = Seq::new(alloc);
-        quote(alloc, &mut tokens, "a :: b c")?;
-        let all = TokenSlice::new(alloc, tokens)?;
-        assert!(rt; all.len() == 5);
-        let part = all.part(1, 4)?;
-        assert!(rt; part.len() == 3);
-        assert!(rt; part.as_slice()[0].spelling.is(":"));
-        let last = part.part(2, 3)?.duplicate()?;
-        drop(all);
-        assert!(rt; last.len() == 1);
-        assert!(rt; last.as_slice()[0].spelling.is("b"));
-        assert!(rt; !last.is_empty());
-        assert!(rt; part.part(3, 3)?.is_empty());
-        Ok(())
-    }
-}

@@ -38,26 +38,3 @@ impl Span {
         (line, column)
     }
 }
-
-#[cfg(test)]
-mod tests {
-    use super::*;
-
-    #[test]
-    fn counts_lines_and_characters(rt: HostRuntime) {
-        let source = "a\né\nüb";
-        for (start, place) in [
-            (0, (1, 1)),
-            (1, (1, 2)),
-            (2, (2, 1)),
-            (4, (2, 2)),
-            (5, (3, 1)),
-            (7, (3, 2)),
-            (8, (3, 3)),
-        ] {
-            assert!(rt; source.is_char_boundary(start as usize));
-            let span = Span { start, end: start };
-            assert_eq!(rt; span.line_column(source), place, "at {start}");
-        }
-    }
-}

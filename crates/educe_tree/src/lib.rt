@@ -27,6 +27,3 @@ pub use lifetime::Lifetime;
 pub use names::{is_name, is_spelled, unraw};
 pub use path::{AngleArg, AngleArgs, Args, Path, Paths, Segment, Segments};
 pub use ty::{Ty, TypeForm, Types};
-
-#[cfg(test)]
-mod tests;

@@ -1,0 +1,69 @@
+//! Ranks of fields: those that take part have ranks that differ.
+
+use super::{check_refused, notes_of};
+use std::test::Fail;
+
+#[test]
+fn a_rank_is_used_once(rt: HostRuntime) -> Result<(), Fail> {
+    check_refused(
+        &rt,
+        rt.alloc(),
+        &[
+            (
+                "#[educe(Ord)] struct S { #[educe(Ord(rank = 0x1_u8))] a: u8, #[educe(Ord(rank = 0b1))] b: u8 }",
+                "1:74: the rank `1` is repeatedly used\n",
+            ),
+            (
+                "#[educe(Ord)] struct S { #[educe(Ord(rank = 1))] a: u8, #[educe(Ord(rank = 1))] b: u8 }",
+                "1:69: the rank `1` is repeatedly used\n",
+            ),
+            (
+                "#[educe(Ord)] struct S { a: u8, #[educe(Ord(rank = -9223372036854775808))] b: u8 }",
+                "1:45: the rank `-9223372036854775808` is repeatedly used\n",
+            ),
+            (
+                "#[educe(Ord)] struct S { #[educe(Ord(rank = -9223372036854775807))] a: u8, b: u8 }",
+                "1:76: the rank `-9223372036854775807` is repeatedly used\n",
+            ),
+            (
+                "#[educe(PartialOrd, Ord)] struct S { #[educe(Ord(rank = 1))] a: u8, #[educe(Ord(rank = 2), PartialOrd(rank = 1))] b: u8 }",
+                "1:103: the rank `1` is repeatedly used\n",
+            ),
+            (
+                "#[educe(PartialOrd, Ord)] struct S { #[educe(PartialOrd(rank = 1))] a: u8, #[educe(PartialOrd(rank = 2), Ord(rank = 1))] b: u8 }",
+                "1:110: the rank `1` is repeatedly used\n",
+            ),
+        ],
+    )
+}
+
+#[test]
+fn ranks_have_64_bits(rt: HostRuntime) -> Result<(), Fail> {
+    check_refused(
+        &rt,
+        rt.alloc(),
+        &[
+            (
+                "#[educe(Ord)] struct S { #[educe(Ord(rank = 9223372036854775808))] a: u8, b: u8 }",
+                "1:1: not built yet\n",
+            ),
+            (
+                "#[educe(Ord)] struct S { #[educe(Ord(rank = -9223372036854775809))] a: u8, b: u8 }",
+                "1:1: not built yet\n",
+            ),
+        ],
+    )
+}
+
+#[test]
+fn ranks_that_differ_are_taken(rt: HostRuntime) -> Result<(), Fail> {
+    for input in [
+        "#[educe(Ord)] struct S { #[educe(Ord(rank = 1))] a: u8, #[educe(Ord(rank = 1, ignore))] b: u8 }",
+        "#[educe(Ord)] struct S { #[educe(Ord(rank = -9223372036854775808))] a: u8, b: u8 }",
+        "#[educe(Ord)] struct S { #[educe(Ord(rank = 9223372036854775807))] a: u8, b: u8 }",
+    ] {
+        let found = notes_of(&rt, rt.alloc(), input.as_bytes())?;
+        assert_eq!(rt; found.bytes(), "".as_bytes(), "{input}");
+    }
+    Ok(())
+}

@@ -1,0 +1,7 @@
+//! Of `educe_tokens`: tokens of texts and of templates, their printed text, values and refusals.
+
+mod kinds;
+mod printing;
+mod refusals;
+mod templates;
+mod values;
