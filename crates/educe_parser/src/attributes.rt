@@ -6,9 +6,10 @@ ghost use Rattle.educe_grammar.specs.Reads.{read};
 ghost use Rattle.educe_grammar.specs.Rules as rule;
 ghost use Rattle.educe_grammar.specs.Steps.{Gives, since};
 
+use crate::inside::Inside;
 use crate::looks::{at_attribute, at_group};
 use crate::names::simple_path;
-use crate::readers::{Readers, Typed};
+use crate::productions::Productions;
 use crate::trees::{group, some_trees, tree};
 use educe_grammar::{Cursor, ParseError, Terminal, list, many, written};
 use educe_tokens::{Bracket, Span, Written};
@@ -128,17 +129,11 @@ pub fn attributes(
     )
 }
 
-impl<
-    T: Fn(Global, &mut Cursor<'_>, u8) -> Result<Ty, ParseError>,
-    P: Fn(Global, &mut Cursor<'_>, u8) -> Result<Typed, ParseError>,
-    E: Fn(Global, &mut Cursor<'_>, u8) -> Result<Expr, ParseError>,
-> Readers<T, P, E> {
-    ghost use Rattle.educe_parser.specs.Nests.{Nests};
-
+impl<R: Inside> Productions<R> {
     /// An item of a list in an attribute (Rust Reference, Meta item attribute syntax).
     #[tactic(auto, unfolding(crate::proofs::Opened::rules, educe_grammar::specs::Attributes::meta, educe_grammar::specs::Attributes::written_group))]
     fn meta(&self, cursor: &mut Cursor<'_>, budget: u8) -> Result<Meta, ParseError>
-        requires { Nests T.Fn P.Fn E.Fn self.now (budget + 1) }
+        requires { R.nests self.now.inside (budget + 1) }
         ensures { Gives (read budget spec.meta cursor.old) result cursor.new }
     {
         let start = cursor.mark();
@@ -157,7 +152,7 @@ impl<
     /// The items of a list in an attribute (Rust Reference, Meta item attribute syntax).
     #[tactic(auto, unfolding(crate::proofs::Opened::rules, educe_grammar::specs::Attributes::metas))]
     pub fn metas(&self, cursor: &mut Cursor<'_>, budget: u8) -> Result<Metas, ParseError>
-        requires { Nests T.Fn P.Fn E.Fn self.now (budget + 1) }
+        requires { R.nests self.now.inside (budget + 1) }
         ensures { Gives (read budget spec.metas cursor.old) result cursor.new }
     {
         list(

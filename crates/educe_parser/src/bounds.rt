@@ -6,9 +6,10 @@ ghost use Rattle.educe_grammar.specs.Reads.{read};
 ghost use Rattle.educe_grammar.specs.Steps.{Gives};
 ghost use Rattle.educe_grammar.specs.Types as spec;
 
+use crate::inside::Inside;
 use crate::looks::behind_type;
 use crate::names::lifetime;
-use crate::readers::{Readers, Typed};
+use crate::productions::Productions;
 use educe_grammar::{Cursor, Ending, Keyword, ParseError, Terminal, list};
 use educe_tokens::{Bracket, Seq};
 use educe_tree::{Expr, Path, Paths, Ty};
@@ -94,17 +95,11 @@ pub fn bound_paths(alloc: Global, found: Seq<BoundRead>) -> Result<Paths, AllocE
     Ok(paths)
 }
 
-impl<
-    T: Fn(Global, &mut Cursor<'_>, u8) -> Result<Ty, ParseError>,
-    P: Fn(Global, &mut Cursor<'_>, u8) -> Result<Typed, ParseError>,
-    E: Fn(Global, &mut Cursor<'_>, u8) -> Result<Expr, ParseError>,
-> Readers<T, P, E> {
-    ghost use Rattle.educe_parser.specs.Nests.{Nests};
-
+impl<R: Inside> Productions<R> {
     /// `?`, `for<'a>` and a path (Rust Reference, Trait and lifetime bounds).
     #[tactic(auto, unfolding(crate::proofs::Opened::rules, educe_grammar::specs::Types::bound_path))]
     fn bound_path(&self, cursor: &mut Cursor<'_>, budget: u8) -> Result<(Path, Ending), ParseError>
-        requires { Nests T.Fn P.Fn E.Fn self.now budget }
+        requires { R.nests self.now.inside budget }
         ensures { Gives (read budget spec.bound_path cursor.old) result cursor.new }
     {
         cursor.eat(Terminal::Sign('?'));
@@ -115,7 +110,7 @@ impl<
     /// A bound (Rust Reference, Trait and lifetime bounds).
     #[tactic(auto, unfolding(crate::proofs::Opened::rules, educe_grammar::specs::Types::bound, educe_grammar::specs::Names::lifetime))]
     pub fn bound(&self, cursor: &mut Cursor<'_>, budget: u8) -> Result<BoundRead, ParseError>
-        requires { Nests T.Fn P.Fn E.Fn self.now budget }
+        requires { R.nests self.now.inside budget }
         ensures { Gives (read budget spec.bound cursor.old) result cursor.new }
     {
         if cursor.eat(Terminal::Lifetime) {
@@ -134,7 +129,7 @@ impl<
     /// Bounds with `+` between, or nothing (Rust Reference, Trait and lifetime bounds).
     #[tactic(auto, unfolding(crate::proofs::Opened::rules, educe_grammar::specs::Types::bounds))]
     pub fn bounds(&self, cursor: &mut Cursor<'_>, budget: u8) -> Result<Seq<BoundRead>, ParseError>
-        requires { Nests T.Fn P.Fn E.Fn self.now budget }
+        requires { R.nests self.now.inside budget }
         ensures { Gives (read budget spec.bounds cursor.old) result cursor.new }
     {
         list(

@@ -10,9 +10,10 @@ ghost use Rattle.educe_grammar.specs.Rules.{either, made, part, exprs};
 ghost use Rattle.educe_grammar.specs.Steps.{Gives};
 
 use crate::attributes::{attributes, span_since};
+use crate::inside::Inside;
 use crate::looks::at_scope;
 use crate::names::{name, simple_path};
-use crate::readers::{Readers, Typed};
+use crate::productions::Productions;
 use educe_grammar::{Cursor, Keyword, ParseError, Terminal, list};
 use educe_tokens::{Bracket, Seq};
 use educe_tree::{
@@ -76,17 +77,11 @@ fn no_fields(alloc: Global) -> FieldShape
     }
 }
 
-impl<
-    T: Fn(Global, &mut Cursor<'_>, u8) -> Result<Ty, ParseError>,
-    P: Fn(Global, &mut Cursor<'_>, u8) -> Result<Typed, ParseError>,
-    E: Fn(Global, &mut Cursor<'_>, u8) -> Result<Expr, ParseError>,
-> Readers<T, P, E> {
-    ghost use Rattle.educe_parser.specs.Nests.{Nests};
-
+impl<R: Inside> Productions<R> {
     /// A field with a name (Rust Reference, Structs).
     #[tactic(auto, unfolding(crate::proofs::Opened::rules, educe_grammar::specs::Definitions::named_field))]
     fn named_field(&self, cursor: &mut Cursor<'_>, budget: u8) -> Result<Field, ParseError>
-        requires { Nests T.Fn P.Fn E.Fn self.now (budget + 1) }
+        requires { R.nests self.now.inside (budget + 1) }
         ensures { Gives (read budget spec.named_field cursor.old) result cursor.new }
     {
         let start = cursor.mark();
@@ -107,7 +102,7 @@ impl<
     /// A field without a name (Rust Reference, Tuple structs).
     #[tactic(auto, unfolding(crate::proofs::Opened::rules, educe_grammar::specs::Definitions::tuple_field))]
     fn tuple_field(&self, cursor: &mut Cursor<'_>, budget: u8) -> Result<Field, ParseError>
-        requires { Nests T.Fn P.Fn E.Fn self.now (budget + 1) }
+        requires { R.nests self.now.inside (budget + 1) }
         ensures { Gives (read budget spec.tuple_field cursor.old) result cursor.new }
     {
         let start = cursor.mark();
@@ -126,7 +121,7 @@ impl<
     /// Fields in curly brackets (Rust Reference, Structs).
     #[tactic(auto, unfolding(crate::proofs::Opened::rules, educe_grammar::specs::Definitions::named_fields))]
     fn named_fields(&self, cursor: &mut Cursor<'_>, budget: u8) -> Result<FieldShape, ParseError>
-        requires { Nests T.Fn P.Fn E.Fn self.now budget }
+        requires { R.nests self.now.inside budget }
         ensures { Gives (read budget spec.named_fields cursor.old) result cursor.new }
     {
         let below = cursor.open(budget, Bracket::Curly)?;
@@ -145,7 +140,7 @@ impl<
     /// Fields in round brackets (Rust Reference, Tuple structs).
     #[tactic(auto, unfolding(crate::proofs::Opened::rules, educe_grammar::specs::Definitions::tuple_fields))]
     fn tuple_fields(&self, cursor: &mut Cursor<'_>, budget: u8) -> Result<FieldShape, ParseError>
-        requires { Nests T.Fn P.Fn E.Fn self.now budget }
+        requires { R.nests self.now.inside budget }
         ensures { Gives (read budget spec.tuple_fields cursor.old) result cursor.new }
     {
         let below = cursor.open(budget, Bracket::Round)?;
@@ -164,7 +159,7 @@ impl<
     /// The fields of a variant, if it has any (Rust Reference, Enumerations).
     #[tactic(auto, unfolding(crate::proofs::Opened::rules, educe_grammar::specs::Definitions::variant_fields))]
     fn variant_fields(&self, cursor: &mut Cursor<'_>, budget: u8) -> Result<FieldShape, ParseError>
-        requires { Nests T.Fn P.Fn E.Fn self.now budget }
+        requires { R.nests self.now.inside budget }
         ensures { Gives (read budget spec.variant_fields cursor.old) result cursor.new }
     {
         if cursor.opens(Bracket::Curly) {
@@ -179,7 +174,7 @@ impl<
     /// `=` and a value, if they stand here (Rust Reference, Enumerations: discriminants).
     #[tactic(auto, unfolding(crate::proofs::Opened::rules))]
     fn discriminant(&self, cursor: &mut Cursor<'_>, budget: u8) -> Result<Option<Expr>, ParseError>
-        requires { Nests T.Fn P.Fn E.Fn self.now (budget + 1) }
+        requires { R.nests self.now.inside (budget + 1) }
         ensures { Gives (read budget (optional (at_sign 61) (skipping (sign 61) (part exprs))) cursor.old) result cursor.new }
     {
         if !cursor.eat(Terminal::Sign('=')) {
@@ -191,7 +186,7 @@ impl<
     /// A variant (Rust Reference, Enumerations).
     #[tactic(auto, unfolding(crate::proofs::Opened::rules, educe_grammar::specs::Definitions::variant))]
     fn variant(&self, cursor: &mut Cursor<'_>, budget: u8) -> Result<Variant, ParseError>
-        requires { Nests T.Fn P.Fn E.Fn self.now (budget + 1) }
+        requires { R.nests self.now.inside (budget + 1) }
         ensures { Gives (read budget spec.variant cursor.old) result cursor.new }
     {
         let start = cursor.mark();
@@ -212,7 +207,7 @@ impl<
     /// Fields in curly brackets, or `;` (Rust Reference, Structs).
     #[tactic(auto, unfolding(crate::proofs::Opened::rules))]
     fn last_fields(&self, cursor: &mut Cursor<'_>, budget: u8) -> Result<FieldShape, ParseError>
-        requires { Nests T.Fn P.Fn E.Fn self.now budget }
+        requires { R.nests self.now.inside budget }
         ensures { Gives (read budget (either (at (start Curly)) spec.named_fields (made (λ _. spec.unit_shape) (sign 59))) cursor.old) result cursor.new }
     {
         if cursor.opens(Bracket::Curly) {
@@ -225,7 +220,7 @@ impl<
     /// The body of a struct (Rust Reference, Structs).
     #[tactic(auto, unfolding(crate::proofs::Opened::rules, educe_grammar::specs::Definitions::struct_body))]
     fn struct_body(&self, cursor: &mut Cursor<'_>, budget: u8) -> Result<Body, ParseError>
-        requires { Nests T.Fn P.Fn E.Fn self.now (budget + 1) }
+        requires { R.nests self.now.inside (budget + 1) }
         ensures { Gives (read budget spec.struct_body cursor.old) result cursor.new }
     {
         if cursor.opens(Bracket::Round) {
@@ -242,7 +237,7 @@ impl<
     /// The variants of an enum (Rust Reference, Enumerations).
     #[tactic(auto, unfolding(crate::proofs::Opened::rules))]
     fn variants(&self, cursor: &mut Cursor<'_>, budget: u8) -> Result<Variants, ParseError>
-        requires { Nests T.Fn P.Fn E.Fn self.now budget }
+        requires { R.nests self.now.inside budget }
         ensures { Gives (read budget (in_curly spec.variant) cursor.old) result cursor.new }
     {
         let below = cursor.open(budget, Bracket::Curly)?;
@@ -260,7 +255,7 @@ impl<
     /// The body of an enum (Rust Reference, Enumerations).
     #[tactic(auto, unfolding(crate::proofs::Opened::rules, educe_grammar::specs::Definitions::enum_body))]
     fn enum_body(&self, cursor: &mut Cursor<'_>, budget: u8) -> Result<Body, ParseError>
-        requires { Nests T.Fn P.Fn E.Fn self.now (budget + 1) }
+        requires { R.nests self.now.inside (budget + 1) }
         ensures { Gives (read budget spec.enum_body cursor.old) result cursor.new }
     {
         let predicates = self.where_clause(cursor, budget)?;
@@ -271,7 +266,7 @@ impl<
     /// A struct without its attributes and visibility (Rust Reference, Structs).
     #[tactic(auto, unfolding(crate::proofs::Opened::rules, educe_grammar::specs::Definitions::struct_item))]
     fn struct_item(&self, cursor: &mut Cursor<'_>, budget: u8) -> Result<Item, ParseError>
-        requires { Nests T.Fn P.Fn E.Fn self.now (budget + 1) }
+        requires { R.nests self.now.inside (budget + 1) }
         ensures { Gives (read budget spec.struct_item cursor.old) result cursor.new }
     {
         cursor.expect(Terminal::Word(Keyword::Struct))?;
@@ -284,7 +279,7 @@ impl<
     /// An enum without its attributes and visibility (Rust Reference, Enumerations).
     #[tactic(auto, unfolding(crate::proofs::Opened::rules, educe_grammar::specs::Definitions::enum_item))]
     fn enum_item(&self, cursor: &mut Cursor<'_>, budget: u8) -> Result<Item, ParseError>
-        requires { Nests T.Fn P.Fn E.Fn self.now (budget + 1) }
+        requires { R.nests self.now.inside (budget + 1) }
         ensures { Gives (read budget spec.enum_item cursor.old) result cursor.new }
     {
         cursor.expect(Terminal::Word(Keyword::Enum))?;
@@ -297,7 +292,7 @@ impl<
     /// A struct or an enum, without its attributes and visibility (Rust Reference, Items).
     #[tactic(auto, unfolding(crate::proofs::Opened::rules))]
     fn item(&self, cursor: &mut Cursor<'_>, budget: u8) -> Result<Item, ParseError>
-        requires { Nests T.Fn P.Fn E.Fn self.now (budget + 1) }
+        requires { R.nests self.now.inside (budget + 1) }
         ensures { Gives (read budget (either (at_word keyword.Enum) spec.enum_item spec.struct_item) cursor.old) result cursor.new }
     {
         if cursor.sees(Terminal::Word(Keyword::Enum)) {
@@ -309,7 +304,7 @@ impl<
     /// A definition (Rust Reference, Items).
     #[tactic(auto, unfolding(crate::proofs::Opened::rules, educe_grammar::specs::Definitions::definition))]
     pub fn definition(&self, cursor: &mut Cursor<'_>, budget: u8) -> Result<DeriveInput, ParseError>
-        requires { Nests T.Fn P.Fn E.Fn self.now (budget + 1) }
+        requires { R.nests self.now.inside (budget + 1) }
         ensures { Gives (read budget spec.definition cursor.old) result cursor.new }
     {
         let start = cursor.mark();

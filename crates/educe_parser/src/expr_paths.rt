@@ -7,10 +7,11 @@ ghost use Rattle.educe_grammar.specs.Steps.{Gives};
 ghost use Rattle.educe_grammar.specs.Types.{has_no_args};
 ghost use Rattle.educe_tree.specs.declared.path.Segment.{out-Segment};
 
+use crate::inside::Inside;
 use crate::looks::at_turbofish;
 use crate::names::segment_name;
 use crate::paths::{is_scope, qualified_path};
-use crate::readers::{Readers, Typed};
+use crate::productions::Productions;
 use educe_grammar::{Cursor, ParseError, path, written};
 use educe_tree::{Args, Expr, ExprPath, Path, Segment, Segments, Ty};
 use std::alloc::Global;
@@ -39,17 +40,11 @@ pub fn is_mod_path(path: &ExprPath) -> bool
     path.self_type.is_none() && no_segment_args(path.path.segments.as_slice())
 }
 
-impl<
-    T: Fn(Global, &mut Cursor<'_>, u8) -> Result<Ty, ParseError>,
-    P: Fn(Global, &mut Cursor<'_>, u8) -> Result<Typed, ParseError>,
-    E: Fn(Global, &mut Cursor<'_>, u8) -> Result<Expr, ParseError>,
-> Readers<T, P, E> {
-    ghost use Rattle.educe_parser.specs.Nests.{Nests};
-
+impl<R: Inside> Productions<R> {
     /// A segment, which has its arguments behind `::` (Rust Reference, Paths in expressions).
     #[tactic(auto, unfolding(crate::proofs::Opened::rules, educe_grammar::specs::Expressions::expr_segment))]
     fn expr_segment(&self, cursor: &mut Cursor<'_>, budget: u8) -> Result<Segment, ParseError>
-        requires { Nests T.Fn P.Fn E.Fn self.now budget }
+        requires { R.nests self.now.inside budget }
         ensures { Gives (read budget spec.expr_segment cursor.old) result cursor.new }
     {
         let ident = segment_name(self.alloc, cursor)?;
@@ -65,7 +60,7 @@ impl<
     /// The segments of a path (Rust Reference, Paths in expressions).
     #[tactic(auto, unfolding(crate::proofs::Opened::rules))]
     fn expr_segments(&self, cursor: &mut Cursor<'_>, budget: u8) -> Result<Segments, ParseError>
-        requires { Nests T.Fn P.Fn E.Fn self.now budget }
+        requires { R.nests self.now.inside budget }
         ensures { Gives (read budget (rule.path spec.expr_segment) cursor.old) result cursor.new }
     {
         path(
@@ -82,7 +77,7 @@ impl<
         cursor: &mut Cursor<'_>,
         budget: u8,
     ) -> Result<TypedPath, ParseError>
-        requires { Nests T.Fn P.Fn E.Fn self.now budget }
+        requires { R.nests self.now.inside budget }
         ensures { Gives (read budget spec.qualified_expr_path cursor.old) result cursor.new }
     {
         let (self_type, self_trait) = self.qualified_self(cursor, budget)?;
@@ -94,7 +89,7 @@ impl<
     /// A path with no type before it (Rust Reference, Paths in expressions).
     #[tactic(auto, unfolding(crate::proofs::Opened::rules, educe_grammar::specs::Expressions::local_expr_path))]
     fn local_expr_path(&self, cursor: &mut Cursor<'_>, budget: u8) -> Result<TypedPath, ParseError>
-        requires { Nests T.Fn P.Fn E.Fn self.now budget }
+        requires { R.nests self.now.inside budget }
         ensures { Gives (read budget spec.local_expr_path cursor.old) result cursor.new }
     {
         let leading = cursor.eat_pair(':', ':');
@@ -109,7 +104,7 @@ impl<
     /// A path with or without its type (Rust Reference, Path expressions).
     #[tactic(auto, unfolding(crate::proofs::Opened::rules, educe_grammar::specs::Expressions::any_expr_path))]
     fn any_expr_path(&self, cursor: &mut Cursor<'_>, budget: u8) -> Result<TypedPath, ParseError>
-        requires { Nests T.Fn P.Fn E.Fn self.now budget }
+        requires { R.nests self.now.inside budget }
         ensures { Gives (read budget spec.any_expr_path cursor.old) result cursor.new }
     {
         if cursor.begins_lone('<', '=') {
@@ -121,7 +116,7 @@ impl<
     /// A path in an expression, with its tokens (Rust Reference, Path expressions).
     #[tactic(auto, using(crate::proofs::Copied::any_expr_path_copied), unfolding(crate::proofs::Opened::rules, educe_grammar::specs::Expressions::expr_path))]
     pub fn expr_path(&self, cursor: &mut Cursor<'_>, budget: u8) -> Result<ExprPath, ParseError>
-        requires { Nests T.Fn P.Fn E.Fn self.now budget }
+        requires { R.nests self.now.inside budget }
         ensures { Gives (read budget spec.expr_path cursor.old) result cursor.new }
     {
         let (found, tokens) = written(cursor, |cursor| self.any_expr_path(cursor, budget))?;

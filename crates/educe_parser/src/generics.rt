@@ -6,9 +6,10 @@ ghost use Rattle.educe_grammar.specs.Rules as rule;
 ghost use Rattle.educe_grammar.specs.Steps.{Gives};
 
 use crate::bounds::{for_all, lifetime_bounds};
+use crate::inside::Inside;
 use crate::looks::behind_where;
 use crate::names::{lifetime, name};
-use crate::readers::{Readers, Typed};
+use crate::productions::Productions;
 use educe_grammar::{Cursor, Keyword, ParseError, Terminal, list, written};
 use educe_tokens::{Seq, Written};
 use educe_tree::{
@@ -51,18 +52,12 @@ fn lifetime_predicate(alloc: Global, cursor: &mut Cursor<'_>) -> Result<(), Pars
     Ok(())
 }
 
-impl<
-    T: Fn(Global, &mut Cursor<'_>, u8) -> Result<Ty, ParseError>,
-    P: Fn(Global, &mut Cursor<'_>, u8) -> Result<Typed, ParseError>,
-    E: Fn(Global, &mut Cursor<'_>, u8) -> Result<Expr, ParseError>,
-> Readers<T, P, E> {
-    ghost use Rattle.educe_parser.specs.Nests.{Nests};
-
+impl<R: Inside> Productions<R> {
     /// A name, and whether a colon stands behind it, with any bounds (Rust Reference, Trait and
     /// lifetime bounds).
     #[tactic(auto, unfolding(crate::proofs::Opened::rules, educe_grammar::specs::Generics::bounded_name))]
     fn bounded_name(&self, cursor: &mut Cursor<'_>, budget: u8) -> Result<(Ident, bool), ParseError>
-        requires { Nests T.Fn P.Fn E.Fn self.now (budget + 1) }
+        requires { R.nests self.now.inside (budget + 1) }
         ensures { Gives (read budget spec.bounded_name cursor.old) result cursor.new }
     {
         let ident = name(self.alloc, cursor)?;
@@ -81,7 +76,7 @@ impl<
         cursor: &mut Cursor<'_>,
         budget: u8,
     ) -> Result<((Ident, bool), Written), ParseError>
-        requires { Nests T.Fn P.Fn E.Fn self.now (budget + 1) }
+        requires { R.nests self.now.inside (budget + 1) }
         ensures { Gives (read budget (rule.written spec.bounded_name) cursor.old) result cursor.new }
     {
         written(cursor, |cursor| self.bounded_name(cursor, budget))
@@ -91,7 +86,7 @@ impl<
     /// parameters).
     #[tactic(auto, unfolding(crate::proofs::Opened::rules, educe_grammar::specs::Generics::type_param))]
     fn type_param(&self, cursor: &mut Cursor<'_>, budget: u8) -> Result<GenericParam, ParseError>
-        requires { Nests T.Fn P.Fn E.Fn self.now (budget + 1) }
+        requires { R.nests self.now.inside (budget + 1) }
         ensures { Gives (read budget spec.type_param cursor.old) result cursor.new }
     {
         let ((ident, _), written) = self.written_name(cursor, budget)?;
@@ -106,7 +101,7 @@ impl<
     /// `const`, a name and its type (Rust Reference, Const generics).
     #[tactic(auto, unfolding(crate::proofs::Opened::rules, educe_grammar::specs::Generics::typed_const))]
     fn typed_const(&self, cursor: &mut Cursor<'_>, budget: u8) -> Result<Ident, ParseError>
-        requires { Nests T.Fn P.Fn E.Fn self.now (budget + 1) }
+        requires { R.nests self.now.inside (budget + 1) }
         ensures { Gives (read budget spec.typed_const cursor.old) result cursor.new }
     {
         cursor.expect(Terminal::Word(Keyword::Const))?;
@@ -119,7 +114,7 @@ impl<
     /// A constant, which may be a name (Rust Reference, Const generics).
     #[tactic(auto, unfolding(crate::proofs::Opened::rules, educe_grammar::specs::Generics::any_constant))]
     fn any_constant(&self, cursor: &mut Cursor<'_>, budget: u8) -> Result<(), ParseError>
-        requires { Nests T.Fn P.Fn E.Fn self.now (budget + 1) }
+        requires { R.nests self.now.inside (budget + 1) }
         ensures { Gives (read budget spec.any_constant cursor.old) result cursor.new }
     {
         if cursor.eat(Terminal::Name) {
@@ -132,7 +127,7 @@ impl<
     /// generics).
     #[tactic(auto, using(crate::proofs::Copied::typed_const_copied), unfolding(crate::proofs::Opened::rules, educe_grammar::specs::Generics::const_param))]
     fn const_param(&self, cursor: &mut Cursor<'_>, budget: u8) -> Result<GenericParam, ParseError>
-        requires { Nests T.Fn P.Fn E.Fn self.now (budget + 1) }
+        requires { R.nests self.now.inside (budget + 1) }
         ensures { Gives (read budget spec.const_param cursor.old) result cursor.new }
     {
         let (ident, written) = written(cursor, |cursor| self.typed_const(cursor, budget))?;
@@ -147,7 +142,7 @@ impl<
     /// A generic parameter (Rust Reference, Generic parameters).
     #[tactic(auto, unfolding(crate::proofs::Opened::rules, educe_grammar::specs::Generics::generic_param))]
     fn generic_param(&self, cursor: &mut Cursor<'_>, budget: u8) -> Result<GenericParam, ParseError>
-        requires { Nests T.Fn P.Fn E.Fn self.now (budget + 1) }
+        requires { R.nests self.now.inside (budget + 1) }
         ensures { Gives (read budget spec.generic_param cursor.old) result cursor.new }
     {
         if cursor.sees(Terminal::Lifetime) {
@@ -162,7 +157,7 @@ impl<
     /// The generic parameters, if there are any (Rust Reference, Generic parameters).
     #[tactic(auto, unfolding(crate::proofs::Opened::rules, educe_grammar::specs::Generics::generic_params))]
     pub fn generic_params(&self, cursor: &mut Cursor<'_>, budget: u8) -> Result<Params, ParseError>
-        requires { Nests T.Fn P.Fn E.Fn self.now budget }
+        requires { R.nests self.now.inside budget }
         ensures { Gives (read budget spec.generic_params cursor.old) result cursor.new }
     {
         if !cursor.begins_lone('<', '=') {
@@ -183,7 +178,7 @@ impl<
     /// A type with bounds (Rust Reference, Where clauses).
     #[tactic(auto, unfolding(crate::proofs::Opened::rules, educe_grammar::specs::Generics::bounded_type))]
     fn bounded_type(&self, cursor: &mut Cursor<'_>, budget: u8) -> Result<(), ParseError>
-        requires { Nests T.Fn P.Fn E.Fn self.now (budget + 1) }
+        requires { R.nests self.now.inside (budget + 1) }
         ensures { Gives (read budget spec.bounded_type cursor.old) result cursor.new }
     {
         self.ty(cursor, budget)?;
@@ -196,7 +191,7 @@ impl<
     /// clauses).
     #[tactic(auto, unfolding(crate::proofs::Opened::rules, educe_grammar::specs::Generics::type_predicate))]
     fn type_predicate(&self, cursor: &mut Cursor<'_>, budget: u8) -> Result<(), ParseError>
-        requires { Nests T.Fn P.Fn E.Fn self.now (budget + 1) }
+        requires { R.nests self.now.inside (budget + 1) }
         ensures { Gives (read budget spec.type_predicate cursor.old) result cursor.new }
     {
         if !cursor.sees(Terminal::Word(Keyword::For)) {
@@ -209,7 +204,7 @@ impl<
     /// The tokens of a predicate (Rust Reference, Where clauses).
     #[tactic(auto, unfolding(crate::proofs::Opened::rules, educe_grammar::specs::Generics::any_predicate))]
     fn any_predicate(&self, cursor: &mut Cursor<'_>, budget: u8) -> Result<(), ParseError>
-        requires { Nests T.Fn P.Fn E.Fn self.now (budget + 1) }
+        requires { R.nests self.now.inside (budget + 1) }
         ensures { Gives (read budget spec.any_predicate cursor.old) result cursor.new }
     {
         if cursor.sees(Terminal::Lifetime) {
@@ -221,7 +216,7 @@ impl<
     /// A predicate (Rust Reference, Where clauses).
     #[tactic(auto, using(crate::proofs::Copied::any_predicate_copied), unfolding(crate::proofs::Opened::rules, educe_grammar::specs::Generics::predicate))]
     fn predicate(&self, cursor: &mut Cursor<'_>, budget: u8) -> Result<WherePredicate, ParseError>
-        requires { Nests T.Fn P.Fn E.Fn self.now (budget + 1) }
+        requires { R.nests self.now.inside (budget + 1) }
         ensures { Gives (read budget spec.predicate cursor.old) result cursor.new }
     {
         let (_, written) = written(cursor, |cursor| self.any_predicate(cursor, budget))?;
@@ -231,7 +226,7 @@ impl<
     /// The predicates of a where clause (Rust Reference, Where clauses).
     #[tactic(auto, unfolding(crate::proofs::Opened::rules, educe_grammar::specs::Generics::predicates))]
     pub fn predicates(&self, cursor: &mut Cursor<'_>, budget: u8) -> Result<Predicates, ParseError>
-        requires { Nests T.Fn P.Fn E.Fn self.now (budget + 1) }
+        requires { R.nests self.now.inside (budget + 1) }
         ensures { Gives (read budget spec.predicates cursor.old) result cursor.new }
     {
         list(
@@ -250,7 +245,7 @@ impl<
         cursor: &mut Cursor<'_>,
         budget: u8,
     ) -> Result<Predicates, ParseError>
-        requires { Nests T.Fn P.Fn E.Fn self.now (budget + 1) }
+        requires { R.nests self.now.inside (budget + 1) }
         ensures { Gives (read budget spec.where_clause cursor.old) result cursor.new }
     {
         if !cursor.eat(Terminal::Word(Keyword::Where)) {

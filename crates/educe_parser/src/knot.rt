@@ -9,7 +9,8 @@ ghost use Rattle.educe_grammar.specs.Reads.{read, readers};
 ghost use Rattle.educe_grammar.specs.Rules.{types, plains, exprs};
 ghost use Rattle.educe_grammar.specs.Steps.{Gives};
 
-use crate::readers::{Readers, Typed};
+use crate::inside::{Readers, Typed};
+use crate::productions::Productions;
 use educe_grammar::{Cursor, ParseError};
 use educe_tree::{DeriveInput, Expr, ExprPath, Metas, Predicates, Ty};
 use std::alloc::Global;
@@ -17,13 +18,15 @@ use std::alloc::Global;
 /// How many brackets, angle lists, `&`, `*`, `dyn` and `->` may stand in one another.
 pub const DEPTH_LIMIT: u8 = 128;
 
-macro_rules! readers {
+macro_rules! productions {
     ($alloc:expr) => {
-        Readers {
+        Productions {
             alloc: $alloc,
-            types: ty,
-            plains: plain,
-            exprs: expr,
+            inside: Readers {
+                types: ty,
+                plains: plain,
+                exprs: expr,
+            },
         }
     };
 }
@@ -34,7 +37,7 @@ macro_rules! readers {
 pub fn ty(alloc: Global, cursor: &mut Cursor<'_>, budget: u8) -> Result<Ty, ParseError>
     ensures { Gives (readers budget types cursor.old) result cursor.new }
 {
-    readers!(alloc).any_type(cursor, budget)
+    productions!(alloc).any_type(cursor, budget)
 }
 
 /// A type whose `dyn` has one bound (Rust Reference, Type expressions).
@@ -43,7 +46,7 @@ pub fn ty(alloc: Global, cursor: &mut Cursor<'_>, budget: u8) -> Result<Ty, Pars
 fn plain(alloc: Global, cursor: &mut Cursor<'_>, budget: u8) -> Result<Typed, ParseError>
     ensures { Gives (readers budget plains cursor.old) result cursor.new }
 {
-    readers!(alloc).plain_type(cursor, budget)
+    productions!(alloc).plain_type(cursor, budget)
 }
 
 /// An expression (Rust Reference, Expressions).
@@ -52,40 +55,40 @@ fn plain(alloc: Global, cursor: &mut Cursor<'_>, budget: u8) -> Result<Typed, Pa
 fn expr(alloc: Global, cursor: &mut Cursor<'_>, budget: u8) -> Result<Expr, ParseError>
     ensures { Gives (readers budget exprs cursor.old) result cursor.new }
 {
-    readers!(alloc).expression(cursor, budget)
+    productions!(alloc).expression(cursor, budget)
 }
 
 /// The path of an expression (Rust Reference, Path expressions).
 pub fn expr_path(alloc: Global, cursor: &mut Cursor<'_>) -> Result<ExprPath, ParseError>
     ensures { Gives (read depth_limit spec.expr_path cursor.old) result cursor.new }
 {
-    readers!(alloc).expr_path(cursor, DEPTH_LIMIT)
+    productions!(alloc).expr_path(cursor, DEPTH_LIMIT)
 }
 
 /// An expression (Rust Reference, Expressions).
 pub fn expression(alloc: Global, cursor: &mut Cursor<'_>) -> Result<Expr, ParseError>
     ensures { Gives (read depth_limit spec.expression cursor.old) result cursor.new }
 {
-    readers!(alloc).expression(cursor, DEPTH_LIMIT)
+    productions!(alloc).expression(cursor, DEPTH_LIMIT)
 }
 
 /// The predicates of a where clause (Rust Reference, Where clauses).
 pub fn predicates(alloc: Global, cursor: &mut Cursor<'_>) -> Result<Predicates, ParseError>
     ensures { Gives (read depth_limit generics.predicates cursor.old) result cursor.new }
 {
-    readers!(alloc).predicates(cursor, DEPTH_LIMIT)
+    productions!(alloc).predicates(cursor, DEPTH_LIMIT)
 }
 
 /// The items of a list in an attribute (Rust Reference, Meta item attribute syntax).
 pub fn metas(alloc: Global, cursor: &mut Cursor<'_>) -> Result<Metas, ParseError>
     ensures { Gives (read depth_limit attrs.metas cursor.old) result cursor.new }
 {
-    readers!(alloc).metas(cursor, DEPTH_LIMIT)
+    productions!(alloc).metas(cursor, DEPTH_LIMIT)
 }
 
 /// A definition (Rust Reference, Items).
 pub fn definition(alloc: Global, cursor: &mut Cursor<'_>) -> Result<DeriveInput, ParseError>
     ensures { Gives (read depth_limit defs.definition cursor.old) result cursor.new }
 {
-    readers!(alloc).definition(cursor, DEPTH_LIMIT)
+    productions!(alloc).definition(cursor, DEPTH_LIMIT)
 }

@@ -7,8 +7,9 @@ ghost use Rattle.educe_grammar.specs.Reads.{read};
 ghost use Rattle.educe_grammar.specs.Rules.{exprs, part};
 ghost use Rattle.educe_grammar.specs.Steps.{Gives};
 
+use crate::inside::Inside;
 use crate::looks::{at_postfix, at_prefix};
-use crate::readers::{Readers, Typed};
+use crate::productions::Productions;
 use crate::tails::{fits_tail, tail_form};
 use educe_grammar::{Cursor, Keyword, ParseError, Terminal, chain, list};
 use educe_tokens::{Bracket, Seq, Token, TokenKind};
@@ -60,17 +61,11 @@ fn unary_form(prefixes: &[bool], operand: ExprForm, postfixes: &[()]) -> ExprFor
     }
 }
 
-impl<
-    T: Fn(Global, &mut Cursor<'_>, u8) -> Result<Ty, ParseError>,
-    P: Fn(Global, &mut Cursor<'_>, u8) -> Result<Typed, ParseError>,
-    E: Fn(Global, &mut Cursor<'_>, u8) -> Result<Expr, ParseError>,
-> Readers<T, P, E> {
-    ghost use Rattle.educe_parser.specs.Nests.{Nests};
-
+impl<R: Inside> Productions<R> {
     /// Expressions in round brackets (Rust Reference, Call expressions).
     #[tactic(auto, unfolding(crate::proofs::Opened::rules))]
     fn round_exprs(&self, cursor: &mut Cursor<'_>, budget: u8) -> Result<Seq<Expr>, ParseError>
-        requires { Nests T.Fn P.Fn E.Fn self.now budget }
+        requires { R.nests self.now.inside budget }
         ensures { Gives (read budget (in_round (part exprs)) cursor.old) result cursor.new }
     {
         let below = cursor.open(budget, Bracket::Round)?;
@@ -89,7 +84,7 @@ impl<
     /// expressions).
     #[tactic(auto, unfolding(crate::proofs::Opened::rules, educe_grammar::specs::Expressions::member))]
     fn member(&self, cursor: &mut Cursor<'_>, budget: u8) -> Result<(), ParseError>
-        requires { Nests T.Fn P.Fn E.Fn self.now budget }
+        requires { R.nests self.now.inside budget }
         ensures { Gives (read budget spec.member cursor.old) result cursor.new }
     {
         if !cursor.eat(Terminal::Name) {
@@ -107,7 +102,7 @@ impl<
     /// expressions; Field access expressions).
     #[tactic(auto, unfolding(crate::proofs::Opened::rules, educe_grammar::specs::Expressions::postfix))]
     fn postfix(&self, cursor: &mut Cursor<'_>, budget: u8) -> Result<(), ParseError>
-        requires { Nests T.Fn P.Fn E.Fn self.now budget }
+        requires { R.nests self.now.inside budget }
         ensures { Gives (read budget spec.postfix cursor.old) result cursor.new }
     {
         if cursor.opens(Bracket::Round) {
@@ -128,7 +123,7 @@ impl<
     /// expressions; Grouped expressions; Tuple expressions).
     #[tactic(auto, unfolding(crate::proofs::Opened::rules, educe_grammar::specs::Expressions::primary))]
     fn primary(&self, cursor: &mut Cursor<'_>, budget: u8) -> Result<ExprForm, ParseError>
-        requires { Nests T.Fn P.Fn E.Fn self.now budget }
+        requires { R.nests self.now.inside budget }
         ensures { Gives (read budget spec.primary cursor.old) result cursor.new }
     {
         if cursor.eat(Terminal::Literal) {
@@ -153,7 +148,7 @@ impl<
     /// expressions).
     #[tactic(auto, unfolding(crate::proofs::Opened::rules, educe_grammar::specs::Expressions::unary))]
     pub fn unary(&self, cursor: &mut Cursor<'_>, budget: u8) -> Result<ExprForm, ParseError>
-        requires { Nests T.Fn P.Fn E.Fn self.now budget }
+        requires { R.nests self.now.inside budget }
         ensures { Gives (read budget spec.unary cursor.old) result cursor.new }
     {
         let prefixes = chain(

@@ -7,9 +7,10 @@ ghost use Rattle.educe_grammar.specs.Rules.{plains, arrow, part};
 ghost use Rattle.educe_grammar.specs.Steps.{Gives};
 ghost use Rattle.educe_grammar.specs.Types as spec;
 
+use crate::inside::{Inside, Typed};
 use crate::looks::{at_angle_args, at_binding, at_constant};
 use crate::names::{lifetime, name, segment_name};
-use crate::readers::{Readers, Typed};
+use crate::productions::Productions;
 use educe_grammar::{Cursor, Ending, Keyword, ParseError, Terminal, list, path, written};
 use educe_tokens::{Boxed, Bracket, Seq};
 use educe_tree::{AngleArg, AngleArgs, Args, Expr, Path, Segment, Segments, Ty, TypeForm, Types};
@@ -140,17 +141,11 @@ pub fn qualified_path(
     Ok(Path { leading, segments })
 }
 
-impl<
-    T: Fn(Global, &mut Cursor<'_>, u8) -> Result<Ty, ParseError>,
-    P: Fn(Global, &mut Cursor<'_>, u8) -> Result<Typed, ParseError>,
-    E: Fn(Global, &mut Cursor<'_>, u8) -> Result<Expr, ParseError>,
-> Readers<T, P, E> {
-    ghost use Rattle.educe_parser.specs.Nests.{Nests};
-
+impl<R: Inside> Productions<R> {
     /// A constant that is no name (Rust Reference, Const generics).
     #[tactic(auto, unfolding(crate::proofs::Opened::rules, educe_grammar::specs::Types::constant))]
     pub fn constant(&self, cursor: &mut Cursor<'_>, budget: u8) -> Result<(), ParseError>
-        requires { Nests T.Fn P.Fn E.Fn self.now budget }
+        requires { R.nests self.now.inside budget }
         ensures { Gives (read budget spec.constant cursor.old) result cursor.new }
     {
         if cursor.eat(Terminal::Literal) {
@@ -172,7 +167,7 @@ impl<
     /// An argument in angle brackets (Rust Reference, Generic arguments).
     #[tactic(auto, using(crate::proofs::Copied::constant_copied), unfolding(crate::proofs::Opened::rules, educe_grammar::specs::Types::angle_arg))]
     fn angle_arg(&self, cursor: &mut Cursor<'_>, budget: u8) -> Result<AngleArg, ParseError>
-        requires { Nests T.Fn P.Fn E.Fn self.now (budget + 1) }
+        requires { R.nests self.now.inside (budget + 1) }
         ensures { Gives (read budget spec.angle_arg cursor.old) result cursor.new }
     {
         if cursor.sees(Terminal::Lifetime) {
@@ -193,7 +188,7 @@ impl<
     /// Arguments in angle brackets (Rust Reference, Generic arguments).
     #[tactic(auto, unfolding(crate::proofs::Opened::rules, educe_grammar::specs::Types::angle_args))]
     pub fn angle_args(&self, cursor: &mut Cursor<'_>, budget: u8) -> Result<AngleArgs, ParseError>
-        requires { Nests T.Fn P.Fn E.Fn self.now budget }
+        requires { R.nests self.now.inside budget }
         ensures { Gives (read budget spec.angle_args cursor.old) result cursor.new }
     {
         let below = cursor.open_angle(budget)?;
@@ -211,7 +206,7 @@ impl<
     /// The type behind `->`, where there is one (Rust Reference, Function pointer types).
     #[tactic(auto, unfolding(crate::proofs::Opened::rules))]
     pub fn output(&self, cursor: &mut Cursor<'_>, budget: u8) -> Result<Option<Typed>, ParseError>
-        requires { Nests T.Fn P.Fn E.Fn self.now budget }
+        requires { R.nests self.now.inside budget }
         ensures { Gives (read budget (optional at_arrow (arrow (part plains))) cursor.old) result cursor.new }
     {
         if !cursor.begins_pair('-', '>') {
@@ -228,7 +223,7 @@ impl<
         cursor: &mut Cursor<'_>,
         budget: u8,
     ) -> Result<(Types, Option<Typed>), ParseError>
-        requires { Nests T.Fn P.Fn E.Fn self.now budget }
+        requires { R.nests self.now.inside budget }
         ensures { Gives (read budget spec.round_args cursor.old) result cursor.new }
     {
         let below = cursor.open(budget, Bracket::Round)?;
@@ -247,7 +242,7 @@ impl<
     /// The arguments of a segment in a type (Rust Reference, Paths in types).
     #[tactic(auto, unfolding(crate::proofs::Opened::rules, educe_grammar::specs::Types::type_args))]
     fn type_args(&self, cursor: &mut Cursor<'_>, budget: u8) -> Result<ArgsRead, ParseError>
-        requires { Nests T.Fn P.Fn E.Fn self.now budget }
+        requires { R.nests self.now.inside budget }
         ensures { Gives (read budget spec.type_args cursor.old) result cursor.new }
     {
         if at_angle_args(cursor) {
@@ -265,7 +260,7 @@ impl<
     /// A segment of a path in a type (Rust Reference, Paths in types).
     #[tactic(auto, unfolding(crate::proofs::Opened::rules, educe_grammar::specs::Types::type_segment))]
     fn type_segment(&self, cursor: &mut Cursor<'_>, budget: u8) -> Result<SegmentRead, ParseError>
-        requires { Nests T.Fn P.Fn E.Fn self.now budget }
+        requires { R.nests self.now.inside budget }
         ensures { Gives (read budget spec.type_segment cursor.old) result cursor.new }
     {
         let ident = segment_name(self.alloc, cursor)?;
@@ -280,7 +275,7 @@ impl<
         cursor: &mut Cursor<'_>,
         budget: u8,
     ) -> Result<Seq<SegmentRead>, ParseError>
-        requires { Nests T.Fn P.Fn E.Fn self.now budget }
+        requires { R.nests self.now.inside budget }
         ensures { Gives (read budget spec.type_segments cursor.old) result cursor.new }
     {
         let found = path(
@@ -301,7 +296,7 @@ impl<
         cursor: &mut Cursor<'_>,
         budget: u8,
     ) -> Result<(Path, Ending), ParseError>
-        requires { Nests T.Fn P.Fn E.Fn self.now budget }
+        requires { R.nests self.now.inside budget }
         ensures { Gives (read budget spec.type_path cursor.old) result cursor.new }
     {
         let leading = cursor.eat_pair(':', ':');
@@ -320,7 +315,7 @@ impl<
         cursor: &mut Cursor<'_>,
         budget: u8,
     ) -> Result<Option<(Path, Ending)>, ParseError>
-        requires { Nests T.Fn P.Fn E.Fn self.now budget }
+        requires { R.nests self.now.inside budget }
         ensures { Gives (read budget (optional (at_word keyword.As) (skipping (word keyword.As) spec.type_path)) cursor.old) result cursor.new }
     {
         if !cursor.eat(Terminal::Word(Keyword::As)) {
@@ -336,7 +331,7 @@ impl<
         cursor: &mut Cursor<'_>,
         budget: u8,
     ) -> Result<(Ty, Option<(Path, Ending)>), ParseError>
-        requires { Nests T.Fn P.Fn E.Fn self.now budget }
+        requires { R.nests self.now.inside budget }
         ensures { Gives (read budget spec.qualified_self cursor.old) result cursor.new }
     {
         let below = cursor.open_angle(budget)?;
@@ -353,7 +348,7 @@ impl<
         cursor: &mut Cursor<'_>,
         budget: u8,
     ) -> Result<(TypeForm, Ending), ParseError>
-        requires { Nests T.Fn P.Fn E.Fn self.now budget }
+        requires { R.nests self.now.inside budget }
         ensures { Gives (read budget spec.qualified cursor.old) result cursor.new }
     {
         let (self_type, self_trait) = self.qualified_self(cursor, budget)?;

@@ -6,8 +6,9 @@ ghost use Rattle.educe_grammar.specs.Reads.{read};
 ghost use Rattle.educe_grammar.specs.Steps.{Gives};
 
 use crate::expr_paths::is_mod_path;
+use crate::inside::Inside;
 use crate::looks::{at_value, behind_fields};
-use crate::readers::{Readers, Typed};
+use crate::productions::Productions;
 use crate::trees::group;
 use educe_grammar::{Cursor, ParseError, Tail, Terminal, list};
 use educe_tokens::{Bracket, TokenSlice};
@@ -65,17 +66,11 @@ fn macro_group(alloc: Global, cursor: &mut Cursor<'_>, budget: u8) -> Result<(),
     Ok(())
 }
 
-impl<
-    T: Fn(Global, &mut Cursor<'_>, u8) -> Result<Ty, ParseError>,
-    P: Fn(Global, &mut Cursor<'_>, u8) -> Result<Typed, ParseError>,
-    E: Fn(Global, &mut Cursor<'_>, u8) -> Result<Expr, ParseError>,
-> Readers<T, P, E> {
-    ghost use Rattle.educe_parser.specs.Nests.{Nests};
-
+impl<R: Inside> Productions<R> {
     /// The value of a field, or its name alone (Rust Reference, Field struct expression).
     #[tactic(auto, unfolding(crate::proofs::Opened::rules, educe_grammar::specs::Expressions::init))]
     fn init(&self, cursor: &mut Cursor<'_>, budget: u8) -> Result<(), ParseError>
-        requires { Nests T.Fn P.Fn E.Fn self.now (budget + 1) }
+        requires { R.nests self.now.inside (budget + 1) }
         ensures { Gives (read budget spec.init cursor.old) result cursor.new }
     {
         if !at_value(cursor) {
@@ -92,7 +87,7 @@ impl<
     /// syntax).
     #[tactic(auto, unfolding(crate::proofs::Opened::rules, educe_grammar::specs::Expressions::inits))]
     fn inits(&self, cursor: &mut Cursor<'_>, budget: u8) -> Result<(), ParseError>
-        requires { Nests T.Fn P.Fn E.Fn self.now (budget + 1) }
+        requires { R.nests self.now.inside (budget + 1) }
         ensures { Gives (read budget spec.inits cursor.old) result cursor.new }
     {
         let comma = Terminal::Sign(',');
@@ -114,7 +109,7 @@ impl<
     /// Macro invocation).
     #[tactic(auto, unfolding(crate::proofs::Opened::rules, educe_grammar::specs::Expressions::path_tail))]
     pub fn path_tail(&self, cursor: &mut Cursor<'_>, budget: u8) -> Result<Tail, ParseError>
-        requires { Nests T.Fn P.Fn E.Fn self.now budget }
+        requires { R.nests self.now.inside budget }
         ensures { Gives (read budget spec.path_tail cursor.old) result cursor.new }
     {
         if cursor.opens(Bracket::Curly) {

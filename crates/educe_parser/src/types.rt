@@ -11,9 +11,10 @@ ghost use Rattle.educe_grammar.specs.declared.terminal.Keyword.TheVariants as ke
 ghost use Rattle.educe_grammar.specs.declared.terminal.Terminal.TheVariants as terminal;
 
 use crate::bounds::{bound_paths, optional_for_all};
+use crate::inside::{Inside, Typed};
 use crate::looks::{at_fn, at_fn_param};
 use crate::names::skip_lifetime;
-use crate::readers::{Readers, Typed};
+use crate::productions::Productions;
 use educe_grammar::{Cursor, Ending, Keyword, ParseError, Terminal, list, written};
 use educe_tokens::{Boxed, Bracket, Seq};
 use educe_tree::{Expr, Ty, TypeForm, Types};
@@ -79,17 +80,11 @@ fn fn_qualifiers(alloc: Global, cursor: &mut Cursor<'_>, budget: u8) -> Result<(
     Ok(())
 }
 
-impl<
-    T: Fn(Global, &mut Cursor<'_>, u8) -> Result<Ty, ParseError>,
-    P: Fn(Global, &mut Cursor<'_>, u8) -> Result<Typed, ParseError>,
-    E: Fn(Global, &mut Cursor<'_>, u8) -> Result<Expr, ParseError>,
-> Readers<T, P, E> {
-    ghost use Rattle.educe_parser.specs.Nests.{Nests};
-
+impl<R: Inside> Productions<R> {
     /// A comma and the types behind it, where one comes next (Rust Reference, Tuple types).
     #[tactic(auto, unfolding(crate::proofs::Opened::rules))]
     fn more_types(&self, cursor: &mut Cursor<'_>, budget: u8) -> Result<Option<Types>, ParseError>
-        requires { Nests T.Fn P.Fn E.Fn self.now (budget + 1) }
+        requires { R.nests self.now.inside (budget + 1) }
         ensures { Gives (read budget (optional (at_sign 44) (skipping (sign 44) (commas (at (stop Round)) (part types)))) cursor.old) result cursor.new }
     {
         if !cursor.eat(Terminal::Sign(',')) {
@@ -108,7 +103,7 @@ impl<
     /// A parenthesis or a tuple (Rust Reference, Parenthesized types; Tuple types).
     #[tactic(auto, unfolding(crate::proofs::Opened::rules, educe_grammar::specs::Types::round_form))]
     fn round_form(&self, cursor: &mut Cursor<'_>, budget: u8) -> Result<FormRead, ParseError>
-        requires { Nests T.Fn P.Fn E.Fn self.now budget }
+        requires { R.nests self.now.inside budget }
         ensures { Gives (read budget spec.round_form cursor.old) result cursor.new }
     {
         let below = cursor.open(budget, Bracket::Round)?;
@@ -125,7 +120,7 @@ impl<
     /// `&'a mut` and a type (Rust Reference, Pointer types).
     #[tactic(auto, unfolding(crate::proofs::Opened::rules, educe_grammar::specs::Types::reference))]
     fn reference(&self, cursor: &mut Cursor<'_>, budget: u8) -> Result<FormRead, ParseError>
-        requires { Nests T.Fn P.Fn E.Fn self.now budget }
+        requires { R.nests self.now.inside budget }
         ensures { Gives (read budget spec.reference cursor.old) result cursor.new }
     {
         let below = cursor.open_under(budget, Terminal::Sign('&'))?;
@@ -139,7 +134,7 @@ impl<
     /// `*const` or `*mut` and a type (Rust Reference, Pointer types).
     #[tactic(auto, unfolding(crate::proofs::Opened::rules, educe_grammar::specs::Types::pointer))]
     fn pointer(&self, cursor: &mut Cursor<'_>, budget: u8) -> Result<FormRead, ParseError>
-        requires { Nests T.Fn P.Fn E.Fn self.now budget }
+        requires { R.nests self.now.inside budget }
         ensures { Gives (read budget spec.pointer cursor.old) result cursor.new }
     {
         let below = cursor.open_under(budget, Terminal::Sign('*'))?;
@@ -151,7 +146,7 @@ impl<
     /// A slice or an array (Rust Reference, Slice types; Array types).
     #[tactic(auto, unfolding(crate::proofs::Opened::rules, educe_grammar::specs::Types::square_form))]
     fn square_form(&self, cursor: &mut Cursor<'_>, budget: u8) -> Result<FormRead, ParseError>
-        requires { Nests T.Fn P.Fn E.Fn self.now budget }
+        requires { R.nests self.now.inside budget }
         ensures { Gives (read budget spec.square_form cursor.old) result cursor.new }
     {
         let below = cursor.open(budget, Bracket::Square)?;
@@ -172,7 +167,7 @@ impl<
     /// A parameter of a function pointer (Rust Reference, Function pointer types).
     #[tactic(auto, unfolding(crate::proofs::Opened::rules, educe_grammar::specs::Types::fn_param))]
     fn fn_param(&self, cursor: &mut Cursor<'_>, budget: u8) -> Result<Ty, ParseError>
-        requires { Nests T.Fn P.Fn E.Fn self.now (budget + 1) }
+        requires { R.nests self.now.inside (budget + 1) }
         ensures { Gives (read budget spec.fn_param cursor.old) result cursor.new }
     {
         if at_fn_param(cursor) {
@@ -186,7 +181,7 @@ impl<
     /// A function pointer (Rust Reference, Function pointer types).
     #[tactic(auto, unfolding(crate::proofs::Opened::rules, educe_grammar::specs::Types::fn_pointer))]
     fn fn_pointer(&self, cursor: &mut Cursor<'_>, budget: u8) -> Result<FormRead, ParseError>
-        requires { Nests T.Fn P.Fn E.Fn self.now budget }
+        requires { R.nests self.now.inside budget }
         ensures { Gives (read budget spec.fn_pointer cursor.old) result cursor.new }
     {
         fn_qualifiers(self.alloc, cursor, budget)?;
@@ -208,7 +203,7 @@ impl<
     /// Qualified paths; Function pointer types).
     #[tactic(auto, unfolding(crate::proofs::Opened::rules))]
     fn named_form(&self, cursor: &mut Cursor<'_>, budget: u8) -> Result<FormRead, ParseError>
-        requires { Nests T.Fn P.Fn E.Fn self.now budget }
+        requires { R.nests self.now.inside budget }
         ensures { Gives (read budget (either at_angle spec.qualified (either spec.at_fn spec.fn_pointer (made spec.path_form spec.type_path))) cursor.old) result cursor.new }
     {
         if cursor.begins_lone('<', '=') {
@@ -224,7 +219,7 @@ impl<
     /// The form of a type that is not `dyn` (Rust Reference, Type expressions).
     #[tactic(auto, unfolding(crate::proofs::Opened::rules, educe_grammar::specs::Types::plain_form))]
     fn plain_form(&self, cursor: &mut Cursor<'_>, budget: u8) -> Result<FormRead, ParseError>
-        requires { Nests T.Fn P.Fn E.Fn self.now budget }
+        requires { R.nests self.now.inside budget }
         ensures { Gives (read budget spec.plain_form cursor.old) result cursor.new }
     {
         if cursor.opens(Bracket::Round) {
@@ -248,7 +243,7 @@ impl<
     /// The form of a type, where `dyn` has one bound (Rust Reference, Trait objects).
     #[tactic(auto, unfolding(crate::proofs::Opened::rules, educe_grammar::specs::Types::one_bound_form))]
     fn one_bound_form(&self, cursor: &mut Cursor<'_>, budget: u8) -> Result<FormRead, ParseError>
-        requires { Nests T.Fn P.Fn E.Fn self.now budget }
+        requires { R.nests self.now.inside budget }
         ensures { Gives (read budget spec.one_bound_form cursor.old) result cursor.new }
     {
         if !cursor.sees(Terminal::Word(Keyword::Dyn)) {
@@ -267,7 +262,7 @@ impl<
     /// The form of a type, where `dyn` has any bounds (Rust Reference, Trait objects).
     #[tactic(auto, unfolding(crate::proofs::Opened::rules, educe_grammar::specs::Types::any_bounds_form))]
     fn any_bounds_form(&self, cursor: &mut Cursor<'_>, budget: u8) -> Result<FormRead, ParseError>
-        requires { Nests T.Fn P.Fn E.Fn self.now budget }
+        requires { R.nests self.now.inside budget }
         ensures { Gives (read budget spec.any_bounds_form cursor.old) result cursor.new }
     {
         if !cursor.sees(Terminal::Word(Keyword::Dyn)) {
@@ -285,7 +280,7 @@ impl<
     /// A type whose `dyn` has one bound (Rust Reference, Type expressions).
     #[tactic(auto, using(crate::proofs::Copied::one_bound_form_copied), unfolding(crate::proofs::Opened::rules, educe_grammar::specs::Types::plain_type))]
     pub fn plain_type(&self, cursor: &mut Cursor<'_>, budget: u8) -> Result<Typed, ParseError>
-        requires { Nests T.Fn P.Fn E.Fn self.now budget }
+        requires { R.nests self.now.inside budget }
         ensures { Gives (read budget spec.plain_type cursor.old) result cursor.new }
     {
         let ((form, ending), written) = written(
@@ -298,7 +293,7 @@ impl<
     /// A type (Rust Reference, Types).
     #[tactic(auto, using(crate::proofs::Copied::any_bounds_form_copied), unfolding(crate::proofs::Opened::rules, educe_grammar::specs::Types::any_type))]
     pub fn any_type(&self, cursor: &mut Cursor<'_>, budget: u8) -> Result<Ty, ParseError>
-        requires { Nests T.Fn P.Fn E.Fn self.now budget }
+        requires { R.nests self.now.inside budget }
         ensures { Gives (read budget spec.any_type cursor.old) result cursor.new }
     {
         let ((form, _), written) = written(cursor, |cursor| self.any_bounds_form(cursor, budget))?;

@@ -2,7 +2,7 @@ use Rattle.std.proofs.Common.{rules}
 use Rattle.educe_grammar.specs.Generics.{bounded_name}
 use Rattle.educe_grammar.specs.Reads.{read}
 use Rattle.educe_grammar.specs.Running.{run}
-use Rattle.educe_parser.proofs.readers.Readers.written_name.Goals as goal
+use Rattle.educe_parser.proofs.productions.Productions.written_name.Goals as goal
 
 pub returns : goal.returns
 unfolding run
