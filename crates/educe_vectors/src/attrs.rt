@@ -1,11 +1,11 @@
 //! Of `educe_attrs`: what attributes list and set.
 
-use crate::common::{lexed, tokens};
 use educe_attrs::{
     Param, Setting, Trait, all_listed, each_once, ignores, listed_by, params_of, rank_in,
     rank_span_in, settings_by,
 };
 use educe_parser::parse_metas;
+use educe_token_vectors::{lexed, lexed_slice};
 use educe_tokens::{Seq, Span};
 use educe_tree::{Attribute, Attributes, Duplicate, Meta};
 use std::alloc::Global;
@@ -14,7 +14,7 @@ use std::test::Fail;
 
 /// The attributes that the metas of a text are.
 fn attributes(alloc: Global, text: &str) -> Result<Attributes, Fail> {
-    let tokens = tokens(alloc, text)?;
+    let tokens = lexed_slice(alloc, text)?;
     let Ok(metas) = parse_metas(alloc, &tokens) else {
         return Err(Fail::from("no metas"));
     };

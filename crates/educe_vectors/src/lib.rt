@@ -1,4 +1,5 @@
-//! What no clause says: texts and their answers, and that calls succeed where memory suffices.
+//! Tests of `educe_attrs`, `educe_body` and `educe_core`: what attributes say, what bodies and items
+//! are, and what runs over devices in memory write.
 #![tactic(auto)]
 
 #[cfg(test)]
@@ -6,16 +7,4 @@ mod attrs;
 #[cfg(test)]
 mod body;
 #[cfg(test)]
-mod common;
-#[cfg(test)]
-mod parser;
-#[cfg(test)]
-mod pieces;
-#[cfg(test)]
 mod program;
-#[cfg(test)]
-mod scan;
-#[cfg(test)]
-mod tokens;
-#[cfg(test)]
-mod tree;

@@ -1,7 +1,7 @@
 //! Words of tokens.
 
-use crate::common::lexed;
 use educe_body::has_word;
+use educe_token_vectors::lexed;
 use std::alloc::Global;
 use std::test::Fail;
 

@@ -2,7 +2,7 @@ use Rattle.std.proofs.Common.{refl, sym, subst}
 use Rattle.educe_tokens.specs.Quote.{quoted}
 use Rattle.educe_tokens.specs.Text.{IsWellFormed}
 use Rattle.educe_tokens.proofs.Appending.{lexemes-Appends}
-use Rattle.educe_vectors.proofs.tokens.printing.one_space_between_tokens.Goals as goal
+use Rattle.educe_token_vectors.proofs.tokens.printing.one_space_between_tokens.Goals as goal
 
 pub text-requires : goal.text-requires
 unfolding quoted

@@ -2,8 +2,8 @@
 //! texts that differ by a token and are none. Where `rustc` reads the syntax that is carried, it
 //! answers the same but for the differences in the documents.
 
-use crate::common::lex_answer;
 use educe_parser::parse_derive_input;
+use educe_token_vectors::lex_answer;
 use educe_tokens::{Kind, TokenSlice};
 use std::alloc::Global;
 use std::process::Abort;

@@ -1,9 +1,9 @@
 //! What the calls answer: trees by their text, refusals by their place and words.
 
-use crate::common::tokens;
 use educe_parser::{
     parse_derive_input, parse_expr, parse_ident, parse_metas, parse_path, parse_predicates,
 };
+use educe_token_vectors::lexed_slice;
 use educe_tokens::{Kind, Span, text_of_tree};
 use educe_tree::{Meta, Shape};
 use std::alloc::Global;
@@ -19,7 +19,7 @@ fn check_refusal(
     span: Span,
     words: &[&str],
 ) -> Result<(), Fail> {
-    let tokens = tokens(alloc, source)?;
+    let tokens = lexed_slice(alloc, source)?;
     let Err(error) = parse_derive_input(alloc, &tokens) else {
         return Err(Fail::from("read"));
     };
@@ -35,11 +35,11 @@ fn check_refusal(
 #[test]
 fn names_are_read(rt: HostRuntime) -> Result<(), Fail> {
     let alloc = rt.alloc();
-    let Ok(ident) = parse_ident(alloc, &tokens(alloc, "r#fn")?) else {
+    let Ok(ident) = parse_ident(alloc, &lexed_slice(alloc, "r#fn")?) else {
         return Err(Fail::from("refused"));
     };
     assert_eq!(rt; ident.text.as_str(), "r#fn");
-    let Err(error) = parse_ident(alloc, &tokens(alloc, "fn")?) else {
+    let Err(error) = parse_ident(alloc, &lexed_slice(alloc, "fn")?) else {
         return Err(Fail::from("read"));
     };
     assert_eq!(rt; error.kind, Kind::Syntax);
@@ -49,11 +49,11 @@ fn names_are_read(rt: HostRuntime) -> Result<(), Fail> {
 #[test]
 fn expressions_and_paths_are_read(rt: HostRuntime) -> Result<(), Fail> {
     let alloc = rt.alloc();
-    let Ok(expr) = parse_expr(alloc, &tokens(alloc, "-a.b(1) + 2")?) else {
+    let Ok(expr) = parse_expr(alloc, &lexed_slice(alloc, "-a.b(1) + 2")?) else {
         return Err(Fail::from("refused"));
     };
     assert_eq!(rt; text_of_tree(alloc, &expr)?.as_str(), "- a . b ( 1 ) + 2");
-    let Ok(path) = parse_path(alloc, &tokens(alloc, "<T as A>::b::<C>")?) else {
+    let Ok(path) = parse_path(alloc, &lexed_slice(alloc, "<T as A>::b::<C>")?) else {
         return Err(Fail::from("refused"));
     };
     assert_eq!(rt;
@@ -68,7 +68,7 @@ fn expressions_and_paths_are_read(rt: HostRuntime) -> Result<(), Fail> {
 #[test]
 fn predicates_are_read_whole(rt: HostRuntime) -> Result<(), Fail> {
     let alloc = rt.alloc();
-    let Ok(predicates) = parse_predicates(alloc, &tokens(alloc, "A: B + 'a, 'a: 'b,")?) else {
+    let Ok(predicates) = parse_predicates(alloc, &lexed_slice(alloc, "A: B + 'a, 'a: 'b,")?) else {
         return Err(Fail::from("refused"));
     };
     assert_eq!(rt; predicates.len(), 2);
@@ -83,7 +83,7 @@ fn predicates_are_read_whole(rt: HostRuntime) -> Result<(), Fail> {
 #[test]
 fn metas_are_read(rt: HostRuntime) -> Result<(), Fail> {
     let alloc = rt.alloc();
-    let Ok(metas) = parse_metas(alloc, &tokens(alloc, "a, b::c(d; e), f = 1 + 2")?) else {
+    let Ok(metas) = parse_metas(alloc, &lexed_slice(alloc, "a, b::c(d; e), f = 1 + 2")?) else {
         return Err(Fail::from("refused"));
     };
     let [
@@ -106,7 +106,7 @@ fn metas_are_read(rt: HostRuntime) -> Result<(), Fail> {
 #[test]
 fn definitions_are_trees(rt: HostRuntime) -> Result<(), Fail> {
     let alloc = rt.alloc();
-    let tokens = tokens(alloc, "#[x] pub struct S<T>(pub Vec<T>, A) where T: B;")?;
+    let tokens = lexed_slice(alloc, "#[x] pub struct S<T>(pub Vec<T>, A) where T: B;")?;
     let Ok(found) = parse_derive_input(alloc, &tokens) else {
         return Err(Fail::from("refused"));
     };

@@ -3,7 +3,7 @@
 ghost use Rattle.std.specs.Prelude.{IsTrue};
 ghost use Rattle.educe_tokens.specs.Quote.{is_ascii_name};
 
-use crate::common::lexed;
+use educe_token_vectors::lexed;
 use educe_tokens::{Boxed, Seq, Span, Spelling, TokenKind, TokenSlice, Written, text_of_tree};
 use educe_tree::{
     AngleArg, Args, Attribute, Attributes, DeriveInput, Duplicate, Expr, ExprForm, Field,

@@ -4,7 +4,7 @@ use Rattle.educe_tokens.specs.Copied.{may_be_copied}
 use Rattle.educe_tokens.specs.Lexes.{Lexeme, lexeme_of, lexemes}
 use Rattle.educe_tokens.specs.Quote.{quoted}
 use Rattle.educe_tokens.proofs.Appending.{lexemes-Appends}
-use Rattle.educe_vectors.proofs.tokens.templates.a_copy_ends_apart.Goals as goal
+use Rattle.educe_token_vectors.proofs.tokens.templates.a_copy_ends_apart.Goals as goal
 
 pub new-requires-2 : goal.new-requires-2
 unfolding quoted

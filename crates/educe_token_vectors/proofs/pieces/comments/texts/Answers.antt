@@ -1,6 +1,6 @@
 use Rattle.std.proofs.Common.{refl}
 use Rattle.std.specs.Str.{chars}
-use Rattle.educe_vectors.proofs.pieces.comments.texts.Goals as goal
+use Rattle.educe_token_vectors.proofs.pieces.comments.texts.Goals as goal
 
 pub doc_value-requires : goal.doc_value-requires
 unfolding chars

@@ -1,6 +1,6 @@
 use Rattle.std.proofs.Common.{refl}
 use Rattle.std.specs.Str.{chars}
-use Rattle.educe_vectors.proofs.pieces.raw_strings.values.Goals as goal
+use Rattle.educe_token_vectors.proofs.pieces.raw_strings.values.Goals as goal
 
 pub raw_value-requires : goal.raw_value-requires
 unfolding chars

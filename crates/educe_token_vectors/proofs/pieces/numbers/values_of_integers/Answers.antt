@@ -2,7 +2,7 @@ use Rattle.std.proofs.Common.{refl}
 use Rattle.std.specs.Prelude.{codes}
 use Rattle.educe_pieces.specs.Integers.{is_integer_type}
 use Rattle.educe_pieces.proofs.IntegerLaws.{int_chars}
-use Rattle.educe_vectors.proofs.pieces.numbers.values_of_integers.Goals as goal
+use Rattle.educe_token_vectors.proofs.pieces.numbers.values_of_integers.Goals as goal
 
 pub int_value-requires : goal.int_value-requires
 int_value-requires g c = int_chars (codes "1_000") refl
