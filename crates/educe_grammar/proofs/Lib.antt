@@ -45,3 +45,5 @@ pub mod Aside
 pub mod ReadAlike
 pub mod TypesAlike
 pub mod AlikeByTokens
+pub mod Copied
+pub mod Opened

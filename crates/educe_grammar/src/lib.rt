@@ -4,6 +4,7 @@
 
 mod cursor;
 mod ending;
+mod inside;
 mod loops;
 mod operator;
 mod parse_error;
@@ -12,6 +13,7 @@ mod terminal;
 
 pub use cursor::Cursor;
 pub use ending::{Ending, Link, Tail};
+pub use inside::{Inside, Parts, Typed};
 pub use loops::{chain, list, many, path};
 pub use operator::Operator;
 pub use parse_error::ParseError;

@@ -1,9 +1,4 @@
-pub mod BoundPaths
-pub mod Copied
 pub mod Heads
-pub mod Idents
-pub mod Opened
-pub mod Segments
 pub mod Differing
 pub mod Repeats
 pub mod Answering

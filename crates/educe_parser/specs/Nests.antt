@@ -7,7 +7,7 @@ use denote.Ref.{MutBor}
 use Rattle.educe_grammar.specs.declared.parse_error.ParseError.{ParseError}
 use Rattle.educe_tree.specs.declared.expr.Expr.{Expr}
 use Rattle.educe_tree.specs.declared.ty.Ty.{Ty}
-use Rattle.educe_parser.specs.declared.inside.Readers.{Readers}
+use Rattle.educe_parser.specs.declared.readers.Readers.{Readers}
 use Rattle.educe_grammar.specs.Rules.{Part, TreeOf, Typed, types, plains, exprs}
 use Rattle.educe_grammar.specs.Reads.{readers}
 use Rattle.educe_grammar.specs.Steps.{Tokens, Gives}

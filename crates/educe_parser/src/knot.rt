@@ -9,18 +9,17 @@ ghost use Rattle.educe_grammar.specs.Reads.{read, readers};
 ghost use Rattle.educe_grammar.specs.Rules.{types, plains, exprs};
 ghost use Rattle.educe_grammar.specs.Steps.{Gives};
 
-use crate::inside::{Readers, Typed};
-use crate::productions::Productions;
-use educe_grammar::{Cursor, ParseError};
+use crate::readers::Readers;
+use educe_grammar::{Cursor, ParseError, Parts, Typed};
 use educe_tree::{DeriveInput, Expr, ExprPath, Metas, Predicates, Ty};
 use std::alloc::Global;
 
 /// How many brackets, angle lists, `&`, `*`, `dyn` and `->` may stand in one another.
 pub const DEPTH_LIMIT: u8 = 128;
 
-macro_rules! productions {
+macro_rules! parts {
     ($alloc:expr) => {
-        Productions {
+        Parts {
             alloc: $alloc,
             inside: Readers {
                 types: ty,
@@ -37,7 +36,7 @@ macro_rules! productions {
 pub fn ty(alloc: Global, cursor: &mut Cursor<'_>, budget: u8) -> Result<Ty, ParseError>
     ensures { Gives (readers budget types cursor.old) result cursor.new }
 {
-    productions!(alloc).any_type(cursor, budget)
+    educe_types::any_type(&parts!(alloc), cursor, budget)
 }
 
 /// A type whose `dyn` has one bound (Rust Reference, Type expressions).
@@ -46,7 +45,7 @@ pub fn ty(alloc: Global, cursor: &mut Cursor<'_>, budget: u8) -> Result<Ty, Pars
 fn plain(alloc: Global, cursor: &mut Cursor<'_>, budget: u8) -> Result<Typed, ParseError>
     ensures { Gives (readers budget plains cursor.old) result cursor.new }
 {
-    productions!(alloc).plain_type(cursor, budget)
+    educe_types::plain_type(&parts!(alloc), cursor, budget)
 }
 
 /// An expression (Rust Reference, Expressions).
@@ -55,40 +54,40 @@ fn plain(alloc: Global, cursor: &mut Cursor<'_>, budget: u8) -> Result<Typed, Pa
 fn expr(alloc: Global, cursor: &mut Cursor<'_>, budget: u8) -> Result<Expr, ParseError>
     ensures { Gives (readers budget exprs cursor.old) result cursor.new }
 {
-    productions!(alloc).expression(cursor, budget)
+    educe_exprs::expression(&parts!(alloc), cursor, budget)
 }
 
 /// The path of an expression (Rust Reference, Path expressions).
 pub fn expr_path(alloc: Global, cursor: &mut Cursor<'_>) -> Result<ExprPath, ParseError>
     ensures { Gives (read depth_limit spec.expr_path cursor.old) result cursor.new }
 {
-    productions!(alloc).expr_path(cursor, DEPTH_LIMIT)
+    educe_exprs::expr_path(&parts!(alloc), cursor, DEPTH_LIMIT)
 }
 
 /// An expression (Rust Reference, Expressions).
 pub fn expression(alloc: Global, cursor: &mut Cursor<'_>) -> Result<Expr, ParseError>
     ensures { Gives (read depth_limit spec.expression cursor.old) result cursor.new }
 {
-    productions!(alloc).expression(cursor, DEPTH_LIMIT)
+    educe_exprs::expression(&parts!(alloc), cursor, DEPTH_LIMIT)
 }
 
 /// The predicates of a where clause (Rust Reference, Where clauses).
 pub fn predicates(alloc: Global, cursor: &mut Cursor<'_>) -> Result<Predicates, ParseError>
     ensures { Gives (read depth_limit generics.predicates cursor.old) result cursor.new }
 {
-    productions!(alloc).predicates(cursor, DEPTH_LIMIT)
+    educe_items::predicates(&parts!(alloc), cursor, DEPTH_LIMIT)
 }
 
 /// The items of a list in an attribute (Rust Reference, Meta item attribute syntax).
 pub fn metas(alloc: Global, cursor: &mut Cursor<'_>) -> Result<Metas, ParseError>
     ensures { Gives (read depth_limit attrs.metas cursor.old) result cursor.new }
 {
-    productions!(alloc).metas(cursor, DEPTH_LIMIT)
+    educe_items::metas(&parts!(alloc), cursor, DEPTH_LIMIT)
 }
 
 /// A definition (Rust Reference, Items).
 pub fn definition(alloc: Global, cursor: &mut Cursor<'_>) -> Result<DeriveInput, ParseError>
     ensures { Gives (read depth_limit defs.definition cursor.old) result cursor.new }
 {
-    productions!(alloc).definition(cursor, DEPTH_LIMIT)
+    educe_items::definition(&parts!(alloc), cursor, DEPTH_LIMIT)
 }

@@ -1,26 +1,11 @@
-//! The parser of definitions: each function reads one rule of the grammar, and each public call a
-//! whole list of tokens.
+//! The parser of definitions: the productions tied together, and calls that each read a whole list of
+//! tokens.
 #![tactic(auto)]
 
-mod attributes;
-mod bounds;
 mod calls;
-mod definitions;
-mod expr_paths;
-mod expressions;
-mod generics;
-mod inside;
 mod knot;
-mod links;
-mod looks;
-mod names;
 mod naming;
-mod operands;
-mod paths;
-mod productions;
-mod tails;
-mod trees;
-mod types;
+mod readers;
 mod unions;
 mod whole;
 

@@ -11,10 +11,9 @@ ghost use Rattle.educe_grammar.specs.Refusal.{IsUnion, IsUnionWord, union_of};
 ghost use Rattle.educe_grammar.specs.Rules.{both};
 ghost use Rattle.educe_grammar.specs.Steps.{Gives};
 
-use crate::attributes::attributes;
-use crate::definitions::visibility;
 use crate::knot::DEPTH_LIMIT;
 use educe_grammar::{Cursor, ParseError};
+use educe_items::{attributes, visibility};
 use educe_tokens::{EduceError, Kind, Token, TokenKind, TokenSlice};
 use std::alloc::{AllocError, Global};
 

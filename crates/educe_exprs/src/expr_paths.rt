@@ -1,0 +1,145 @@
+//! Paths in expressions (Rust Reference, Paths in expressions).
+ghost use Rattle.std.specs.Prelude.{◌≡◌};
+ghost use Rattle.educe_grammar.specs.Expressions as spec;
+ghost use Rattle.educe_grammar.specs.Reads.{read};
+ghost use Rattle.educe_grammar.specs.Rules as rule;
+ghost use Rattle.educe_grammar.specs.Steps.{Gives};
+ghost use Rattle.educe_grammar.specs.Types.{has_no_args};
+ghost use Rattle.educe_tree.specs.declared.path.Segment.{out-Segment};
+
+use crate::looks::at_turbofish;
+use educe_grammar::{Cursor, Inside, ParseError, Parts, path, written};
+use educe_tree::{Args, Expr, ExprPath, Path, Segment, Segments, Ty};
+use educe_types::{angle_args, is_scope, qualified_path, qualified_self, segment_name};
+use std::alloc::Global;
+
+/// A path, and the type that it stands behind, where there is one.
+type TypedPath = (Option<Ty>, Path);
+
+/// Whether the segment has no arguments.
+fn has_no_args(segment: &Segment) -> bool
+    ensures { result ≡ has_no_args (out-Segment segment.now).args }
+{
+    matches!(segment.args, Args::None)
+}
+
+/// Whether no segment has arguments.
+fn no_segment_args(segments: &[Segment]) -> bool
+    ensures { result ≡ spec.no_segment_args segments.now }
+{
+    segments.iter().all(|segment| has_no_args(segment))
+}
+
+/// Whether the path may name a macro (Rust Reference, Simple paths).
+pub fn is_mod_path(path: &ExprPath) -> bool
+    ensures { result ≡ spec.is_mod_path path.now }
+{
+    path.self_type.is_none() && no_segment_args(path.path.segments.as_slice())
+}
+
+/// A segment, which has its arguments behind `::` (Rust Reference, Paths in expressions).
+#[tactic(auto, unfolding(educe_grammar::proofs::Opened::rules, educe_grammar::specs::Expressions::expr_segment))]
+fn expr_segment<R: Inside>(
+    parts: &Parts<R>,
+    cursor: &mut Cursor<'_>,
+    budget: u8,
+) -> Result<Segment, ParseError>
+    requires { R.nests parts.now.inside budget }
+    ensures { Gives (read budget spec.expr_segment cursor.old) result cursor.new }
+{
+    let ident = segment_name(parts.alloc, cursor)?;
+    if !at_turbofish(cursor) {
+        let args = Args::None;
+        return Ok(Segment { ident, args });
+    }
+    cursor.skip_pair(':', ':')?;
+    let args = Args::Angle(angle_args(parts, cursor, budget)?);
+    Ok(Segment { ident, args })
+}
+
+/// The segments of a path (Rust Reference, Paths in expressions).
+#[tactic(auto, unfolding(educe_grammar::proofs::Opened::rules))]
+fn expr_segments<R: Inside>(
+    parts: &Parts<R>,
+    cursor: &mut Cursor<'_>,
+    budget: u8,
+) -> Result<Segments, ParseError>
+    requires { R.nests parts.now.inside budget }
+    ensures { Gives (read budget (rule.path spec.expr_segment) cursor.old) result cursor.new }
+{
+    path(
+        parts.alloc,
+        cursor,
+        |cursor| expr_segment(parts, cursor, budget),
+    )
+}
+
+/// A path behind its type, as in `<T as A>::b` (Rust Reference, Qualified paths).
+#[tactic(auto, unfolding(educe_grammar::proofs::Opened::rules, educe_grammar::specs::Expressions::qualified_expr_path))]
+fn qualified_expr_path<R: Inside>(
+    parts: &Parts<R>,
+    cursor: &mut Cursor<'_>,
+    budget: u8,
+) -> Result<TypedPath, ParseError>
+    requires { R.nests parts.now.inside budget }
+    ensures { Gives (read budget spec.qualified_expr_path cursor.old) result cursor.new }
+{
+    let (self_type, self_trait) = qualified_self(parts, cursor, budget)?;
+    cursor.skip_pair(':', ':')?;
+    let segments = expr_segments(parts, cursor, budget)?;
+    Ok((Some(self_type), qualified_path(self_trait, segments)?))
+}
+
+/// A path with no type before it (Rust Reference, Paths in expressions).
+#[tactic(auto, unfolding(educe_grammar::proofs::Opened::rules, educe_grammar::specs::Expressions::local_expr_path))]
+fn local_expr_path<R: Inside>(
+    parts: &Parts<R>,
+    cursor: &mut Cursor<'_>,
+    budget: u8,
+) -> Result<TypedPath, ParseError>
+    requires { R.nests parts.now.inside budget }
+    ensures { Gives (read budget spec.local_expr_path cursor.old) result cursor.new }
+{
+    let leading = cursor.eat_pair(':', ':');
+    let segments = expr_segments(parts, cursor, budget)?;
+    let path = Path { leading, segments };
+    if is_scope(&path) {
+        return Err(cursor.refuse());
+    }
+    Ok((None, path))
+}
+
+/// A path with or without its type (Rust Reference, Path expressions).
+#[tactic(auto, unfolding(educe_grammar::proofs::Opened::rules, educe_grammar::specs::Expressions::any_expr_path))]
+fn any_expr_path<R: Inside>(
+    parts: &Parts<R>,
+    cursor: &mut Cursor<'_>,
+    budget: u8,
+) -> Result<TypedPath, ParseError>
+    requires { R.nests parts.now.inside budget }
+    ensures { Gives (read budget spec.any_expr_path cursor.old) result cursor.new }
+{
+    if cursor.begins_lone('<', '=') {
+        return qualified_expr_path(parts, cursor, budget);
+    }
+    local_expr_path(parts, cursor, budget)
+}
+
+/// A path in an expression, with its tokens (Rust Reference, Path expressions).
+#[tactic(auto, using(educe_grammar::proofs::Copied::any_expr_path_copied), unfolding(educe_grammar::proofs::Opened::rules, educe_grammar::specs::Expressions::expr_path))]
+pub fn expr_path<R: Inside>(
+    parts: &Parts<R>,
+    cursor: &mut Cursor<'_>,
+    budget: u8,
+) -> Result<ExprPath, ParseError>
+    requires { R.nests parts.now.inside budget }
+    ensures { Gives (read budget spec.expr_path cursor.old) result cursor.new }
+{
+    let (found, tokens) = written(cursor, |cursor| any_expr_path(parts, cursor, budget))?;
+    let (self_type, path) = found;
+    Ok(ExprPath {
+        self_type,
+        path,
+        written: tokens,
+    })
+}

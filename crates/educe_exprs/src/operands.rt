@@ -1,0 +1,187 @@
+//! The operands of an expression (Rust Reference, Expressions).
+ghost use Rattle.std.specs.Prelude.{◌≡◌, ℕ};
+ghost use Rattle.educe_grammar.specs.Ahead.{is_sign};
+ghost use Rattle.educe_grammar.specs.Combining.{in_round};
+ghost use Rattle.educe_grammar.specs.Expressions as spec;
+ghost use Rattle.educe_grammar.specs.Reads.{read};
+ghost use Rattle.educe_grammar.specs.Rules.{exprs, part};
+ghost use Rattle.educe_grammar.specs.Steps.{Gives};
+
+use crate::expr_paths::expr_path;
+use crate::looks::{at_postfix, at_prefix};
+use crate::tails::{fits_tail, path_tail, tail_form};
+use educe_grammar::{Cursor, Inside, Keyword, ParseError, Parts, Terminal, chain, list};
+use educe_tokens::{Bracket, Seq, Token, TokenKind};
+use educe_tree::{Expr, ExprForm, Ty};
+use educe_types::angle_args;
+use std::alloc::Global;
+
+/// Whether the token is `-`.
+fn is_minus(token: &Token) -> bool
+    ensures { result ≡ is_sign 45 token.now.kind }
+{
+    match token.kind {
+        TokenKind::Punct(c, _) => c == '-',
+        _ => false,
+    }
+}
+
+/// A prefix, and whether it is `-` (Rust Reference, Borrow operators; Negation operators; The
+/// dereference operator).
+#[tactic(auto, unfolding(educe_grammar::proofs::Opened::rules, educe_grammar::specs::Expressions::prefix))]
+fn prefix(cursor: &mut Cursor<'_>) -> Result<bool, ParseError>
+    ensures { (budget : ℕ) → Gives (read budget spec.prefix cursor.old) result cursor.new }
+{
+    if cursor.eat(Terminal::Sign('&')) {
+        cursor.eat(Terminal::Word(Keyword::Mut));
+        return Ok(false);
+    }
+    let token = cursor.expect(Terminal::PrefixSign)?;
+    Ok(is_minus(token))
+}
+
+/// The form of an operand behind one prefix.
+fn negated_form(minus: bool, operand: ExprForm) -> ExprForm
+    ensures { result ≡ spec.negated_form minus operand }
+{
+    match operand {
+        ExprForm::Literal if minus => ExprForm::Negated,
+        _ => ExprForm::Other,
+    }
+}
+
+/// The form of an operand with its prefixes and with what goes on it.
+fn unary_form(prefixes: &[bool], operand: ExprForm, postfixes: &[()]) -> ExprForm
+    ensures { result ≡ spec.unary_form prefixes.now operand postfixes.now }
+{
+    match (prefixes, postfixes) {
+        ([], []) => operand,
+        ([minus], []) => negated_form(*minus, operand),
+        _ => ExprForm::Other,
+    }
+}
+
+/// Expressions in round brackets (Rust Reference, Call expressions).
+#[tactic(auto, unfolding(educe_grammar::proofs::Opened::rules))]
+fn round_exprs<R: Inside>(
+    parts: &Parts<R>,
+    cursor: &mut Cursor<'_>,
+    budget: u8,
+) -> Result<Seq<Expr>, ParseError>
+    requires { R.nests parts.now.inside budget }
+    ensures { Gives (read budget (in_round (part exprs)) cursor.old) result cursor.new }
+{
+    let below = cursor.open(budget, Bracket::Round)?;
+    let found = list(
+        parts.alloc,
+        cursor,
+        Terminal::Sign(','),
+        |cursor| cursor.closes(Bracket::Round),
+        |cursor| parts.expr(cursor, below),
+    )?;
+    cursor.expect_close(Bracket::Round)?;
+    Ok(found)
+}
+
+/// A field or a method behind `.` (Rust Reference, Field access expressions; Method-call
+/// expressions).
+#[tactic(auto, unfolding(educe_grammar::proofs::Opened::rules, educe_grammar::specs::Expressions::member))]
+fn member<R: Inside>(
+    parts: &Parts<R>,
+    cursor: &mut Cursor<'_>,
+    budget: u8,
+) -> Result<(), ParseError>
+    requires { R.nests parts.now.inside budget }
+    ensures { Gives (read budget spec.member cursor.old) result cursor.new }
+{
+    if !cursor.eat(Terminal::Name) {
+        cursor.expect(Terminal::Int)?;
+        return Ok(());
+    }
+    if cursor.begins_pair(':', ':') {
+        cursor.skip_pair(':', ':')?;
+        angle_args(parts, cursor, budget)?;
+    }
+    Ok(())
+}
+
+/// What goes on an operand (Rust Reference, Call expressions; Array and slice indexing
+/// expressions; Field access expressions).
+#[tactic(auto, unfolding(educe_grammar::proofs::Opened::rules, educe_grammar::specs::Expressions::postfix))]
+fn postfix<R: Inside>(
+    parts: &Parts<R>,
+    cursor: &mut Cursor<'_>,
+    budget: u8,
+) -> Result<(), ParseError>
+    requires { R.nests parts.now.inside budget }
+    ensures { Gives (read budget spec.postfix cursor.old) result cursor.new }
+{
+    if cursor.opens(Bracket::Round) {
+        round_exprs(parts, cursor, budget)?;
+        return Ok(());
+    }
+    if cursor.opens(Bracket::Square) {
+        let below = cursor.open(budget, Bracket::Square)?;
+        parts.expr(cursor, below)?;
+        cursor.expect_close(Bracket::Square)?;
+        return Ok(());
+    }
+    cursor.skip_lone('.', '.')?;
+    member(parts, cursor, budget)
+}
+
+/// An operand with nothing before and behind it (Rust Reference, Literal expressions; Path
+/// expressions; Grouped expressions; Tuple expressions).
+#[tactic(auto, unfolding(educe_grammar::proofs::Opened::rules, educe_grammar::specs::Expressions::primary))]
+fn primary<R: Inside>(
+    parts: &Parts<R>,
+    cursor: &mut Cursor<'_>,
+    budget: u8,
+) -> Result<ExprForm, ParseError>
+    requires { R.nests parts.now.inside budget }
+    ensures { Gives (read budget spec.primary cursor.old) result cursor.new }
+{
+    if cursor.eat(Terminal::Literal) {
+        return Ok(ExprForm::Literal);
+    }
+    if cursor.eat(Terminal::Truth) {
+        return Ok(ExprForm::Truth);
+    }
+    if cursor.opens(Bracket::Round) {
+        round_exprs(parts, cursor, budget)?;
+        return Ok(ExprForm::Other);
+    }
+    let path = expr_path(parts, cursor, budget)?;
+    let tail = path_tail(parts, cursor, budget)?;
+    if !fits_tail(&path, tail) {
+        return Err(cursor.refuse());
+    }
+    Ok(tail_form(tail))
+}
+
+/// An operand with its prefixes, and with what goes on it (Rust Reference, Operator
+/// expressions).
+#[tactic(auto, unfolding(educe_grammar::proofs::Opened::rules, educe_grammar::specs::Expressions::unary))]
+pub fn unary<R: Inside>(
+    parts: &Parts<R>,
+    cursor: &mut Cursor<'_>,
+    budget: u8,
+) -> Result<ExprForm, ParseError>
+    requires { R.nests parts.now.inside budget }
+    ensures { Gives (read budget spec.unary cursor.old) result cursor.new }
+{
+    let prefixes = chain(
+        parts.alloc,
+        cursor,
+        |cursor| at_prefix(cursor),
+        |cursor| prefix(cursor),
+    )?;
+    let operand = primary(parts, cursor, budget)?;
+    let postfixes = chain(
+        parts.alloc,
+        cursor,
+        |cursor| at_postfix(cursor),
+        |cursor| postfix(parts, cursor, budget),
+    )?;
+    Ok(unary_form(prefixes.as_slice(), operand, postfixes.as_slice()))
+}

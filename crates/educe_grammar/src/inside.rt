@@ -1,0 +1,71 @@
+//! What reads the parts that stand inside of others.
+ghost use Rattle.std.specs.Prelude.{◌+◌, ℕ};
+ghost use Rattle.educe_grammar.specs.Reads.{readers};
+ghost use Rattle.educe_grammar.specs.Rules.{types, plains, exprs};
+ghost use Rattle.educe_grammar.specs.Steps.{Gives};
+
+use crate::cursor::Cursor;
+use crate::ending::Ending;
+use crate::parse_error::ParseError;
+use educe_tree::{Expr, Ty};
+use std::alloc::Global;
+
+/// A type with its ending.
+pub type Typed = (Ty, Ending);
+
+/// What reads types and expressions that stand inside of others, where less budget is left for them.
+pub trait Inside {
+    // It reads with each budget below the bound.
+    ghost nests: { Self → ℕ → Type 0 };
+
+    // So it reads with each budget below a smaller one.
+    ghost fewer: { (inside : Self) (bound : ℕ) → nests inside (bound + 1) → nests inside bound };
+
+    /// A type (Rust Reference, Types).
+    fn ty(&self, alloc: Global, cursor: &mut Cursor<'_>, budget: u8) -> Result<Ty, ParseError>
+        requires { nests self.now (budget + 1) }
+        ensures { Gives (readers budget types cursor.old) result cursor.new };
+
+    /// A type whose `dyn` has one bound (Rust Reference, Type expressions).
+    fn plain(&self, alloc: Global, cursor: &mut Cursor<'_>, budget: u8) -> Result<Typed, ParseError>
+        requires { nests self.now (budget + 1) }
+        ensures { Gives (readers budget plains cursor.old) result cursor.new };
+
+    /// An expression (Rust Reference, Expressions).
+    fn expr(&self, alloc: Global, cursor: &mut Cursor<'_>, budget: u8) -> Result<Expr, ParseError>
+        requires { nests self.now (budget + 1) }
+        ensures { Gives (readers budget exprs cursor.old) result cursor.new };
+}
+
+/// What reads the parts that stand inside, with the allocator of what is read.
+#[derive(Clone, Copy)]
+pub struct Parts<R> {
+    pub alloc: Global,
+    pub inside: R,
+}
+
+impl<R: Inside> Parts<R> {
+    /// A type inside.
+    pub fn ty(&self, cursor: &mut Cursor<'_>, budget: u8) -> Result<Ty, ParseError>
+        requires { R.nests self.now.inside (budget + 1) }
+        ensures { Gives (readers budget types cursor.old) result cursor.new }
+    {
+        self.inside.ty(self.alloc, cursor, budget)
+    }
+
+    /// A type inside, whose `dyn` has one bound.
+    pub fn plain(&self, cursor: &mut Cursor<'_>, budget: u8) -> Result<Typed, ParseError>
+        requires { R.nests self.now.inside (budget + 1) }
+        ensures { Gives (readers budget plains cursor.old) result cursor.new }
+    {
+        self.inside.plain(self.alloc, cursor, budget)
+    }
+
+    /// An expression inside.
+    pub fn expr(&self, cursor: &mut Cursor<'_>, budget: u8) -> Result<Expr, ParseError>
+        requires { R.nests self.now.inside (budget + 1) }
+        ensures { Gives (readers budget exprs cursor.old) result cursor.new }
+    {
+        self.inside.expr(self.alloc, cursor, budget)
+    }
+}

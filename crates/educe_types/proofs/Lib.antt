@@ -1,0 +1,3 @@
+pub mod BoundPaths
+pub mod Idents
+pub mod Segments

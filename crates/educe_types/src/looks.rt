@@ -1,0 +1,88 @@
+//! What the next tokens may begin.
+ghost use Rattle.std.specs.Prelude.{◌≡◌, [], ◌∷◌};
+ghost use Rattle.educe_grammar.specs.Ahead.{sees_any, one, lone};
+ghost use Rattle.educe_grammar.specs.declared.terminal.Terminal.TheVariants as terminal;
+ghost use Rattle.educe_grammar.specs.Attributes as attributes;
+ghost use Rattle.educe_grammar.specs.Definitions as definitions;
+ghost use Rattle.educe_grammar.specs.Expressions as expressions;
+ghost use Rattle.educe_grammar.specs.Generics as generics;
+ghost use Rattle.educe_grammar.specs.Types as types;
+
+use educe_grammar::{Cursor, Keyword, Terminal};
+use educe_tokens::Bracket;
+
+/// What stands behind a type or behind bounds.
+#[tactic(auto, unfolding(educe_grammar::specs::Ahead::sees_any))]
+pub fn behind_type(cursor: &Cursor<'_>) -> bool
+    ensures { result ≡ sees_any types.behind_type cursor.now }
+{
+    cursor.sees(Terminal::Sign(','))
+        || cursor.sees(Terminal::Sign(';'))
+        || cursor.sees(Terminal::Sign('='))
+        || cursor.sees(Terminal::Sign('>'))
+        || cursor.begins_lone(':', ':')
+        || cursor.opens(Bracket::Curly)
+        || cursor.closes(Bracket::Round)
+        || cursor.closes(Bracket::Square)
+        || cursor.closes(Bracket::Curly)
+        || cursor.sees(Terminal::Word(Keyword::As))
+        || cursor.at_end()
+}
+
+/// A constant, which is no name.
+#[tactic(auto, unfolding(educe_grammar::specs::Ahead::sees_any))]
+pub fn at_constant(cursor: &Cursor<'_>) -> bool
+    ensures { result ≡ sees_any types.at_constant cursor.now }
+{
+    cursor.sees(Terminal::Literal)
+        || cursor.sees(Terminal::Sign('-'))
+        || cursor.sees(Terminal::Truth)
+        || cursor.opens(Bracket::Curly)
+}
+
+/// A name and `=`, as in `Item = T`.
+#[tactic(auto, using(educe_grammar::proofs::Behind::behind_one), unfolding(educe_grammar::specs::Ahead::sees_any))]
+pub fn at_binding(cursor: &Cursor<'_>) -> bool
+    ensures { result ≡ sees_any types.at_binding cursor.now }
+{
+    cursor.sees(Terminal::Name) && cursor.behind(1).begins_lone('=', '=')
+}
+
+/// `<` or `::<`, with arguments behind it.
+#[tactic(auto, using(educe_grammar::proofs::Behind::behind_pair), unfolding(educe_grammar::specs::Ahead::sees_any))]
+pub fn at_angle_args(cursor: &Cursor<'_>) -> bool
+    ensures { result ≡ sees_any types.at_angle_args cursor.now }
+{
+    cursor.begins_lone('<', '=')
+        || cursor.begins_pair(':', ':') && cursor.behind(2).begins_lone('<', '=')
+}
+
+/// The name of a parameter, and `:` (Rust Reference, Function pointer types).
+#[tactic(auto, using(educe_grammar::proofs::Behind::behind_one), unfolding(educe_grammar::specs::Ahead::sees_any))]
+pub fn at_fn_param(cursor: &Cursor<'_>) -> bool
+    ensures { result ≡ sees_any ((one terminal.NameOrUnderscore ∷ lone 58 58 ∷ []) ∷ []) cursor.now }
+{
+    cursor.sees(Terminal::NameOrUnderscore) && cursor.behind(1).begins_lone(':', ':')
+}
+
+/// A function pointer (Rust Reference, Function pointer types).
+#[tactic(auto, unfolding(educe_grammar::specs::Ahead::sees_any))]
+pub fn at_fn(cursor: &Cursor<'_>) -> bool
+    ensures { result ≡ sees_any types.at_fn cursor.now }
+{
+    cursor.sees(Terminal::Word(Keyword::For))
+        || cursor.sees(Terminal::Word(Keyword::Unsafe))
+        || cursor.sees(Terminal::Word(Keyword::Extern))
+        || cursor.sees(Terminal::Word(Keyword::Fn))
+}
+
+/// A token tree (Rust Reference, Token trees).
+#[tactic(auto, unfolding(educe_grammar::specs::Ahead::sees_any))]
+pub fn at_tree(cursor: &Cursor<'_>) -> bool
+    ensures { result ≡ sees_any expressions.at_tree cursor.now }
+{
+    cursor.sees(Terminal::Leaf)
+        || cursor.opens(Bracket::Round)
+        || cursor.opens(Bracket::Square)
+        || cursor.opens(Bracket::Curly)
+}

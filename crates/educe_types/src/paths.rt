@@ -1,0 +1,384 @@
+//! Paths in types and their arguments (Rust Reference, Paths).
+ghost use Rattle.std.specs.Prelude.{◌≡◌, ◌+◌, IfOk, map, not};
+ghost use Rattle.educe_grammar.specs.Combining.{optional, skipping, word, at_arrow, at_word};
+ghost use Rattle.educe_grammar.specs.declared.terminal.Keyword.TheVariants as keyword;
+ghost use Rattle.educe_grammar.specs.Reads.{read};
+ghost use Rattle.educe_grammar.specs.Rules.{plains, arrow, part};
+ghost use Rattle.educe_grammar.specs.Steps.{Gives};
+ghost use Rattle.educe_grammar.specs.Types as spec;
+
+use crate::looks::{at_angle_args, at_binding, at_constant};
+use crate::names::{lifetime, name, segment_name};
+use educe_grammar::{
+    Cursor, Ending, Inside, Keyword, ParseError, Parts, Terminal, Typed, list, path, written,
+};
+use educe_tokens::{Boxed, Bracket, Seq};
+use educe_tree::{AngleArg, AngleArgs, Args, Expr, Path, Segment, Segments, Ty, TypeForm, Types};
+use std::alloc::{AllocError, Global};
+
+/// The arguments of a segment, how it ends with them, and whether a segment may stand behind it.
+pub type ArgsRead = (Args, Ending, bool);
+
+/// The same of a segment.
+pub type SegmentRead = (Segment, Ending, bool);
+
+/// The arguments in round brackets. Behind a type that ends with a path `::` goes on that path.
+fn round_read(alloc: Global, inputs: Types, output: Option<Typed>) -> Result<ArgsRead, AllocError>
+    ensures { IfOk result (λ read. read ≡ spec.round_read (inputs, output)) }
+{
+    let Some((output, ending)) = output else {
+        return Ok((Args::Round(inputs, None), Ending::Arguments, true));
+    };
+    let args = Args::Round(inputs, Some(Boxed::new(alloc, output)?));
+    match ending {
+        Ending::Closed => Ok((args, Ending::Arguments, true)),
+        Ending::Arguments => Ok((args, Ending::Arguments, false)),
+        Ending::Name => Ok((args, Ending::Name, false)),
+    }
+}
+
+/// Whether behind each segment but the last another may stand.
+#[tactic(auto, unfolding(educe_grammar::specs::Types::may_follow))]
+fn may_follow(found: &[SegmentRead]) -> bool
+    ensures { result ≡ spec.may_follow found.now }
+{
+    let mut rest = found;
+    while let [first, behind @ ..] = rest {
+        if !behind.is_empty() && !first.2 {
+            return false;
+        }
+        rest = behind;
+    }
+    true
+}
+
+/// How the last segment ends.
+fn last_ending(found: &[SegmentRead]) -> Ending
+    ensures { result ≡ spec.last_ending found.now }
+{
+    match found.last() {
+        Some(read) => read.1,
+        None => Ending::Closed,
+    }
+}
+
+/// The segments, without how they end.
+fn segments_of(alloc: Global, found: Seq<SegmentRead>) -> Result<Segments, AllocError>
+    ensures { IfOk result (λ segments. segments ≡ map (λ read. read.0) found) }
+{
+    let mut segments = Seq::new(alloc);
+    for (segment, _, _) in found.into_items() {
+        segments.push(segment)?;
+    }
+    Ok(segments)
+}
+
+/// Whether the segment is one of `self`, `super` and `crate`, and has no arguments.
+fn is_scope_segment(segment: &Segment) -> bool
+    ensures { result ≡ spec.is_scope_segment segment.now }
+{
+    let text = &segment.ident.text;
+    let is_word = text.spells("self") || text.spells("super") || text.spells("crate");
+    is_word && matches!(segment.args, Args::None)
+}
+
+/// Whether the path is `self`, `super` or `crate` alone, which is no type.
+pub fn is_scope(path: &Path) -> bool
+    ensures { result ≡ not (spec.is_path path.now) }
+{
+    match path.segments.as_slice() {
+        [only] => !path.leading && is_scope_segment(only),
+        _ => false,
+    }
+}
+
+/// Whether the segments are one `Self` alone.
+fn is_self(leading: bool, segments: &[Segment]) -> bool
+    ensures { result ≡ spec.are_self leading segments.now }
+{
+    match segments {
+        [only] => !leading && only.ident.text.spells("Self"),
+        _ => false,
+    }
+}
+
+/// The path of the segments, and how it ends.
+fn path_read(
+    alloc: Global,
+    leading: bool,
+    found: Seq<SegmentRead>,
+) -> Result<(Path, Ending), AllocError>
+    ensures { IfOk result (λ read. read ≡ spec.path_read (leading, found)) }
+{
+    let last = last_ending(found.as_slice());
+    let segments = segments_of(alloc, found)?;
+    let ending = if is_self(leading, segments.as_slice()) {
+        Ending::Name
+    } else {
+        last
+    };
+    Ok((Path { leading, segments }, ending))
+}
+
+/// The segments behind those of the trait, where there is one (Rust Reference, Qualified paths).
+pub fn qualified_path(
+    self_trait: Option<(Path, Ending)>,
+    found: Segments,
+) -> Result<Path, AllocError>
+    ensures { IfOk result (λ path. path ≡ spec.qualified_path self_trait found) }
+{
+    let Some((path, _)) = self_trait else {
+        return Ok(Path {
+            leading: true,
+            segments: found,
+        });
+    };
+    let Path {
+        leading,
+        mut segments,
+    } = path;
+    segments.append(found)?;
+    Ok(Path { leading, segments })
+}
+
+/// A constant that is no name (Rust Reference, Const generics).
+#[tactic(auto, unfolding(educe_grammar::proofs::Opened::rules, educe_grammar::specs::Types::constant))]
+pub fn constant<R: Inside>(
+    parts: &Parts<R>,
+    cursor: &mut Cursor<'_>,
+    budget: u8,
+) -> Result<(), ParseError>
+    requires { R.nests parts.now.inside budget }
+    ensures { Gives (read budget spec.constant cursor.old) result cursor.new }
+{
+    if cursor.eat(Terminal::Literal) {
+        return Ok(());
+    }
+    if cursor.eat(Terminal::Sign('-')) {
+        cursor.expect(Terminal::Int)?;
+        return Ok(());
+    }
+    if cursor.eat(Terminal::Truth) {
+        return Ok(());
+    }
+    let below = cursor.open(budget, Bracket::Curly)?;
+    parts.expr(cursor, below)?;
+    cursor.expect_close(Bracket::Curly)?;
+    Ok(())
+}
+
+/// An argument in angle brackets (Rust Reference, Generic arguments).
+#[tactic(auto, using(educe_grammar::proofs::Copied::constant_copied), unfolding(educe_grammar::proofs::Opened::rules, educe_grammar::specs::Types::angle_arg))]
+fn angle_arg<R: Inside>(
+    parts: &Parts<R>,
+    cursor: &mut Cursor<'_>,
+    budget: u8,
+) -> Result<AngleArg, ParseError>
+    requires { R.nests parts.now.inside (budget + 1) }
+    ensures { Gives (read budget spec.angle_arg cursor.old) result cursor.new }
+{
+    if cursor.sees(Terminal::Lifetime) {
+        return Ok(AngleArg::Lifetime(lifetime(parts.alloc, cursor)?));
+    }
+    if at_constant(cursor) {
+        let (_, tokens) = written(cursor, |cursor| constant(parts, cursor, budget))?;
+        return Ok(AngleArg::Constant(tokens));
+    }
+    if at_binding(cursor) {
+        let name = name(parts.alloc, cursor)?;
+        cursor.skip_lone('=', '=')?;
+        return Ok(AngleArg::Binding(name, parts.ty(cursor, budget)?));
+    }
+    Ok(AngleArg::Plain(parts.ty(cursor, budget)?))
+}
+
+/// Arguments in angle brackets (Rust Reference, Generic arguments).
+#[tactic(auto, unfolding(educe_grammar::proofs::Opened::rules, educe_grammar::specs::Types::angle_args))]
+pub fn angle_args<R: Inside>(
+    parts: &Parts<R>,
+    cursor: &mut Cursor<'_>,
+    budget: u8,
+) -> Result<AngleArgs, ParseError>
+    requires { R.nests parts.now.inside budget }
+    ensures { Gives (read budget spec.angle_args cursor.old) result cursor.new }
+{
+    let below = cursor.open_angle(budget)?;
+    let found = list(
+        parts.alloc,
+        cursor,
+        Terminal::Sign(','),
+        |cursor| cursor.sees(Terminal::Sign('>')),
+        |cursor| angle_arg(parts, cursor, below),
+    )?;
+    cursor.expect(Terminal::Sign('>'))?;
+    Ok(found)
+}
+
+/// The type behind `->`, where there is one (Rust Reference, Function pointer types).
+#[tactic(auto, unfolding(educe_grammar::proofs::Opened::rules))]
+pub fn output<R: Inside>(
+    parts: &Parts<R>,
+    cursor: &mut Cursor<'_>,
+    budget: u8,
+) -> Result<Option<Typed>, ParseError>
+    requires { R.nests parts.now.inside budget }
+    ensures { Gives (read budget (optional at_arrow (arrow (part plains))) cursor.old) result cursor.new }
+{
+    if !cursor.begins_pair('-', '>') {
+        return Ok(None);
+    }
+    let below = cursor.open_arrow(budget)?;
+    Ok(Some(parts.plain(cursor, below)?))
+}
+
+/// `(A, B) -> C`
+#[tactic(auto, unfolding(educe_grammar::proofs::Opened::rules, educe_grammar::specs::Types::round_args))]
+fn round_args<R: Inside>(
+    parts: &Parts<R>,
+    cursor: &mut Cursor<'_>,
+    budget: u8,
+) -> Result<(Types, Option<Typed>), ParseError>
+    requires { R.nests parts.now.inside budget }
+    ensures { Gives (read budget spec.round_args cursor.old) result cursor.new }
+{
+    let below = cursor.open(budget, Bracket::Round)?;
+    let inputs = list(
+        parts.alloc,
+        cursor,
+        Terminal::Sign(','),
+        |cursor| cursor.closes(Bracket::Round),
+        |cursor| parts.ty(cursor, below),
+    )?;
+    cursor.expect_close(Bracket::Round)?;
+    let output = output(parts, cursor, budget)?;
+    Ok((inputs, output))
+}
+
+/// The arguments of a segment in a type (Rust Reference, Paths in types).
+#[tactic(auto, unfolding(educe_grammar::proofs::Opened::rules, educe_grammar::specs::Types::type_args))]
+fn type_args<R: Inside>(
+    parts: &Parts<R>,
+    cursor: &mut Cursor<'_>,
+    budget: u8,
+) -> Result<ArgsRead, ParseError>
+    requires { R.nests parts.now.inside budget }
+    ensures { Gives (read budget spec.type_args cursor.old) result cursor.new }
+{
+    if at_angle_args(cursor) {
+        cursor.eat_pair(':', ':');
+        let found = angle_args(parts, cursor, budget)?;
+        return Ok((Args::Angle(found), Ending::Arguments, true));
+    }
+    if cursor.opens(Bracket::Round) {
+        let (inputs, output) = round_args(parts, cursor, budget)?;
+        return Ok(round_read(parts.alloc, inputs, output)?);
+    }
+    Ok((Args::None, Ending::Name, true))
+}
+
+/// A segment of a path in a type (Rust Reference, Paths in types).
+#[tactic(auto, unfolding(educe_grammar::proofs::Opened::rules, educe_grammar::specs::Types::type_segment))]
+fn type_segment<R: Inside>(
+    parts: &Parts<R>,
+    cursor: &mut Cursor<'_>,
+    budget: u8,
+) -> Result<SegmentRead, ParseError>
+    requires { R.nests parts.now.inside budget }
+    ensures { Gives (read budget spec.type_segment cursor.old) result cursor.new }
+{
+    let ident = segment_name(parts.alloc, cursor)?;
+    let (args, ending, may_follow) = type_args(parts, cursor, budget)?;
+    Ok((Segment { ident, args }, ending, may_follow))
+}
+
+/// The segments of a path in a type (Rust Reference, Paths in types).
+#[tactic(auto, unfolding(educe_grammar::proofs::Opened::rules, educe_grammar::specs::Types::type_segments))]
+pub fn type_segments<R: Inside>(
+    parts: &Parts<R>,
+    cursor: &mut Cursor<'_>,
+    budget: u8,
+) -> Result<Seq<SegmentRead>, ParseError>
+    requires { R.nests parts.now.inside budget }
+    ensures { Gives (read budget spec.type_segments cursor.old) result cursor.new }
+{
+    let found = path(
+        parts.alloc,
+        cursor,
+        |cursor| type_segment(parts, cursor, budget),
+    )?;
+    if !may_follow(found.as_slice()) {
+        return Err(cursor.refuse());
+    }
+    Ok(found)
+}
+
+/// A path in a type (Rust Reference, Paths in types).
+#[tactic(auto, unfolding(educe_grammar::proofs::Opened::rules, educe_grammar::specs::Types::type_path))]
+pub fn type_path<R: Inside>(
+    parts: &Parts<R>,
+    cursor: &mut Cursor<'_>,
+    budget: u8,
+) -> Result<(Path, Ending), ParseError>
+    requires { R.nests parts.now.inside budget }
+    ensures { Gives (read budget spec.type_path cursor.old) result cursor.new }
+{
+    let leading = cursor.eat_pair(':', ':');
+    let found = type_segments(parts, cursor, budget)?;
+    let (path, ending) = path_read(parts.alloc, leading, found)?;
+    if is_scope(&path) {
+        return Err(cursor.refuse());
+    }
+    Ok((path, ending))
+}
+
+/// `as` and a trait, where there is one (Rust Reference, Qualified paths).
+#[tactic(auto, unfolding(educe_grammar::proofs::Opened::rules))]
+fn self_trait<R: Inside>(
+    parts: &Parts<R>,
+    cursor: &mut Cursor<'_>,
+    budget: u8,
+) -> Result<Option<(Path, Ending)>, ParseError>
+    requires { R.nests parts.now.inside budget }
+    ensures { Gives (read budget (optional (at_word keyword.As) (skipping (word keyword.As) spec.type_path)) cursor.old) result cursor.new }
+{
+    if !cursor.eat(Terminal::Word(Keyword::As)) {
+        return Ok(None);
+    }
+    Ok(Some(type_path(parts, cursor, budget)?))
+}
+
+/// The type of a qualified path, and its trait (Rust Reference, Qualified paths).
+#[tactic(auto, unfolding(educe_grammar::proofs::Opened::rules, educe_grammar::specs::Types::qualified_self))]
+pub fn qualified_self<R: Inside>(
+    parts: &Parts<R>,
+    cursor: &mut Cursor<'_>,
+    budget: u8,
+) -> Result<(Ty, Option<(Path, Ending)>), ParseError>
+    requires { R.nests parts.now.inside budget }
+    ensures { Gives (read budget spec.qualified_self cursor.old) result cursor.new }
+{
+    let below = cursor.open_angle(budget)?;
+    let self_type = parts.ty(cursor, below)?;
+    let self_trait = self_trait(parts, cursor, below)?;
+    cursor.expect(Terminal::Sign('>'))?;
+    Ok((self_type, self_trait))
+}
+
+/// A qualified path (Rust Reference, Qualified paths).
+#[tactic(auto, unfolding(educe_grammar::proofs::Opened::rules, educe_grammar::specs::Types::qualified))]
+pub fn qualified<R: Inside>(
+    parts: &Parts<R>,
+    cursor: &mut Cursor<'_>,
+    budget: u8,
+) -> Result<(TypeForm, Ending), ParseError>
+    requires { R.nests parts.now.inside budget }
+    ensures { Gives (read budget spec.qualified cursor.old) result cursor.new }
+{
+    let (self_type, self_trait) = qualified_self(parts, cursor, budget)?;
+    cursor.skip_pair(':', ':')?;
+    let found = type_segments(parts, cursor, budget)?;
+    let ending = last_ending(found.as_slice());
+    let path = qualified_path(self_trait, segments_of(parts.alloc, found)?)?;
+    let self_type = Boxed::new(parts.alloc, self_type)?;
+    Ok((TypeForm::Path(Some(self_type), path), ending))
+}

@@ -1,0 +1,353 @@
+//! Types (Rust Reference, Types).
+ghost use Rattle.std.specs.Prelude.{◌≡◌, ℕ, ◌+◌, IfOk};
+ghost use Rattle.educe_pieces.specs.declared.kind.Bracket.TheVariants.{Round};
+ghost use Rattle.educe_grammar.specs.Ahead.{one, stop};
+ghost use Rattle.educe_grammar.specs.Combining.{optional, skipping, flag, commas, sign, word, at, at_angle, at_sign, at_word};
+ghost use Rattle.educe_grammar.specs.Reads.{read};
+ghost use Rattle.educe_grammar.specs.Rules.{types, token, both, either, made, part};
+ghost use Rattle.educe_grammar.specs.Steps.{Gives};
+ghost use Rattle.educe_grammar.specs.Types as spec;
+ghost use Rattle.educe_grammar.specs.declared.terminal.Keyword.TheVariants as keyword;
+ghost use Rattle.educe_grammar.specs.declared.terminal.Terminal.TheVariants as terminal;
+
+use crate::bound::{bound, bound_paths, bounds, optional_for_all};
+use crate::looks::{at_fn, at_fn_param};
+use crate::names::skip_lifetime;
+use crate::paths::{output, qualified, type_path};
+use educe_grammar::{
+    Cursor, Ending, Inside, Keyword, ParseError, Parts, Terminal, Typed, list, written,
+};
+use educe_tokens::{Boxed, Bracket, Seq};
+use educe_tree::{Expr, Ty, TypeForm, Types};
+use std::alloc::{AllocError, Global};
+
+/// The form of a type with its ending.
+pub type FormRead = (TypeForm, Ending);
+
+/// A parenthesis, or a tuple with these types behind the first.
+fn round_of(alloc: Global, first: Ty, more: Option<Types>) -> Result<FormRead, AllocError>
+    ensures { IfOk result (λ read. read ≡ spec.round_of (first, more)) }
+{
+    let Some(more) = more else {
+        return Ok((TypeForm::Paren(Boxed::new(alloc, first)?), Ending::Closed));
+    };
+    let mut all = Seq::new(alloc);
+    all.push(first)?;
+    all.append(more)?;
+    Ok((TypeForm::Tuple(all), Ending::Closed))
+}
+
+/// A function pointer with these parameters.
+fn fn_of(alloc: Global, params: Types, output: Option<Typed>) -> Result<FormRead, AllocError>
+    ensures { IfOk result (λ read. read ≡ spec.fn_of (params, output)) }
+{
+    match output {
+        None => Ok((TypeForm::FnPtr(params, None), Ending::Closed)),
+        Some((output, ending)) => {
+            let output = Boxed::new(alloc, output)?;
+            Ok((TypeForm::FnPtr(params, Some(output)), ending))
+        }
+    }
+}
+
+/// `unsafe`, if it comes next (Rust Reference, Function pointer types).
+#[tactic(auto, unfolding(educe_grammar::proofs::Opened::rules))]
+fn skip_unsafe(cursor: &mut Cursor<'_>) -> bool
+    ensures { (budget : ℕ) → read budget (flag (at_word keyword.Unsafe) (word keyword.Unsafe)) cursor.old ≡ Ok (result, cursor.new) }
+{
+    cursor.eat(Terminal::Word(Keyword::Unsafe))
+}
+
+/// `extern "C"`, if it comes next (Rust Reference, Function pointer types).
+#[tactic(auto, unfolding(educe_grammar::proofs::Opened::rules))]
+fn skip_abi(cursor: &mut Cursor<'_>) -> bool
+    ensures { (budget : ℕ) → read budget (flag (at_word keyword.Extern) (both (word keyword.Extern) (flag (at (one terminal.Str)) (token terminal.Str)))) cursor.old ≡ Ok (result, cursor.new) }
+{
+    if !cursor.eat(Terminal::Word(Keyword::Extern)) {
+        return false;
+    }
+    cursor.eat(Terminal::Str);
+    true
+}
+
+/// What stands before `fn` (Rust Reference, Function pointer types).
+#[tactic(auto, unfolding(educe_grammar::proofs::Opened::rules, educe_grammar::specs::Types::fn_qualifiers))]
+fn fn_qualifiers(alloc: Global, cursor: &mut Cursor<'_>, budget: u8) -> Result<(), ParseError>
+    ensures { Gives (read budget spec.fn_qualifiers cursor.old) result cursor.new }
+{
+    optional_for_all(alloc, cursor, budget)?;
+    skip_unsafe(cursor);
+    skip_abi(cursor);
+    Ok(())
+}
+
+/// A comma and the types behind it, where one comes next (Rust Reference, Tuple types).
+#[tactic(auto, unfolding(educe_grammar::proofs::Opened::rules))]
+fn more_types<R: Inside>(
+    parts: &Parts<R>,
+    cursor: &mut Cursor<'_>,
+    budget: u8,
+) -> Result<Option<Types>, ParseError>
+    requires { R.nests parts.now.inside (budget + 1) }
+    ensures { Gives (read budget (optional (at_sign 44) (skipping (sign 44) (commas (at (stop Round)) (part types)))) cursor.old) result cursor.new }
+{
+    if !cursor.eat(Terminal::Sign(',')) {
+        return Ok(None);
+    }
+    let more = list(
+        parts.alloc,
+        cursor,
+        Terminal::Sign(','),
+        |cursor| cursor.closes(Bracket::Round),
+        |cursor| parts.ty(cursor, budget),
+    )?;
+    Ok(Some(more))
+}
+
+/// A parenthesis or a tuple (Rust Reference, Parenthesized types; Tuple types).
+#[tactic(auto, unfolding(educe_grammar::proofs::Opened::rules, educe_grammar::specs::Types::round_form))]
+fn round_form<R: Inside>(
+    parts: &Parts<R>,
+    cursor: &mut Cursor<'_>,
+    budget: u8,
+) -> Result<FormRead, ParseError>
+    requires { R.nests parts.now.inside budget }
+    ensures { Gives (read budget spec.round_form cursor.old) result cursor.new }
+{
+    let below = cursor.open(budget, Bracket::Round)?;
+    if cursor.closes(Bracket::Round) {
+        cursor.expect_close(Bracket::Round)?;
+        return Ok((TypeForm::Tuple(Seq::new(parts.alloc)), Ending::Closed));
+    }
+    let first = parts.ty(cursor, below)?;
+    let more = more_types(parts, cursor, below)?;
+    cursor.expect_close(Bracket::Round)?;
+    Ok(round_of(parts.alloc, first, more)?)
+}
+
+/// `&'a mut` and a type (Rust Reference, Pointer types).
+#[tactic(auto, unfolding(educe_grammar::proofs::Opened::rules, educe_grammar::specs::Types::reference))]
+fn reference<R: Inside>(
+    parts: &Parts<R>,
+    cursor: &mut Cursor<'_>,
+    budget: u8,
+) -> Result<FormRead, ParseError>
+    requires { R.nests parts.now.inside budget }
+    ensures { Gives (read budget spec.reference cursor.old) result cursor.new }
+{
+    let below = cursor.open_under(budget, Terminal::Sign('&'))?;
+    skip_lifetime(cursor);
+    let mutable = cursor.eat(Terminal::Word(Keyword::Mut));
+    let (target, ending) = parts.plain(cursor, below)?;
+    let target = Boxed::new(parts.alloc, target)?;
+    Ok((TypeForm::Reference(mutable, target), ending))
+}
+
+/// `*const` or `*mut` and a type (Rust Reference, Pointer types).
+#[tactic(auto, unfolding(educe_grammar::proofs::Opened::rules, educe_grammar::specs::Types::pointer))]
+fn pointer<R: Inside>(
+    parts: &Parts<R>,
+    cursor: &mut Cursor<'_>,
+    budget: u8,
+) -> Result<FormRead, ParseError>
+    requires { R.nests parts.now.inside budget }
+    ensures { Gives (read budget spec.pointer cursor.old) result cursor.new }
+{
+    let below = cursor.open_under(budget, Terminal::Sign('*'))?;
+    cursor.expect(Terminal::PointerWord)?;
+    let (target, ending) = parts.plain(cursor, below)?;
+    Ok((TypeForm::Pointer(Boxed::new(parts.alloc, target)?), ending))
+}
+
+/// A slice or an array (Rust Reference, Slice types; Array types).
+#[tactic(auto, unfolding(educe_grammar::proofs::Opened::rules, educe_grammar::specs::Types::square_form))]
+fn square_form<R: Inside>(
+    parts: &Parts<R>,
+    cursor: &mut Cursor<'_>,
+    budget: u8,
+) -> Result<FormRead, ParseError>
+    requires { R.nests parts.now.inside budget }
+    ensures { Gives (read budget spec.square_form cursor.old) result cursor.new }
+{
+    let below = cursor.open(budget, Bracket::Square)?;
+    let item = parts.ty(cursor, below)?;
+    if !cursor.eat(Terminal::Sign(';')) {
+        cursor.expect_close(Bracket::Square)?;
+        return Ok((
+            TypeForm::Slice(Boxed::new(parts.alloc, item)?),
+            Ending::Closed,
+        ));
+    }
+    let length = parts.expr(cursor, below)?;
+    cursor.expect_close(Bracket::Square)?;
+    let form = TypeForm::Array(Boxed::new(parts.alloc, item)?, length.written);
+    Ok((form, Ending::Closed))
+}
+
+/// A parameter of a function pointer (Rust Reference, Function pointer types).
+#[tactic(auto, unfolding(educe_grammar::proofs::Opened::rules, educe_grammar::specs::Types::fn_param))]
+fn fn_param<R: Inside>(
+    parts: &Parts<R>,
+    cursor: &mut Cursor<'_>,
+    budget: u8,
+) -> Result<Ty, ParseError>
+    requires { R.nests parts.now.inside (budget + 1) }
+    ensures { Gives (read budget spec.fn_param cursor.old) result cursor.new }
+{
+    if at_fn_param(cursor) {
+        cursor.expect(Terminal::NameOrUnderscore)?;
+        cursor.skip_lone(':', ':')?;
+        return parts.ty(cursor, budget);
+    }
+    parts.ty(cursor, budget)
+}
+
+/// A function pointer (Rust Reference, Function pointer types).
+#[tactic(auto, unfolding(educe_grammar::proofs::Opened::rules, educe_grammar::specs::Types::fn_pointer))]
+fn fn_pointer<R: Inside>(
+    parts: &Parts<R>,
+    cursor: &mut Cursor<'_>,
+    budget: u8,
+) -> Result<FormRead, ParseError>
+    requires { R.nests parts.now.inside budget }
+    ensures { Gives (read budget spec.fn_pointer cursor.old) result cursor.new }
+{
+    fn_qualifiers(parts.alloc, cursor, budget)?;
+    cursor.expect(Terminal::Word(Keyword::Fn))?;
+    let below = cursor.open(budget, Bracket::Round)?;
+    let params = list(
+        parts.alloc,
+        cursor,
+        Terminal::Sign(','),
+        |cursor| cursor.closes(Bracket::Round),
+        |cursor| fn_param(parts, cursor, below),
+    )?;
+    cursor.expect_close(Bracket::Round)?;
+    let output = output(parts, cursor, budget)?;
+    Ok(fn_of(parts.alloc, params, output)?)
+}
+
+/// A path, which may stand behind its type, or a function pointer (Rust Reference, Paths in types;
+/// Qualified paths; Function pointer types).
+#[tactic(auto, unfolding(educe_grammar::proofs::Opened::rules))]
+fn named_form<R: Inside>(
+    parts: &Parts<R>,
+    cursor: &mut Cursor<'_>,
+    budget: u8,
+) -> Result<FormRead, ParseError>
+    requires { R.nests parts.now.inside budget }
+    ensures { Gives (read budget (either at_angle spec.qualified (either spec.at_fn spec.fn_pointer (made spec.path_form spec.type_path))) cursor.old) result cursor.new }
+{
+    if cursor.begins_lone('<', '=') {
+        return qualified(parts, cursor, budget);
+    }
+    if at_fn(cursor) {
+        return fn_pointer(parts, cursor, budget);
+    }
+    let (path, ending) = type_path(parts, cursor, budget)?;
+    Ok((TypeForm::Path(None, path), ending))
+}
+
+/// The form of a type that is not `dyn` (Rust Reference, Type expressions).
+#[tactic(auto, unfolding(educe_grammar::proofs::Opened::rules, educe_grammar::specs::Types::plain_form))]
+fn plain_form<R: Inside>(
+    parts: &Parts<R>,
+    cursor: &mut Cursor<'_>,
+    budget: u8,
+) -> Result<FormRead, ParseError>
+    requires { R.nests parts.now.inside budget }
+    ensures { Gives (read budget spec.plain_form cursor.old) result cursor.new }
+{
+    if cursor.opens(Bracket::Round) {
+        return round_form(parts, cursor, budget);
+    }
+    if cursor.eat(Terminal::Sign('!')) {
+        return Ok((TypeForm::Never, Ending::Closed));
+    }
+    if cursor.sees(Terminal::Sign('&')) {
+        return reference(parts, cursor, budget);
+    }
+    if cursor.sees(Terminal::Sign('*')) {
+        return pointer(parts, cursor, budget);
+    }
+    if cursor.opens(Bracket::Square) {
+        return square_form(parts, cursor, budget);
+    }
+    named_form(parts, cursor, budget)
+}
+
+/// The form of a type, where `dyn` has one bound (Rust Reference, Trait objects).
+#[tactic(auto, unfolding(educe_grammar::proofs::Opened::rules, educe_grammar::specs::Types::one_bound_form))]
+fn one_bound_form<R: Inside>(
+    parts: &Parts<R>,
+    cursor: &mut Cursor<'_>,
+    budget: u8,
+) -> Result<FormRead, ParseError>
+    requires { R.nests parts.now.inside budget }
+    ensures { Gives (read budget spec.one_bound_form cursor.old) result cursor.new }
+{
+    if !cursor.sees(Terminal::Word(Keyword::Dyn)) {
+        return plain_form(parts, cursor, budget);
+    }
+    let below = cursor.open_under(budget, Terminal::Word(Keyword::Dyn))?;
+    let (path, ending) = bound(parts, cursor, below)?;
+    let mut found = Seq::new(parts.alloc);
+    found.push((path, ending))?;
+    Ok((
+        TypeForm::TraitObject(bound_paths(parts.alloc, found)?),
+        ending,
+    ))
+}
+
+/// The form of a type, where `dyn` has any bounds (Rust Reference, Trait objects).
+#[tactic(auto, unfolding(educe_grammar::proofs::Opened::rules, educe_grammar::specs::Types::any_bounds_form))]
+fn any_bounds_form<R: Inside>(
+    parts: &Parts<R>,
+    cursor: &mut Cursor<'_>,
+    budget: u8,
+) -> Result<FormRead, ParseError>
+    requires { R.nests parts.now.inside budget }
+    ensures { Gives (read budget spec.any_bounds_form cursor.old) result cursor.new }
+{
+    if !cursor.sees(Terminal::Word(Keyword::Dyn)) {
+        return plain_form(parts, cursor, budget);
+    }
+    let below = cursor.open_under(budget, Terminal::Word(Keyword::Dyn))?;
+    let found = bounds(parts, cursor, below)?;
+    if found.len() == 0 {
+        return Err(cursor.refuse());
+    }
+    let paths = bound_paths(parts.alloc, found)?;
+    Ok((TypeForm::TraitObject(paths), Ending::Closed))
+}
+
+/// A type whose `dyn` has one bound (Rust Reference, Type expressions).
+#[tactic(auto, using(educe_grammar::proofs::Copied::one_bound_form_copied), unfolding(educe_grammar::proofs::Opened::rules, educe_grammar::specs::Types::plain_type))]
+pub fn plain_type<R: Inside>(
+    parts: &Parts<R>,
+    cursor: &mut Cursor<'_>,
+    budget: u8,
+) -> Result<Typed, ParseError>
+    requires { R.nests parts.now.inside budget }
+    ensures { Gives (read budget spec.plain_type cursor.old) result cursor.new }
+{
+    let ((form, ending), written) = written(
+        cursor,
+        |cursor| one_bound_form(parts, cursor, budget),
+    )?;
+    Ok((Ty { form, written }, ending))
+}
+
+/// A type (Rust Reference, Types).
+#[tactic(auto, using(educe_grammar::proofs::Copied::any_bounds_form_copied), unfolding(educe_grammar::proofs::Opened::rules, educe_grammar::specs::Types::any_type))]
+pub fn any_type<R: Inside>(
+    parts: &Parts<R>,
+    cursor: &mut Cursor<'_>,
+    budget: u8,
+) -> Result<Ty, ParseError>
+    requires { R.nests parts.now.inside budget }
+    ensures { Gives (read budget spec.any_type cursor.old) result cursor.new }
+{
+    let ((form, _), written) = written(cursor, |cursor| any_bounds_form(parts, cursor, budget))?;
+    Ok(Ty { form, written })
+}
