@@ -9,9 +9,8 @@ ghost use Rattle.educe_tree.specs.declared.path.Segment.{out-Segment};
 
 use crate::looks::at_turbofish;
 use educe_grammar::{Cursor, Inside, ParseError, Parts, path, written};
-use educe_tree::{Args, Expr, ExprPath, Path, Segment, Segments, Ty};
+use educe_tree::{Args, ExprPath, Path, Segment, Segments, Ty};
 use educe_types::{angle_args, is_scope, qualified_path, qualified_self, segment_name};
-use std::alloc::Global;
 
 /// A path, and the type that it stands behind, where there is one.
 type TypedPath = (Option<Ty>, Path);

@@ -1,5 +1,4 @@
 //! Expressions (Rust Reference, Expressions).
-ghost use Rattle.std.specs.Prelude.{◌≡◌};
 ghost use Rattle.educe_grammar.specs.Expressions as spec;
 ghost use Rattle.educe_grammar.specs.Reads.{read};
 ghost use Rattle.educe_grammar.specs.Steps.{Gives};
@@ -8,9 +7,8 @@ use crate::links::{linked_form, links_fit};
 use crate::looks::at_link;
 use crate::operands::unary;
 use educe_grammar::{Cursor, Inside, Keyword, Link, ParseError, Parts, Terminal, chain, written};
-use educe_tree::{Expr, ExprForm, Ty};
+use educe_tree::{Expr, ExprForm};
 use educe_types::plain_type;
-use std::alloc::Global;
 
 /// `as` and a type, or an operator and its second operand (Rust Reference, Type cast
 /// expressions; Arithmetic and logical binary operators).

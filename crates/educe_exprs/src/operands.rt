@@ -12,9 +12,8 @@ use crate::looks::{at_postfix, at_prefix};
 use crate::tails::{fits_tail, path_tail, tail_form};
 use educe_grammar::{Cursor, Inside, Keyword, ParseError, Parts, Terminal, chain, list};
 use educe_tokens::{Bracket, Seq, Token, TokenKind};
-use educe_tree::{Expr, ExprForm, Ty};
+use educe_tree::{Expr, ExprForm};
 use educe_types::angle_args;
-use std::alloc::Global;
 
 /// Whether the token is `-`.
 fn is_minus(token: &Token) -> bool

@@ -9,7 +9,7 @@ use crate::expr_paths::is_mod_path;
 use crate::looks::{at_value, behind_fields};
 use educe_grammar::{Cursor, Inside, ParseError, Parts, Tail, Terminal, list};
 use educe_tokens::{Bracket, TokenSlice};
-use educe_tree::{Expr, ExprForm, ExprPath, Ty};
+use educe_tree::{ExprForm, ExprPath};
 use educe_types::group;
 use std::alloc::Global;
 

@@ -9,7 +9,7 @@ ghost use Rattle.educe_grammar.specs.Steps.{Gives, since};
 use crate::looks::{at_attribute, at_group};
 use educe_grammar::{Cursor, Inside, ParseError, Parts, Terminal, list, many, written};
 use educe_tokens::{Bracket, Span, Written};
-use educe_tree::{Attribute, Attributes, Expr, Meta, MetaPath, Metas, Ty};
+use educe_tree::{Attribute, Attributes, Meta, MetaPath, Metas};
 use educe_types::{group, simple_path, some_trees, tree};
 use std::alloc::Global;
 

@@ -16,7 +16,7 @@ use educe_grammar::{Cursor, Inside, Keyword, ParseError, Parts, Terminal, list};
 use educe_tokens::{Bracket, Seq};
 use educe_tree::{
     DeriveInput, Expr, Field, FieldForm, FieldShape, Generics, Ident, Params, Predicates, Shape,
-    Ty, Variant, Variants,
+    Variant, Variants,
 };
 use educe_types::{name, simple_path};
 use std::alloc::Global;

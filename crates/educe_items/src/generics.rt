@@ -1,5 +1,5 @@
 //! Generic parameters and where clauses (Rust Reference, Generic parameters).
-ghost use Rattle.std.specs.Prelude.{◌≡◌, ◌+◌, ℕ};
+ghost use Rattle.std.specs.Prelude.{◌+◌, ℕ};
 ghost use Rattle.educe_grammar.specs.Generics as spec;
 ghost use Rattle.educe_grammar.specs.Reads.{read};
 ghost use Rattle.educe_grammar.specs.Rules as rule;
@@ -9,8 +9,8 @@ use crate::looks::behind_where;
 use educe_grammar::{Cursor, Inside, Keyword, ParseError, Parts, Terminal, list, written};
 use educe_tokens::{Seq, Written};
 use educe_tree::{
-    ConstParam, Expr, GenericParam, Ident, Lifetime, LifetimeParam, Params, Predicates, Ty,
-    TypeParam, WherePredicate,
+    ConstParam, GenericParam, Ident, Lifetime, LifetimeParam, Params, Predicates, TypeParam,
+    WherePredicate,
 };
 use educe_types::{bounds, constant, for_all, lifetime, lifetime_bounds, name};
 use std::alloc::Global;

@@ -1,12 +1,9 @@
 //! What the next tokens may begin.
-ghost use Rattle.std.specs.Prelude.{◌≡◌, [], ◌∷◌};
-ghost use Rattle.educe_grammar.specs.Ahead.{sees_any, one, lone};
-ghost use Rattle.educe_grammar.specs.declared.terminal.Terminal.TheVariants as terminal;
+ghost use Rattle.std.specs.Prelude.{◌≡◌};
+ghost use Rattle.educe_grammar.specs.Ahead.{sees_any};
 ghost use Rattle.educe_grammar.specs.Attributes as attributes;
 ghost use Rattle.educe_grammar.specs.Definitions as definitions;
-ghost use Rattle.educe_grammar.specs.Expressions as expressions;
 ghost use Rattle.educe_grammar.specs.Generics as generics;
-ghost use Rattle.educe_grammar.specs.Types as types;
 
 use educe_grammar::{Cursor, Keyword, Terminal};
 use educe_tokens::Bracket;

@@ -1,5 +1,5 @@
 //! The calls of the parser: each reads a whole list of tokens.
-ghost use Rattle.std.specs.Prelude.{◌≡◌, List, length, IfOk, IfErr, IfSome, IfNone};
+ghost use Rattle.std.specs.Prelude.{List, length, IfOk, IfErr, IfSome, IfNone};
 ghost use Rattle.educe_tree.specs.declared.attr.Meta.{Meta};
 ghost use Rattle.educe_tree.specs.declared.derive.DeriveInput.{DeriveInput};
 ghost use Rattle.educe_tree.specs.declared.expr.Expr.{Expr};

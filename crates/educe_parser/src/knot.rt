@@ -1,5 +1,4 @@
 //! The parts that stand inside one another, each with a budget, and what is read with all of it.
-ghost use Rattle.std.specs.Prelude.{◌≡◌, List};
 ghost use Rattle.educe_grammar.specs.Attributes as attrs;
 ghost use Rattle.educe_grammar.specs.Definitions as defs;
 ghost use Rattle.educe_grammar.specs.Expressions as spec;

@@ -1,5 +1,4 @@
 //! Function values that read the parts which stand inside of others.
-ghost use Rattle.std.specs.Prelude.{ℕ};
 
 use educe_grammar::{Cursor, Inside, ParseError, Typed};
 use educe_tree::{Expr, Ty};

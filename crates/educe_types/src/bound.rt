@@ -11,7 +11,7 @@ use crate::names::lifetime;
 use crate::paths::type_path;
 use educe_grammar::{Cursor, Ending, Inside, Keyword, ParseError, Parts, Terminal, list};
 use educe_tokens::{Bracket, Seq};
-use educe_tree::{Expr, Path, Paths, Ty};
+use educe_tree::{Path, Paths};
 use std::alloc::{AllocError, Global};
 
 /// The path of a bound, where it is no lifetime, and how the bound ends.

@@ -13,7 +13,7 @@ use educe_grammar::{
     Cursor, Ending, Inside, Keyword, ParseError, Parts, Terminal, Typed, list, path, written,
 };
 use educe_tokens::{Boxed, Bracket, Seq};
-use educe_tree::{AngleArg, AngleArgs, Args, Expr, Path, Segment, Segments, Ty, TypeForm, Types};
+use educe_tree::{AngleArg, AngleArgs, Args, Path, Segment, Segments, Ty, TypeForm, Types};
 use std::alloc::{AllocError, Global};
 
 /// The arguments of a segment, how it ends with them, and whether a segment may stand behind it.

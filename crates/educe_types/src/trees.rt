@@ -1,5 +1,4 @@
 //! Trees of tokens (Rust Reference, Token trees).
-ghost use Rattle.std.specs.Prelude.{◌≡◌};
 ghost use Rattle.educe_grammar.specs.Expressions as spec;
 ghost use Rattle.educe_grammar.specs.Reads.{read, readers};
 ghost use Rattle.educe_grammar.specs.Rules.{nest, trees};

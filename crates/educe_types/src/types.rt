@@ -18,7 +18,7 @@ use educe_grammar::{
     Cursor, Ending, Inside, Keyword, ParseError, Parts, Terminal, Typed, list, written,
 };
 use educe_tokens::{Boxed, Bracket, Seq};
-use educe_tree::{Expr, Ty, TypeForm, Types};
+use educe_tree::{Ty, TypeForm, Types};
 use std::alloc::{AllocError, Global};
 
 /// The form of a type with its ending.
