@@ -1,5 +1,5 @@
-//! The parser of generic parameters, attributes and definitions: each function reads one production of
-//! the grammar.
+//! The parser of generic parameters, attributes and definitions: each function that reads
+//! tokens reads one production of the grammar, or a piece of one.
 #![tactic(auto)]
 
 mod attribute;

@@ -6,9 +6,9 @@ ghost use Rattle.educe_tree.specs.declared.expr.Expr.{Expr};
 ghost use Rattle.educe_tree.specs.declared.expr.ExprPath.{ExprPath};
 ghost use Rattle.educe_tree.specs.declared.generics.WherePredicate.{WherePredicate};
 ghost use Rattle.educe_tree.specs.declared.ident.Ident.{Ident};
-ghost use Rattle.educe_grammar.specs.Attributes as attrs;
-ghost use Rattle.educe_grammar.specs.Definitions as defs;
-ghost use Rattle.educe_grammar.specs.Expressions as exprs;
+ghost use Rattle.educe_grammar.specs.Attributes as attributes;
+ghost use Rattle.educe_grammar.specs.Definitions as definitions;
+ghost use Rattle.educe_grammar.specs.Expressions as expressions;
 ghost use Rattle.educe_grammar.specs.Few.{IsFew};
 ghost use Rattle.educe_grammar.specs.Generics as generics;
 ghost use Rattle.educe_grammar.specs.Names as names;
@@ -37,18 +37,18 @@ pub fn parse_ident(alloc: Global, tokens: &TokenSlice) -> Result<Ident, EduceErr
 
 /// The path of an expression that the tokens are (Rust Reference, Path expressions).
 pub fn parse_path(alloc: Global, tokens: &TokenSlice) -> Result<ExprPath, EduceError>
-    ensures found { IfOk result (λ x. IsWhole exprs.expr_path tokens.now x) }
-    ensures only { (x : ExprPath) → IsWhole exprs.expr_path tokens.now x → IsOnly x result }
-    ensures err { IfErr result (IsParseCause exprs.expr_path tokens.now) }
+    ensures found { IfOk result (λ x. IsWhole expressions.expr_path tokens.now x) }
+    ensures only { (x : ExprPath) → IsWhole expressions.expr_path tokens.now x → IsOnly x result }
+    ensures err { IfErr result (IsParseCause expressions.expr_path tokens.now) }
 {
     whole(alloc, tokens, |cursor| expr_path(alloc, cursor))
 }
 
 /// The expression that the tokens are (Rust Reference, Expressions).
 pub fn parse_expr(alloc: Global, tokens: &TokenSlice) -> Result<Expr, EduceError>
-    ensures found { IfOk result (λ x. IsWhole exprs.expression tokens.now x) }
-    ensures only { (x : Expr) → IsWhole exprs.expression tokens.now x → IsOnly x result }
-    ensures err { IfErr result (IsParseCause exprs.expression tokens.now) }
+    ensures found { IfOk result (λ x. IsWhole expressions.expression tokens.now x) }
+    ensures only { (x : Expr) → IsWhole expressions.expression tokens.now x → IsOnly x result }
+    ensures err { IfErr result (IsParseCause expressions.expression tokens.now) }
 {
     whole(alloc, tokens, |cursor| expression(alloc, cursor))
 }
@@ -64,17 +64,17 @@ pub fn parse_predicates(alloc: Global, tokens: &TokenSlice) -> Result<Predicates
 
 /// The metas of an attribute that the tokens are (Rust Reference, Attributes).
 pub fn parse_metas(alloc: Global, tokens: &TokenSlice) -> Result<Metas, EduceError>
-    ensures found { IfOk result (λ x. IsWhole attrs.metas tokens.now x) }
-    ensures only { (x : List Meta) → IsWhole attrs.metas tokens.now x → IsOnly x result }
-    ensures err { IfErr result (IsParseCause attrs.metas tokens.now) }
+    ensures found { IfOk result (λ x. IsWhole attributes.metas tokens.now x) }
+    ensures only { (x : List Meta) → IsWhole attributes.metas tokens.now x → IsOnly x result }
+    ensures err { IfErr result (IsParseCause attributes.metas tokens.now) }
 {
     whole(alloc, tokens, |cursor| metas(alloc, cursor))
 }
 
 /// The definition that the tokens are, whatever names it gives twice.
 fn read_definition(alloc: Global, tokens: &TokenSlice) -> Result<DeriveInput, EduceError>
-    ensures found { IfOk result (λ x. IsWhole defs.definition tokens.now x) }
-    ensures err { IfErr result (IsParseCause defs.definition tokens.now) }
+    ensures found { IfOk result (λ x. IsWhole definitions.definition tokens.now x) }
+    ensures err { IfErr result (IsParseCause definitions.definition tokens.now) }
 {
     whole(alloc, tokens, |cursor| definition(alloc, cursor))
 }
@@ -94,7 +94,7 @@ fn refused_name(alloc: Global, found: &DeriveInput) -> Option<EduceError>
 /// The refusal of tokens that are no definition, where the parser refuses them so: a union is refused
 /// at its word.
 fn unread(alloc: Global, tokens: &TokenSlice, error: EduceError) -> EduceError
-    requires { IsParseCause defs.definition tokens.now error }
+    requires { IsParseCause definitions.definition tokens.now error }
     ensures { IsRefusalOf tokens.now result }
 {
     match union_word(alloc, tokens) {
@@ -107,10 +107,10 @@ fn unread(alloc: Global, tokens: &TokenSlice, error: EduceError) -> EduceError
 /// The definition that the tokens are (Rust Reference, Structs; Enumerations). It is refused where
 /// they are none or a union, where a name is given twice, or where memory fails.
 pub fn parse_derive_input(alloc: Global, tokens: &TokenSlice) -> Result<DeriveInput, EduceError>
-    ensures found { IfOk result (λ x. IsWhole defs.definition tokens.now x) }
+    ensures found { IfOk result (λ x. IsWhole definitions.definition tokens.now x) }
     ensures apart { IfOk result (λ x. AreNamesApart x) }
     ensures few { IfOk result (λ x. IsFew (length tokens.now) x) }
-    ensures only { (x : DeriveInput) → IsWhole defs.definition tokens.now x → AreNamesApart x → IsOnly x result }
+    ensures only { (x : DeriveInput) → IsWhole definitions.definition tokens.now x → AreNamesApart x → IsOnly x result }
     ensures err { IfErr result (IsRefusalOf tokens.now) }
 {
     let found = match read_definition(alloc, tokens) {

@@ -1,6 +1,6 @@
 //! The parts that stand inside one another, each with a budget, and what is read with all of it.
-ghost use Rattle.educe_grammar.specs.Attributes as attrs;
-ghost use Rattle.educe_grammar.specs.Definitions as defs;
+ghost use Rattle.educe_grammar.specs.Attributes as attributes;
+ghost use Rattle.educe_grammar.specs.Definitions as definitions;
 ghost use Rattle.educe_grammar.specs.Expressions as spec;
 ghost use Rattle.educe_grammar.specs.Generics as generics;
 ghost use Rattle.educe_grammar.specs.Parsed.{depth_limit};
@@ -16,6 +16,7 @@ use std::alloc::Global;
 /// How many brackets, angle lists, `&`, `*`, `dyn` and `->` may stand in one another.
 pub const DEPTH_LIMIT: u8 = 128;
 
+// What reads the parts inside by the functions of this file.
 macro_rules! parts {
     ($alloc:expr) => {
         Parts {
@@ -32,7 +33,7 @@ macro_rules! parts {
 /// A type (Rust Reference, Types).
 #[cycle(knot)]
 #[tactic(auto, using(educe_grammar::proofs::Unrolling::readers_unroll))]
-pub fn ty(alloc: Global, cursor: &mut Cursor<'_>, budget: u8) -> Result<Ty, ParseError>
+fn ty(alloc: Global, cursor: &mut Cursor<'_>, budget: u8) -> Result<Ty, ParseError>
     ensures { Gives (readers budget types cursor.old) result cursor.new }
 {
     educe_types::any_type(&parts!(alloc), cursor, budget)
@@ -53,40 +54,41 @@ fn plain(alloc: Global, cursor: &mut Cursor<'_>, budget: u8) -> Result<Typed, Pa
 fn expr(alloc: Global, cursor: &mut Cursor<'_>, budget: u8) -> Result<Expr, ParseError>
     ensures { Gives (readers budget exprs cursor.old) result cursor.new }
 {
-    educe_exprs::expression(&parts!(alloc), cursor, budget)
+    educe_expressions::expression(&parts!(alloc), cursor, budget)
 }
 
-/// The path of an expression (Rust Reference, Path expressions).
+/// The path of an expression, with the whole budget (Rust Reference, Path expressions).
 pub fn expr_path(alloc: Global, cursor: &mut Cursor<'_>) -> Result<ExprPath, ParseError>
     ensures { Gives (read depth_limit spec.expr_path cursor.old) result cursor.new }
 {
-    educe_exprs::expr_path(&parts!(alloc), cursor, DEPTH_LIMIT)
+    educe_expressions::expr_path(&parts!(alloc), cursor, DEPTH_LIMIT)
 }
 
-/// An expression (Rust Reference, Expressions).
+/// An expression, with the whole budget (Rust Reference, Expressions).
 pub fn expression(alloc: Global, cursor: &mut Cursor<'_>) -> Result<Expr, ParseError>
     ensures { Gives (read depth_limit spec.expression cursor.old) result cursor.new }
 {
-    educe_exprs::expression(&parts!(alloc), cursor, DEPTH_LIMIT)
+    educe_expressions::expression(&parts!(alloc), cursor, DEPTH_LIMIT)
 }
 
-/// The predicates of a where clause (Rust Reference, Where clauses).
+/// The predicates of a where clause, with the whole budget (Rust Reference, Where clauses).
 pub fn predicates(alloc: Global, cursor: &mut Cursor<'_>) -> Result<Predicates, ParseError>
     ensures { Gives (read depth_limit generics.predicates cursor.old) result cursor.new }
 {
     educe_items::predicates(&parts!(alloc), cursor, DEPTH_LIMIT)
 }
 
-/// The items of a list in an attribute (Rust Reference, Meta item attribute syntax).
+/// The items of a list in an attribute, with the whole budget (Rust Reference, Meta item attribute
+/// syntax).
 pub fn metas(alloc: Global, cursor: &mut Cursor<'_>) -> Result<Metas, ParseError>
-    ensures { Gives (read depth_limit attrs.metas cursor.old) result cursor.new }
+    ensures { Gives (read depth_limit attributes.metas cursor.old) result cursor.new }
 {
     educe_items::metas(&parts!(alloc), cursor, DEPTH_LIMIT)
 }
 
-/// A definition (Rust Reference, Items).
+/// A definition, with the whole budget (Rust Reference, Items).
 pub fn definition(alloc: Global, cursor: &mut Cursor<'_>) -> Result<DeriveInput, ParseError>
-    ensures { Gives (read depth_limit defs.definition cursor.old) result cursor.new }
+    ensures { Gives (read depth_limit definitions.definition cursor.old) result cursor.new }
 {
     educe_items::definition(&parts!(alloc), cursor, DEPTH_LIMIT)
 }

@@ -3,9 +3,9 @@ ghost use Rattle.std.specs.Prelude.{◌≡◌, ◌⊎◌, ◌↔◌, List, ◌�
 ghost use Rattle.educe_tokens.specs.declared.error.Kind.TheVariants.{Alloc};
 ghost use Rattle.educe_tokens.specs.declared.token.Token.{Token};
 ghost use Rattle.educe_tokens.specs.Refusals.{placeless};
-ghost use Rattle.educe_grammar.specs.Attributes as attrs;
+ghost use Rattle.educe_grammar.specs.Attributes as attributes;
 ghost use Rattle.educe_grammar.specs.Combining.{unit};
-ghost use Rattle.educe_grammar.specs.Definitions as defs;
+ghost use Rattle.educe_grammar.specs.Definitions as definitions;
 ghost use Rattle.educe_grammar.specs.Reads.{read};
 ghost use Rattle.educe_grammar.specs.Refusal.{IsUnion, IsUnionWord, union_of};
 ghost use Rattle.educe_grammar.specs.Rules.{both};
@@ -20,7 +20,7 @@ use std::alloc::{AllocError, Global};
 /// What stands before the item of a definition: attributes and a visibility.
 #[tactic(auto, unfolding(educe_grammar::specs::Running::run))]
 fn head(alloc: Global, cursor: &mut Cursor<'_>, budget: u8) -> Result<(), ParseError>
-    ensures { Gives (read budget (unit (both attrs.attributes defs.visibility)) cursor.old) result cursor.new }
+    ensures { Gives (read budget (unit (both attributes.attributes definitions.visibility)) cursor.old) result cursor.new }
 {
     attributes(alloc, cursor, budget)?;
     visibility(alloc, cursor, budget)

@@ -45,39 +45,39 @@ fn ty(alloc: Global, form: TypeForm) -> Result<Ty, AllocError> {
     Ok(Ty { form, written })
 }
 
-/// The type that is the name `A`.
+/// The type `::A`.
 fn named(alloc: Global) -> Result<Ty, AllocError> {
     let path = path(alloc, "A", Args::None)?;
     ty(alloc, TypeForm::Path(None, path))
 }
 
-/// The type that is the name `A`, on the heap.
+/// The same on the heap.
 fn boxed(alloc: Global) -> Result<Boxed<Ty>, AllocError> {
     let ty = named(alloc)?;
     Boxed::new(alloc, ty)
 }
 
-/// `(A)`
+/// The types `::A` alone.
 fn types(alloc: Global) -> Result<Types, AllocError> {
     let mut types = Seq::new(alloc);
     types.push(named(alloc)?)?;
     Ok(types)
 }
 
-/// `&mut A`
+/// `&mut ::A`
 fn reference(alloc: Global) -> Result<TypeForm, AllocError> {
     let inner = boxed(alloc)?;
     Ok(TypeForm::Reference(true, inner))
 }
 
-/// `fn(A) -> A`
+/// `fn(::A) -> ::A`
 fn pointer(alloc: Global) -> Result<TypeForm, AllocError> {
     let inputs = types(alloc)?;
     let output = boxed(alloc)?;
     Ok(TypeForm::FnPtr(inputs, Some(output)))
 }
 
-/// `dyn X<a>`
+/// `dyn ::X<a>`
 fn object(alloc: Global) -> Result<TypeForm, AllocError> {
     let mut angle = Seq::new(alloc);
     angle.push(AngleArg::Constant(word(alloc)?))?;
@@ -173,7 +173,7 @@ fn lifetime(alloc: Global) -> Result<Lifetime, Fail> {
     }
 }
 
-/// The parameters `T` and `N`, and one predicate.
+/// The parameter `T`, and one predicate.
 fn generics(alloc: Global) -> Result<Generics, AllocError> {
     let ident = Ident::from_name(alloc, "T")?;
     let written = long(alloc)?;

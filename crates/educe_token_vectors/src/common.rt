@@ -36,7 +36,7 @@ pub fn lexed_slice(alloc: Global, text: &str) -> Result<TokenSlice, Fail>
 }
 
 /// The refusal of a text that has no tokens.
-pub fn refusal(alloc: Global, text: &str) -> Result<EduceError, Fail>
+pub(crate) fn refusal(alloc: Global, text: &str) -> Result<EduceError, Fail>
     ensures { IfOk result (λ e. IsLexicalCause (chars text.now) e) }
 {
     match lex_answer(alloc, text)? {

@@ -10,4 +10,4 @@ mod scan;
 #[cfg(test)]
 mod tokens;
 
-pub use common::{lex_answer, lexed, lexed_slice, refusal};
+pub use common::{lex_answer, lexed, lexed_slice};

@@ -1,5 +1,5 @@
-//! The parser of types: names, trees of tokens, paths, bounds and types. Each function reads one
-//! production of the grammar.
+//! The parser of types: names, trees of tokens, paths, bounds and types. Each function that
+//! reads tokens reads one production of the grammar, or a piece of one.
 #![tactic(auto)]
 
 mod bound;

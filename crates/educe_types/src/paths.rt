@@ -17,10 +17,10 @@ use educe_tree::{AngleArg, AngleArgs, Args, Path, Segment, Segments, Ty, TypeFor
 use std::alloc::{AllocError, Global};
 
 /// The arguments of a segment, how it ends with them, and whether a segment may stand behind it.
-pub type ArgsRead = (Args, Ending, bool);
+type ArgsRead = (Args, Ending, bool);
 
 /// The same of a segment.
-pub type SegmentRead = (Segment, Ending, bool);
+type SegmentRead = (Segment, Ending, bool);
 
 /// The arguments in round brackets. Behind a type that ends with a path `::` goes on that path.
 fn round_read(alloc: Global, inputs: Types, output: Option<Typed>) -> Result<ArgsRead, AllocError>
@@ -293,7 +293,7 @@ fn type_segment<R: Inside>(
 
 /// The segments of a path in a type (Rust Reference, Paths in types).
 #[tactic(auto, unfolding(educe_grammar::proofs::Opened::rules, educe_grammar::specs::Types::type_segments))]
-pub fn type_segments<R: Inside>(
+fn type_segments<R: Inside>(
     parts: &Parts<R>,
     cursor: &mut Cursor<'_>,
     budget: u8,

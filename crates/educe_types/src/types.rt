@@ -22,7 +22,7 @@ use educe_tree::{Ty, TypeForm, Types};
 use std::alloc::{AllocError, Global};
 
 /// The form of a type with its ending.
-pub type FormRead = (TypeForm, Ending);
+type FormRead = (TypeForm, Ending);
 
 /// A parenthesis, or a tuple with these types behind the first.
 fn round_of(alloc: Global, first: Ty, more: Option<Types>) -> Result<FormRead, AllocError>

@@ -196,10 +196,7 @@ fn paths_are_none(rt: HostRuntime) -> Result<(), Fail> {
             "struct S { a: (crate) }",
             "struct S { a: A:: }",
             "struct S { a: :: }",
-            "struct S { a: A::< }",
             "struct S { a: a::B:: }",
-            "struct S { a: A::(B) }",
-            "struct S { a: Fn(a: A) }",
             "struct S { a: Fn() -> A:: }",
         ],
     )
@@ -226,6 +223,9 @@ fn arguments_are_none(rt: HostRuntime) -> Result<(), Fail> {
             "struct S { a: A<B, 'a = C> }",
             "struct S { a: A<const B> }",
             "struct S { a: A<B: C> }",
+            "struct S { a: A::< }",
+            "struct S { a: A::(B) }",
+            "struct S { a: Fn(a: A) }",
         ],
     )
 }

@@ -40,11 +40,21 @@ fn a_struct_without_fields_is_equal(rt: HostRuntime) -> Result<(), Fail> {
 
 #[test]
 fn other_attributes_are_left_unread(rt: HostRuntime) -> Result<(), Fail> {
-    let inputs: [&[u8]; 5] = [
+    let inputs: [&[u8]; 3] = [
         b"#[derive(Debug)] #[educe(PartialEq)] struct S { a: u8 }",
-        b"#[educe[PartialEq]] struct S { a: u8 }",
         b"/// one more\n#[educe(PartialEq)] struct S { a: u8 }",
         b"#[educe(PartialEq)] struct S { #[serde(rename = \"b\")] #[doc(hidden)] #[inline] a: u8 }",
+    ];
+    for input in inputs {
+        Case::of(input, 0, ONE_FIELD, "").check(&rt, rt.alloc())?;
+    }
+    Ok(())
+}
+
+#[test]
+fn brackets_visibility_and_types_are_free(rt: HostRuntime) -> Result<(), Fail> {
+    let inputs: [&[u8]; 2] = [
+        b"#[educe[PartialEq]] struct S { a: u8 }",
         b"#[educe(PartialEq)] pub(crate) struct S { pub a: [<u8 as X<{ 1 + 1 }>>::Y; 3] }",
     ];
     for input in inputs {

@@ -3,7 +3,7 @@ use Rattle.std.proofs.lemmas.Grind.{common_steps}
 use Rattle.educe_grammar.specs.Expressions.{any_expr_path, expr_path}
 use Rattle.educe_grammar.specs.Reads.{readers}
 use Rattle.educe_grammar.specs.Running.{run}
-use Rattle.educe_exprs.proofs.expr_paths.expr_path.Goals as goal
+use Rattle.educe_expressions.proofs.expr_paths.expr_path.Goals as goal
 
 pub returns-in_err-found : goal.returns-in_err-found
 unfolding expr_path run

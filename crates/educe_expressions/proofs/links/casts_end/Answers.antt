@@ -1,7 +1,7 @@
 use Rattle.std.proofs.Common.{◌≡◌, ◌≤◌, true, List, [], ◌∷◌, length, length-drop, refl, sym, ◌∙◌, arith}
 use Rattle.educe_grammar.specs.declared.ending.Link.{Link}
 use Rattle.educe_grammar.specs.Expressions.{casts_end}
-use Rattle.educe_exprs.proofs.links.casts_end.Goals as goal
+use Rattle.educe_expressions.proofs.links.casts_end.Goals as goal
 
 -- at most one link fits
 one_fits : (links : List Link) → length links ≤ 1 → casts_end links ≡ true

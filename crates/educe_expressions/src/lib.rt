@@ -1,4 +1,5 @@
-//! The parser of expressions: each function reads one production of the grammar.
+//! The parser of expressions: each function that reads tokens reads one production of the
+//! grammar, or a piece of one.
 #![tactic(auto)]
 
 mod expr_paths;
