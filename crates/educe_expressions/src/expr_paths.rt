@@ -9,6 +9,7 @@ ghost use Rattle.educe_tree.specs.declared.path.Segment.{out-Segment};
 
 use crate::looks::at_turbofish;
 use educe_grammar::{Cursor, Inside, ParseError, Parts, path, written};
+use educe_tokens::{pair, terminated};
 use educe_tree::{Args, ExprPath, Path, Segment, Segments, Ty};
 use educe_types::{angle_args, is_scope, qualified_path, qualified_self, segment_name};
 
@@ -83,10 +84,10 @@ fn qualified_expr_path<R: Inside>(
     requires { R.nests parts.now.inside budget }
     ensures { Gives (read budget spec.qualified_expr_path cursor.old) result cursor.new }
 {
-    let (self_type, self_trait) = qualified_self(parts, cursor, budget)?;
-    cursor.skip_pair(':', ':')?;
-    let segments = expr_segments(parts, cursor, budget)?;
-    Ok((Some(self_type), qualified_path(self_trait, segments)?))
+    let found = qualified_self(parts, cursor, budget)?;
+    let found = terminated(found, cursor.skip_pair(':', ':'))?;
+    let ((self_type, self_trait), segments) = pair(found, expr_segments(parts, cursor, budget))?;
+    Ok(pair(Some(self_type), qualified_path(self_trait, segments))?)
 }
 
 /// A path with no type before it (Rust Reference, Paths in expressions).

@@ -22,7 +22,8 @@ fn link<R: Inside>(
     ensures { Gives (read budget spec.link cursor.old) result cursor.new }
 {
     if cursor.eat(Terminal::Word(Keyword::As)) {
-        let (_, ending) = plain_type(parts, cursor, budget)?;
+        let (ty, ending) = plain_type(parts, cursor, budget)?;
+        drop(ty);
         return Ok(Link::Cast(ending));
     }
     let operator = cursor.operator()?;
@@ -44,7 +45,7 @@ fn operation<R: Inside>(
     let links = chain(
         parts.alloc,
         cursor,
-        |cursor| at_link(cursor),
+        at_link,
         |cursor| link(parts, cursor, budget),
     )?;
     if !links_fit(links.as_slice()) {

@@ -1,7 +1,7 @@
 //! The operands of an expression (Rust Reference, Expressions).
 ghost use Rattle.std.specs.Prelude.{◌≡◌, ℕ};
 ghost use Rattle.educe_grammar.specs.Ahead.{is_sign};
-ghost use Rattle.educe_grammar.specs.Combining.{in_round};
+ghost use Rattle.educe_grammar.specs.Combining.{in_round, unit};
 ghost use Rattle.educe_grammar.specs.Expressions as spec;
 ghost use Rattle.educe_grammar.specs.Reads.{read};
 ghost use Rattle.educe_grammar.specs.Rules.{exprs, part};
@@ -11,8 +11,8 @@ use crate::expr_paths::expr_path;
 use crate::looks::{at_postfix, at_prefix};
 use crate::tails::{fits_tail, path_tail, tail_form};
 use educe_grammar::{Cursor, Inside, Keyword, ParseError, Parts, Terminal, chain, list};
-use educe_tokens::{Bracket, Seq, Token, TokenKind};
-use educe_tree::{Expr, ExprForm};
+use educe_tokens::{Bracket, Token, TokenKind, pair, unit};
+use educe_tree::ExprForm;
 use educe_types::angle_args;
 
 /// Whether the token is `-`.
@@ -66,20 +66,19 @@ fn round_exprs<R: Inside>(
     parts: &Parts<R>,
     cursor: &mut Cursor<'_>,
     budget: u8,
-) -> Result<Seq<Expr>, ParseError>
+) -> Result<(), ParseError>
     requires { R.nests parts.now.inside budget }
-    ensures { Gives (read budget (in_round (part exprs)) cursor.old) result cursor.new }
+    ensures { Gives (read budget (unit (in_round (part exprs))) cursor.old) result cursor.new }
 {
     let below = cursor.open(budget, Bracket::Round)?;
-    let found = list(
+    list(
         parts.alloc,
         cursor,
         Terminal::Sign(','),
         |cursor| cursor.closes(Bracket::Round),
         |cursor| parts.expr(cursor, below),
     )?;
-    cursor.expect_close(Bracket::Round)?;
-    Ok(found)
+    unit(cursor.expect_close(Bracket::Round))
 }
 
 /// A field or a method behind `.` (Rust Reference, Field access expressions; Method-call
@@ -94,14 +93,12 @@ fn member<R: Inside>(
     ensures { Gives (read budget spec.member cursor.old) result cursor.new }
 {
     if !cursor.eat(Terminal::Name) {
-        cursor.expect(Terminal::Int)?;
+        return unit(cursor.expect(Terminal::Int));
+    }
+    if !cursor.eat_pair(':', ':') {
         return Ok(());
     }
-    if cursor.begins_pair(':', ':') {
-        cursor.skip_pair(':', ':')?;
-        angle_args(parts, cursor, budget)?;
-    }
-    Ok(())
+    unit(angle_args(parts, cursor, budget))
 }
 
 /// What goes on an operand (Rust Reference, Call expressions; Array and slice indexing
@@ -116,14 +113,12 @@ fn postfix<R: Inside>(
     ensures { Gives (read budget spec.postfix cursor.old) result cursor.new }
 {
     if cursor.opens(Bracket::Round) {
-        round_exprs(parts, cursor, budget)?;
-        return Ok(());
+        return round_exprs(parts, cursor, budget);
     }
     if cursor.opens(Bracket::Square) {
         let below = cursor.open(budget, Bracket::Square)?;
-        parts.expr(cursor, below)?;
-        cursor.expect_close(Bracket::Square)?;
-        return Ok(());
+        unit(parts.expr(cursor, below))?;
+        return unit(cursor.expect_close(Bracket::Square));
     }
     cursor.skip_lone('.', '.')?;
     member(parts, cursor, budget)
@@ -151,8 +146,10 @@ fn primary<R: Inside>(
         return Ok(ExprForm::Other);
     }
     let path = expr_path(parts, cursor, budget)?;
-    let tail = path_tail(parts, cursor, budget)?;
-    if !fits_tail(&path, tail) {
+    let (path, tail) = pair(path, path_tail(parts, cursor, budget))?;
+    let fits = fits_tail(&path, tail);
+    drop(path);
+    if !fits {
         return Err(cursor.refuse());
     }
     Ok(tail_form(tail))
@@ -169,17 +166,12 @@ pub fn unary<R: Inside>(
     requires { R.nests parts.now.inside budget }
     ensures { Gives (read budget spec.unary cursor.old) result cursor.new }
 {
-    let prefixes = chain(
-        parts.alloc,
-        cursor,
-        |cursor| at_prefix(cursor),
-        |cursor| prefix(cursor),
-    )?;
+    let prefixes = chain(parts.alloc, cursor, at_prefix, prefix)?;
     let operand = primary(parts, cursor, budget)?;
     let postfixes = chain(
         parts.alloc,
         cursor,
-        |cursor| at_postfix(cursor),
+        at_postfix,
         |cursor| postfix(parts, cursor, budget),
     )?;
     Ok(unary_form(prefixes.as_slice(), operand, postfixes.as_slice()))

@@ -8,7 +8,7 @@ ghost use Rattle.educe_grammar.specs.Steps.{Gives};
 use crate::expr_paths::is_mod_path;
 use crate::looks::{at_value, behind_fields};
 use educe_grammar::{Cursor, Inside, ParseError, Parts, Tail, Terminal, list};
-use educe_tokens::{Bracket, TokenSlice};
+use educe_tokens::{Bracket, TokenSlice, unit};
 use educe_tree::{ExprForm, ExprPath};
 use educe_types::group;
 use std::alloc::Global;
@@ -92,14 +92,13 @@ fn inits<R: Inside>(parts: &Parts<R>, cursor: &mut Cursor<'_>, budget: u8) -> Re
         parts.alloc,
         cursor,
         comma,
-        |cursor| behind_fields(cursor),
+        behind_fields,
         |cursor| init(parts, cursor, budget),
     )?;
-    if cursor.begins_pair('.', '.') {
-        cursor.skip_pair('.', '.')?;
-        parts.expr(cursor, budget)?;
+    if !cursor.eat_pair('.', '.') {
+        return Ok(());
     }
-    Ok(())
+    unit(parts.expr(cursor, budget))
 }
 
 /// Nothing, the fields of a struct, or the call of a macro (Rust Reference, Struct expressions;

@@ -8,7 +8,7 @@ ghost use Rattle.educe_grammar.specs.Steps.{Gives, since};
 
 use crate::looks::{at_attribute, at_group};
 use educe_grammar::{Cursor, Inside, ParseError, Parts, Terminal, list, many, written};
-use educe_tokens::{Bracket, Span, Written};
+use educe_tokens::{Bracket, Span, Written, terminated};
 use educe_tree::{Attribute, Attributes, Meta, MetaPath, Metas};
 use educe_types::{group, simple_path, some_trees, tree};
 use std::alloc::Global;
@@ -105,7 +105,7 @@ fn attribute(alloc: Global, cursor: &mut Cursor<'_>, budget: u8) -> Result<Attri
     cursor.expect(Terminal::Sign('#'))?;
     let below = cursor.open(budget, Bracket::Square)?;
     let meta = outer_meta(alloc, cursor, below)?;
-    cursor.expect_close(Bracket::Square)?;
+    let meta = terminated(meta, cursor.expect_close(Bracket::Square))?;
     Ok(Attribute { meta })
 }
 
@@ -121,7 +121,7 @@ pub fn attributes(
     many(
         alloc,
         cursor,
-        |cursor| at_attribute(cursor),
+        at_attribute,
         |cursor| attribute(alloc, cursor, budget),
     )
 }

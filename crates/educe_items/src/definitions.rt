@@ -10,10 +10,10 @@ ghost use Rattle.educe_grammar.specs.Rules.{either, made, part, exprs};
 ghost use Rattle.educe_grammar.specs.Steps.{Gives};
 
 use crate::attribute::{attributes, span_since};
-use crate::generics::{generic_params, where_clause};
-use crate::looks::at_scope;
+use crate::generics::{colon_type, generic_params, where_clause};
+use crate::looks::{at_curly_end, at_scope};
 use educe_grammar::{Cursor, Inside, Keyword, ParseError, Parts, Terminal, list};
-use educe_tokens::{Bracket, Seq};
+use educe_tokens::{Bracket, Seq, terminated, unit};
 use educe_tree::{
     DeriveInput, Expr, Field, FieldForm, FieldShape, Generics, Ident, Params, Predicates, Shape,
     Variant, Variants,
@@ -62,8 +62,7 @@ pub fn visibility(alloc: Global, cursor: &mut Cursor<'_>, budget: u8) -> Result<
     }
     cursor.open(budget, Bracket::Round)?;
     scope(alloc, cursor)?;
-    cursor.expect_close(Bracket::Round)?;
-    Ok(())
+    unit(cursor.expect_close(Bracket::Round))
 }
 
 /// No fields (Rust Reference, Unit-like structs).
@@ -90,8 +89,7 @@ fn named_field<R: Inside>(
     let attrs = attributes(parts.alloc, cursor, budget)?;
     visibility(parts.alloc, cursor, budget)?;
     let ident = Some(name(parts.alloc, cursor)?);
-    cursor.skip_lone(':', ':')?;
-    let ty = parts.ty(cursor, budget)?;
+    let ty = colon_type(parts, cursor, budget)?;
     let span = span_since(&start, cursor);
     Ok(Field {
         attrs,
@@ -139,7 +137,7 @@ fn named_fields<R: Inside>(
         parts.alloc,
         cursor,
         Terminal::Sign(','),
-        |cursor| cursor.closes(Bracket::Curly),
+        at_curly_end,
         |cursor| named_field(parts, cursor, below),
     )?;
     cursor.expect_close(Bracket::Curly)?;
@@ -283,11 +281,10 @@ fn variants<R: Inside>(
         parts.alloc,
         cursor,
         Terminal::Sign(','),
-        |cursor| cursor.closes(Bracket::Curly),
+        at_curly_end,
         |cursor| variant(parts, cursor, below),
     )?;
-    cursor.expect_close(Bracket::Curly)?;
-    Ok(variants)
+    terminated(variants, cursor.expect_close(Bracket::Curly))
 }
 
 /// The body of an enum (Rust Reference, Enumerations).

@@ -1,15 +1,17 @@
 //! Generic parameters and where clauses (Rust Reference, Generic parameters).
 ghost use Rattle.std.specs.Prelude.{◌+◌, ℕ};
+ghost use Rattle.educe_grammar.specs.Combining.{at_sign, behind_colon, flag, sign, skipping};
 ghost use Rattle.educe_grammar.specs.Generics as spec;
 ghost use Rattle.educe_grammar.specs.Reads.{read};
 ghost use Rattle.educe_grammar.specs.Rules as rule;
+ghost use Rattle.educe_grammar.specs.Rules.{part, types};
 ghost use Rattle.educe_grammar.specs.Steps.{Gives};
 
 use crate::looks::behind_where;
 use educe_grammar::{Cursor, Inside, Keyword, ParseError, Parts, Terminal, list, written};
-use educe_tokens::{Seq, Written};
+use educe_tokens::{Seq, Written, terminated, unit};
 use educe_tree::{
-    ConstParam, GenericParam, Ident, Lifetime, LifetimeParam, Params, Predicates, TypeParam,
+    ConstParam, GenericParam, Ident, Lifetime, LifetimeParam, Params, Predicates, Ty, TypeParam,
     WherePredicate,
 };
 use educe_types::{bounds, constant, for_all, lifetime, lifetime_bounds, name};
@@ -82,6 +84,23 @@ fn written_name<R: Inside>(
     written(cursor, |cursor| bounded_name(parts, cursor, budget))
 }
 
+/// Whether `=` and a type stand here (Rust Reference, Generic parameters).
+#[tactic(auto, unfolding(educe_grammar::proofs::Opened::rules))]
+fn default_type<R: Inside>(
+    parts: &Parts<R>,
+    cursor: &mut Cursor<'_>,
+    budget: u8,
+) -> Result<bool, ParseError>
+    requires { R.nests parts.now.inside (budget + 1) }
+    ensures { Gives (read budget (flag (at_sign 61) (skipping (sign 61) (part types))) cursor.old) result cursor.new }
+{
+    if !cursor.eat(Terminal::Sign('=')) {
+        return Ok(false);
+    }
+    unit(parts.ty(cursor, budget))?;
+    Ok(true)
+}
+
 /// The parameter of a type, of which the default is not kept (Rust Reference, Generic
 /// parameters).
 #[tactic(auto, unfolding(educe_grammar::proofs::Opened::rules, educe_grammar::specs::Generics::type_param))]
@@ -95,11 +114,21 @@ fn type_param<R: Inside>(
 {
     let ((ident, _), written) = written_name(parts, cursor, budget)?;
     let param = GenericParam::TypeParam(TypeParam { ident, written });
-    if !cursor.eat(Terminal::Sign('=')) {
-        return Ok(param);
-    }
-    parts.ty(cursor, budget)?;
-    Ok(param)
+    terminated(param, default_type(parts, cursor, budget))
+}
+
+/// A colon and a type (Rust Reference, Structs; Const generics).
+#[tactic(auto, unfolding(educe_grammar::proofs::Opened::rules))]
+pub fn colon_type<R: Inside>(
+    parts: &Parts<R>,
+    cursor: &mut Cursor<'_>,
+    budget: u8,
+) -> Result<Ty, ParseError>
+    requires { R.nests parts.now.inside (budget + 1) }
+    ensures { Gives (read budget (behind_colon (part types)) cursor.old) result cursor.new }
+{
+    cursor.skip_lone(':', ':')?;
+    parts.ty(cursor, budget)
 }
 
 /// `const`, a name and its type (Rust Reference, Const generics).
@@ -114,9 +143,7 @@ fn typed_const<R: Inside>(
 {
     cursor.expect(Terminal::Word(Keyword::Const))?;
     let ident = name(parts.alloc, cursor)?;
-    cursor.skip_lone(':', ':')?;
-    parts.ty(cursor, budget)?;
-    Ok(ident)
+    terminated(ident, colon_type(parts, cursor, budget))
 }
 
 /// A constant, which may be a name (Rust Reference, Const generics).
@@ -195,8 +222,7 @@ pub fn generic_params<R: Inside>(
         |cursor| cursor.sees(Terminal::Sign('>')),
         |cursor| generic_param(parts, cursor, below),
     )?;
-    cursor.expect(Terminal::Sign('>'))?;
-    Ok(params)
+    terminated(params, cursor.expect(Terminal::Sign('>')))
 }
 
 /// A type with bounds (Rust Reference, Where clauses).
@@ -209,10 +235,9 @@ fn bounded_type<R: Inside>(
     requires { R.nests parts.now.inside (budget + 1) }
     ensures { Gives (read budget spec.bounded_type cursor.old) result cursor.new }
 {
-    parts.ty(cursor, budget)?;
+    unit(parts.ty(cursor, budget))?;
     cursor.skip_lone(':', ':')?;
-    bounds(parts, cursor, budget)?;
-    Ok(())
+    unit(bounds(parts, cursor, budget))
 }
 
 /// A predicate of a type, which takes the `for` that it begins with (Rust Reference, Where
@@ -277,7 +302,7 @@ pub fn predicates<R: Inside>(
         parts.alloc,
         cursor,
         Terminal::Sign(','),
-        |cursor| behind_where(cursor),
+        behind_where,
         |cursor| predicate(parts, cursor, budget),
     )
 }

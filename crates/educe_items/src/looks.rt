@@ -1,7 +1,9 @@
 //! What the next tokens may begin.
 ghost use Rattle.std.specs.Prelude.{◌≡◌};
-ghost use Rattle.educe_grammar.specs.Ahead.{sees_any};
+ghost use Rattle.educe_pieces.specs.declared.kind.Bracket.TheVariants.{Curly};
+ghost use Rattle.educe_grammar.specs.Ahead.{sees_any, stop};
 ghost use Rattle.educe_grammar.specs.Attributes as attributes;
+ghost use Rattle.educe_grammar.specs.Combining.{at};
 ghost use Rattle.educe_grammar.specs.Definitions as definitions;
 ghost use Rattle.educe_grammar.specs.Generics as generics;
 
@@ -30,6 +32,14 @@ pub fn behind_where(cursor: &Cursor<'_>) -> bool
     ensures { result ≡ sees_any generics.behind_where cursor.now }
 {
     cursor.opens(Bracket::Curly) || cursor.sees(Terminal::Sign(';')) || cursor.at_end()
+}
+
+/// The end of curly brackets (Rust Reference, Structs; Enumerations).
+#[tactic(auto, unfolding(educe_grammar::specs::Ahead::sees_any))]
+pub fn at_curly_end(cursor: &Cursor<'_>) -> bool
+    ensures { result ≡ sees_any (at (stop Curly)) cursor.now }
+{
+    cursor.closes(Bracket::Curly)
 }
 
 /// A scope in brackets, and not a type in them (Rust Reference, Visibility and privacy).

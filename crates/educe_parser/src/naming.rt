@@ -171,11 +171,11 @@ fn first_repeat<'a>(alloc: Global, names: &[Name<'a>]) -> Result<Option<Name<'a>
 fn earliest<'a>(
     alloc: Global,
     known: Option<Name<'a>>,
-    names: &[Name<'a>],
+    names: Vec<Name<'a>>,
 ) -> Result<Option<Name<'a>>, AllocError>
-    ensures { (lists : List (List Named)) → IsEarliest known.entry lists → IfOk result (λ found. IsEarliest found (lists ++ names.now ∷ [])) }
+    ensures { (lists : List (List Named)) → IsEarliest known.entry lists → IfOk result (λ found. IsEarliest found (lists ++ names.entry.items ∷ [])) }
 {
-    let Some(found) = first_repeat(alloc, names)? else {
+    let Some(found) = first_repeat(alloc, names.as_slice())? else {
         return Ok(known);
     };
     let Some(known) = known else {
@@ -201,7 +201,7 @@ fn earliest_of_fields<'a>(
     let mut found = known;
     for variant in variants {
         let names = field_names(alloc, variant.fields.fields.as_slice())?;
-        found = earliest(alloc, found, names.as_slice())?;
+        found = earliest(alloc, found, names)?;
     }
     Ok(found)
 }
@@ -213,17 +213,17 @@ pub fn repeated_name(alloc: Global, ast: &DeriveInput) -> Result<Option<Name<'_>
 {
     let params = ast.generics.params.as_slice();
     let names = lifetime_names(alloc, params)?;
-    let found = earliest(alloc, None, names.as_slice())?;
+    let found = earliest(alloc, None, names)?;
     let names = type_names(alloc, params)?;
-    let found = earliest(alloc, found, names.as_slice())?;
+    let found = earliest(alloc, found, names)?;
     match &ast.shape {
         Shape::Struct(shape) => {
             let names = field_names(alloc, shape.fields.as_slice())?;
-            earliest(alloc, found, names.as_slice())
+            earliest(alloc, found, names)
         }
         Shape::Enum(variants) => {
             let names = variant_names(alloc, variants.as_slice())?;
-            let found = earliest(alloc, found, names.as_slice())?;
+            let found = earliest(alloc, found, names)?;
             earliest_of_fields(alloc, found, variants.as_slice())
         }
     }

@@ -6,7 +6,7 @@ ghost use Rattle.educe_tokens.specs.WrittenLexemes.{written_lexemes};
 ghost use Rattle.educe_tree.specs.Printed.{printed-well_formed, printed-ends_apart, printed-lexes_back};
 ghost use Rattle.educe_tree.specs.Words.{IsWord, IsOneWord};
 
-use crate::duplicate::Duplicate;
+use crate::duplicate::{Duplicate, duplicate_both};
 use crate::expr::Expr;
 use educe_tokens::{Seq, Span, ToTokens, Token, TokenKind, TokenStream, Written, append_written};
 use std::alloc::{AllocError, Global};
@@ -90,19 +90,19 @@ impl Duplicate for Attribute {
 impl Duplicate for Meta {
     fn duplicate(&self, alloc: Global) -> Result<Meta, AllocError> {
         match self {
-            Meta::Word(path) => Ok(Meta::Word(path.duplicate(alloc)?)),
+            Meta::Word(path) => path.duplicate(alloc).map(Meta::Word),
             Meta::List(path, written, span) => {
-                let path = path.duplicate(alloc)?;
-                Ok(Meta::List(path, written.duplicate()?, *span))
+                let (path, written) = duplicate_both(alloc, path, written)?;
+                Ok(Meta::List(path, written, *span))
             }
             Meta::NameValue(path, value, span) => {
-                let path = path.duplicate(alloc)?;
-                Ok(Meta::NameValue(path, value.duplicate(alloc)?, *span))
+                let (path, value) = duplicate_both(alloc, path, value)?;
+                Ok(Meta::NameValue(path, value, *span))
             }
-            Meta::Doc(token) => Ok(Meta::Doc(token.duplicate(alloc)?)),
+            Meta::Doc(token) => token.duplicate(alloc).map(Meta::Doc),
             Meta::Unread(path, written, span) => {
-                let path = path.duplicate(alloc)?;
-                Ok(Meta::Unread(path, written.duplicate()?, *span))
+                let (path, written) = duplicate_both(alloc, path, written)?;
+                Ok(Meta::Unread(path, written, *span))
             }
         }
     }

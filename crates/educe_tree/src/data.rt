@@ -1,10 +1,10 @@
 //! The fields and variants of a definition (Rust Reference, Structs and Enumerations).
 use crate::attr::Attributes;
-use crate::duplicate::Duplicate;
+use crate::duplicate::{Duplicate, duplicate_both};
 use crate::expr::Expr;
 use crate::ident::Ident;
 use crate::ty::Ty;
-use educe_tokens::{Seq, Span};
+use educe_tokens::{Seq, Span, pair};
 use std::alloc::{AllocError, Global};
 
 /// How the fields are written, and the fields (Rust Reference, Structs).
@@ -81,9 +81,8 @@ impl Duplicate for FieldShape {
 
 impl Duplicate for Field {
     fn duplicate(&self, alloc: Global) -> Result<Field, AllocError> {
-        let attrs = self.attrs.duplicate(alloc)?;
-        let ident = self.ident.duplicate(alloc)?;
-        let ty = self.ty.duplicate(alloc)?;
+        let named = duplicate_both(alloc, &self.attrs, &self.ident)?;
+        let ((attrs, ident), ty) = pair(named, self.ty.duplicate(alloc))?;
         Ok(Field {
             attrs,
             ident,
@@ -95,10 +94,9 @@ impl Duplicate for Field {
 
 impl Duplicate for Variant {
     fn duplicate(&self, alloc: Global) -> Result<Variant, AllocError> {
-        let attrs = self.attrs.duplicate(alloc)?;
-        let ident = self.ident.duplicate(alloc)?;
-        let fields = self.fields.duplicate(alloc)?;
-        let discriminant = self.discriminant.duplicate(alloc)?;
+        let named = duplicate_both(alloc, &self.attrs, &self.ident)?;
+        let shaped = duplicate_both(alloc, &self.fields, &self.discriminant);
+        let ((attrs, ident), (fields, discriminant)) = pair(named, shaped)?;
         Ok(Variant {
             attrs,
             ident,

@@ -1,7 +1,7 @@
 //! Values of which there may be a second one.
 ghost use Rattle.std.specs.Prelude.{◌≡◌, IfOk};
 
-use educe_tokens::Seq;
+use educe_tokens::{Seq, Written, pair};
 use std::alloc::{AllocError, Global};
 
 /// A tree of which there may be a second one.
@@ -21,6 +21,12 @@ impl<T: Duplicate> Duplicate for Seq<T> {
     }
 }
 
+impl Duplicate for Written {
+    fn duplicate(&self, _alloc: Global) -> Result<Written, AllocError> {
+        Written::duplicate(self)
+    }
+}
+
 impl<T: Duplicate> Duplicate for Option<T> {
     fn duplicate(&self, alloc: Global) -> Result<Option<T>, AllocError> {
         match self {
@@ -28,4 +34,16 @@ impl<T: Duplicate> Duplicate for Option<T> {
             None => Ok(None),
         }
     }
+}
+
+/// Equal trees of both, in memory of their own.
+pub fn duplicate_both<T: Duplicate, U: Duplicate>(
+    alloc: Global,
+    first: &T,
+    second: &U,
+) -> Result<(T, U), AllocError>
+    ensures { IfOk result (λ copies. copies ≡ (first.now, second.now)) }
+{
+    let first = first.duplicate(alloc)?;
+    pair(first, second.duplicate(alloc))
 }

@@ -2,10 +2,10 @@
 ghost use Rattle.educe_tokens.specs.WrittenLexemes.{written_lexemes};
 ghost use Rattle.educe_tree.specs.Printed.{printed-well_formed, printed-ends_apart, printed-lexes_back};
 
-use crate::duplicate::Duplicate;
+use crate::duplicate::{Duplicate, duplicate_both};
 use crate::path::Path;
 use crate::ty::Ty;
-use educe_tokens::{ToTokens, TokenStream, Written, append_written};
+use educe_tokens::{ToTokens, TokenStream, Written, append_written, pair};
 use std::alloc::{AllocError, Global};
 
 /// An expression, with its tokens as they were written (Rust Reference, Expressions).
@@ -51,9 +51,8 @@ impl Duplicate for Expr {
 
 impl Duplicate for ExprPath {
     fn duplicate(&self, alloc: Global) -> Result<ExprPath, AllocError> {
-        let self_type = self.self_type.duplicate(alloc)?;
-        let path = self.path.duplicate(alloc)?;
-        let written = self.written.duplicate()?;
+        let types = duplicate_both(alloc, &self.self_type, &self.path)?;
+        let ((self_type, path), written) = pair(types, self.written.duplicate())?;
         Ok(ExprPath {
             self_type,
             path,

@@ -2,7 +2,7 @@
 ghost use Rattle.educe_tokens.specs.WrittenLexemes.{written_lexemes};
 ghost use Rattle.educe_tree.specs.Printed.{printed-well_formed, printed-ends_apart, printed-lexes_back};
 
-use crate::duplicate::Duplicate;
+use crate::duplicate::{Duplicate, duplicate_both};
 use crate::ident::Ident;
 use crate::lifetime::Lifetime;
 use educe_tokens::{Seq, ToTokens, TokenStream, Written, append_written};
@@ -64,8 +64,7 @@ pub type Predicates = Seq<WherePredicate>;
 
 impl Duplicate for Generics {
     fn duplicate(&self, alloc: Global) -> Result<Generics, AllocError> {
-        let params = self.params.duplicate(alloc)?;
-        let predicates = self.predicates.duplicate(alloc)?;
+        let (params, predicates) = duplicate_both(alloc, &self.params, &self.predicates)?;
         Ok(Generics { params, predicates })
     }
 }
@@ -82,24 +81,21 @@ impl Duplicate for GenericParam {
 
 impl Duplicate for LifetimeParam {
     fn duplicate(&self, alloc: Global) -> Result<LifetimeParam, AllocError> {
-        let lifetime = self.lifetime.duplicate(alloc)?;
-        let written = self.written.duplicate()?;
+        let (lifetime, written) = duplicate_both(alloc, &self.lifetime, &self.written)?;
         Ok(LifetimeParam { lifetime, written })
     }
 }
 
 impl Duplicate for TypeParam {
     fn duplicate(&self, alloc: Global) -> Result<TypeParam, AllocError> {
-        let ident = self.ident.duplicate(alloc)?;
-        let written = self.written.duplicate()?;
+        let (ident, written) = duplicate_both(alloc, &self.ident, &self.written)?;
         Ok(TypeParam { ident, written })
     }
 }
 
 impl Duplicate for ConstParam {
     fn duplicate(&self, alloc: Global) -> Result<ConstParam, AllocError> {
-        let ident = self.ident.duplicate(alloc)?;
-        let written = self.written.duplicate()?;
+        let (ident, written) = duplicate_both(alloc, &self.ident, &self.written)?;
         Ok(ConstParam { ident, written })
     }
 }

@@ -5,7 +5,7 @@ ghost use Rattle.educe_tree.specs.Printed.{printed-well_formed, printed-ends_apa
 
 use crate::duplicate::Duplicate;
 use crate::path::{Path, Paths, duplicate_paths};
-use educe_tokens::{Boxed, Seq, ToTokens, TokenStream, Written, append_written};
+use educe_tokens::{Boxed, Seq, ToTokens, TokenStream, Written, append_written, pair};
 use std::alloc::{AllocError, Global};
 
 /// A type, with its tokens as they were written (Rust Reference, Types).
@@ -52,7 +52,7 @@ impl Ty {
         ensures { IfOk result (λ ty. ty ≡ self.now) }
     {
         let form = self.form.duplicate(alloc)?;
-        let written = self.written.duplicate()?;
+        let (form, written) = pair(form, self.written.duplicate())?;
         Ok(Ty { form, written })
     }
 }

@@ -6,11 +6,11 @@ ghost use Rattle.educe_grammar.specs.Reads.{read};
 ghost use Rattle.educe_grammar.specs.Steps.{Gives};
 ghost use Rattle.educe_grammar.specs.Types as spec;
 
-use crate::looks::behind_type;
+use crate::looks::{at_angle_end, behind_type};
 use crate::names::lifetime;
 use crate::paths::type_path;
 use educe_grammar::{Cursor, Ending, Inside, Keyword, ParseError, Parts, Terminal, list};
-use educe_tokens::{Bracket, Seq};
+use educe_tokens::{Bracket, Seq, terminated};
 use educe_tree::{Path, Paths};
 use std::alloc::{AllocError, Global};
 
@@ -27,7 +27,7 @@ pub fn lifetime_bounds(alloc: Global, cursor: &mut Cursor<'_>) -> Result<(), Par
         alloc,
         cursor,
         plus,
-        |cursor| behind_type(cursor),
+        behind_type,
         |cursor| lifetime(alloc, cursor),
     )?;
     Ok(())
@@ -58,7 +58,7 @@ pub fn for_all(alloc: Global, cursor: &mut Cursor<'_>, budget: u8) -> Result<(),
         alloc,
         cursor,
         comma,
-        |cursor| cursor.sees(Terminal::Sign('>')),
+        at_angle_end,
         |cursor| for_lifetime(alloc, cursor),
     )?;
     cursor.expect(Terminal::Sign('>'))?;
@@ -124,8 +124,8 @@ pub fn bound<R: Inside>(
     }
     if cursor.opens(Bracket::Round) {
         let below = cursor.open(budget, Bracket::Round)?;
-        let (path, _) = bound_path(parts, cursor, below)?;
-        cursor.expect_close(Bracket::Round)?;
+        let found = bound_path(parts, cursor, below)?;
+        let (path, _) = terminated(found, cursor.expect_close(Bracket::Round))?;
         return Ok((Some(path), Ending::Closed));
     }
     let (path, ending) = bound_path(parts, cursor, budget)?;
@@ -146,7 +146,7 @@ pub fn bounds<R: Inside>(
         parts.alloc,
         cursor,
         Terminal::Sign('+'),
-        |cursor| behind_type(cursor),
+        behind_type,
         |cursor| bound(parts, cursor, budget),
     )
 }

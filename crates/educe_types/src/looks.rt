@@ -1,6 +1,8 @@
 //! What the next tokens may begin.
 ghost use Rattle.std.specs.Prelude.{◌≡◌, [], ◌∷◌};
-ghost use Rattle.educe_grammar.specs.Ahead.{sees_any, one, lone};
+ghost use Rattle.educe_pieces.specs.declared.kind.Bracket.TheVariants.{Round};
+ghost use Rattle.educe_grammar.specs.Ahead.{sees_any, one, lone, stop};
+ghost use Rattle.educe_grammar.specs.Combining.{at, at_sign};
 ghost use Rattle.educe_grammar.specs.declared.terminal.Terminal.TheVariants as terminal;
 ghost use Rattle.educe_grammar.specs.Expressions as expressions;
 ghost use Rattle.educe_grammar.specs.Types as types;
@@ -24,6 +26,22 @@ pub fn behind_type(cursor: &Cursor<'_>) -> bool
         || cursor.closes(Bracket::Curly)
         || cursor.sees(Terminal::Word(Keyword::As))
         || cursor.at_end()
+}
+
+/// The end of round brackets.
+#[tactic(auto, unfolding(educe_grammar::specs::Ahead::sees_any))]
+pub fn at_round_end(cursor: &Cursor<'_>) -> bool
+    ensures { result ≡ sees_any (at (stop Round)) cursor.now }
+{
+    cursor.closes(Bracket::Round)
+}
+
+/// The end of angle brackets.
+#[tactic(auto, unfolding(educe_grammar::specs::Ahead::sees_any))]
+pub fn at_angle_end(cursor: &Cursor<'_>) -> bool
+    ensures { result ≡ sees_any (at_sign 62) cursor.now }
+{
+    cursor.sees(Terminal::Sign('>'))
 }
 
 /// A constant, which is no name.

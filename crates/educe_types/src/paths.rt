@@ -1,18 +1,20 @@
 //! Paths in types and their arguments (Rust Reference, Paths).
 ghost use Rattle.std.specs.Prelude.{◌≡◌, ◌+◌, IfOk, map, not};
-ghost use Rattle.educe_grammar.specs.Combining.{optional, skipping, word, at_arrow, at_word};
+ghost use Rattle.educe_pieces.specs.declared.kind.Bracket.TheVariants.{Round};
+ghost use Rattle.educe_grammar.specs.Ahead.{stop};
+ghost use Rattle.educe_grammar.specs.Combining.{optional, skipping, commas, word, at, at_arrow, at_word};
 ghost use Rattle.educe_grammar.specs.declared.terminal.Keyword.TheVariants as keyword;
 ghost use Rattle.educe_grammar.specs.Reads.{read};
-ghost use Rattle.educe_grammar.specs.Rules.{plains, arrow, part};
+ghost use Rattle.educe_grammar.specs.Rules.{types, plains, both, arrow, part};
 ghost use Rattle.educe_grammar.specs.Steps.{Gives};
 ghost use Rattle.educe_grammar.specs.Types as spec;
 
-use crate::looks::{at_angle_args, at_binding, at_constant};
+use crate::looks::{at_angle_args, at_angle_end, at_binding, at_constant, at_round_end};
 use crate::names::{lifetime, name, segment_name};
 use educe_grammar::{
     Cursor, Ending, Inside, Keyword, ParseError, Parts, Terminal, Typed, list, path, written,
 };
-use educe_tokens::{Boxed, Bracket, Seq};
+use educe_tokens::{Boxed, Bracket, Seq, pair, terminated, unit};
 use educe_tree::{AngleArg, AngleArgs, Args, Path, Segment, Segments, Ty, TypeForm, Types};
 use std::alloc::{AllocError, Global};
 
@@ -21,6 +23,9 @@ type ArgsRead = (Args, Ending, bool);
 
 /// The same of a segment.
 type SegmentRead = (Segment, Ending, bool);
+
+/// The trait of a qualified path with its ending, where there is one.
+type SelfTrait = Option<(Path, Ending)>;
 
 /// The arguments in round brackets. Behind a type that ends with a path `::` goes on that path.
 fn round_read(alloc: Global, inputs: Types, output: Option<Typed>) -> Result<ArgsRead, AllocError>
@@ -121,10 +126,7 @@ fn path_read(
 }
 
 /// The segments behind those of the trait, where there is one (Rust Reference, Qualified paths).
-pub fn qualified_path(
-    self_trait: Option<(Path, Ending)>,
-    found: Segments,
-) -> Result<Path, AllocError>
+pub fn qualified_path(self_trait: SelfTrait, found: Segments) -> Result<Path, AllocError>
     ensures { IfOk result (λ path. path ≡ spec.qualified_path self_trait found) }
 {
     let Some((path, _)) = self_trait else {
@@ -139,6 +141,33 @@ pub fn qualified_path(
     } = path;
     segments.append(found)?;
     Ok(Path { leading, segments })
+}
+
+/// The path of these segments behind those of the trait, where there is one.
+fn path_behind(
+    alloc: Global,
+    self_trait: SelfTrait,
+    found: Seq<SegmentRead>,
+) -> Result<Path, AllocError>
+    ensures { IfOk result (λ path. path ≡ spec.qualified_path self_trait (map (λ read. read.0) found)) }
+{
+    let (self_trait, segments) = pair(self_trait, segments_of(alloc, found))?;
+    qualified_path(self_trait, segments)
+}
+
+/// The path of these segments behind its type and its trait, and how it ends.
+fn qualified_read(
+    alloc: Global,
+    head: (Ty, SelfTrait),
+    found: Seq<SegmentRead>,
+) -> Result<(TypeForm, Ending), AllocError>
+    ensures { IfOk result (λ read. read ≡ spec.qualified_read (head, found)) }
+{
+    let (self_type, self_trait) = head;
+    let ending = last_ending(found.as_slice());
+    let (self_type, path) = pair(self_type, path_behind(alloc, self_trait, found))?;
+    let (path, self_type) = pair(path, Boxed::new(alloc, self_type))?;
+    Ok((TypeForm::Path(Some(self_type), path), ending))
 }
 
 /// A constant that is no name (Rust Reference, Const generics).
@@ -162,9 +191,8 @@ pub fn constant<R: Inside>(
         return Ok(());
     }
     let below = cursor.open(budget, Bracket::Curly)?;
-    parts.expr(cursor, below)?;
-    cursor.expect_close(Bracket::Curly)?;
-    Ok(())
+    unit(parts.expr(cursor, below))?;
+    unit(cursor.expect_close(Bracket::Curly))
 }
 
 /// An argument in angle brackets (Rust Reference, Generic arguments).
@@ -207,11 +235,10 @@ pub fn angle_args<R: Inside>(
         parts.alloc,
         cursor,
         Terminal::Sign(','),
-        |cursor| cursor.sees(Terminal::Sign('>')),
+        at_angle_end,
         |cursor| angle_arg(parts, cursor, below),
     )?;
-    cursor.expect(Terminal::Sign('>'))?;
-    Ok(found)
+    terminated(found, cursor.expect(Terminal::Sign('>')))
 }
 
 /// The type behind `->`, where there is one (Rust Reference, Function pointer types).
@@ -231,6 +258,25 @@ pub fn output<R: Inside>(
     Ok(Some(parts.plain(cursor, below)?))
 }
 
+/// Types up to the end of round brackets (Rust Reference, Paths in types; Tuple types).
+#[tactic(auto, unfolding(educe_grammar::proofs::Opened::rules))]
+pub fn types_in_round<R: Inside>(
+    parts: &Parts<R>,
+    cursor: &mut Cursor<'_>,
+    budget: u8,
+) -> Result<Types, ParseError>
+    requires { R.nests parts.now.inside (budget + 1) }
+    ensures { Gives (read budget (commas (at (stop Round)) (part types)) cursor.old) result cursor.new }
+{
+    list(
+        parts.alloc,
+        cursor,
+        Terminal::Sign(','),
+        at_round_end,
+        |cursor| parts.ty(cursor, budget),
+    )
+}
+
 /// `(A, B) -> C`
 #[tactic(auto, unfolding(educe_grammar::proofs::Opened::rules, educe_grammar::specs::Types::round_args))]
 fn round_args<R: Inside>(
@@ -242,16 +288,9 @@ fn round_args<R: Inside>(
     ensures { Gives (read budget spec.round_args cursor.old) result cursor.new }
 {
     let below = cursor.open(budget, Bracket::Round)?;
-    let inputs = list(
-        parts.alloc,
-        cursor,
-        Terminal::Sign(','),
-        |cursor| cursor.closes(Bracket::Round),
-        |cursor| parts.ty(cursor, below),
-    )?;
-    cursor.expect_close(Bracket::Round)?;
-    let output = output(parts, cursor, budget)?;
-    Ok((inputs, output))
+    let inputs = types_in_round(parts, cursor, below)?;
+    let inputs = terminated(inputs, cursor.expect_close(Bracket::Round))?;
+    pair(inputs, output(parts, cursor, budget))
 }
 
 /// The arguments of a segment in a type (Rust Reference, Paths in types).
@@ -287,7 +326,7 @@ fn type_segment<R: Inside>(
     ensures { Gives (read budget spec.type_segment cursor.old) result cursor.new }
 {
     let ident = segment_name(parts.alloc, cursor)?;
-    let (args, ending, may_follow) = type_args(parts, cursor, budget)?;
+    let (ident, (args, ending, may_follow)) = pair(ident, type_args(parts, cursor, budget))?;
     Ok((Segment { ident, args }, ending, may_follow))
 }
 
@@ -337,7 +376,7 @@ fn self_trait<R: Inside>(
     parts: &Parts<R>,
     cursor: &mut Cursor<'_>,
     budget: u8,
-) -> Result<Option<(Path, Ending)>, ParseError>
+) -> Result<SelfTrait, ParseError>
     requires { R.nests parts.now.inside budget }
     ensures { Gives (read budget (optional (at_word keyword.As) (skipping (word keyword.As) spec.type_path)) cursor.old) result cursor.new }
 {
@@ -347,21 +386,33 @@ fn self_trait<R: Inside>(
     Ok(Some(type_path(parts, cursor, budget)?))
 }
 
+/// A type, and the trait behind `as` (Rust Reference, Qualified paths).
+#[tactic(auto, unfolding(educe_grammar::proofs::Opened::rules))]
+fn self_and_trait<R: Inside>(
+    parts: &Parts<R>,
+    cursor: &mut Cursor<'_>,
+    budget: u8,
+) -> Result<(Ty, SelfTrait), ParseError>
+    requires { R.nests parts.now.inside (budget + 1) }
+    ensures { Gives (read budget (both (part types) (optional (at_word keyword.As) (skipping (word keyword.As) spec.type_path))) cursor.old) result cursor.new }
+{
+    let self_type = parts.ty(cursor, budget)?;
+    pair(self_type, self_trait(parts, cursor, budget))
+}
+
 /// The type of a qualified path, and its trait (Rust Reference, Qualified paths).
 #[tactic(auto, unfolding(educe_grammar::proofs::Opened::rules, educe_grammar::specs::Types::qualified_self))]
 pub fn qualified_self<R: Inside>(
     parts: &Parts<R>,
     cursor: &mut Cursor<'_>,
     budget: u8,
-) -> Result<(Ty, Option<(Path, Ending)>), ParseError>
+) -> Result<(Ty, SelfTrait), ParseError>
     requires { R.nests parts.now.inside budget }
     ensures { Gives (read budget spec.qualified_self cursor.old) result cursor.new }
 {
     let below = cursor.open_angle(budget)?;
-    let self_type = parts.ty(cursor, below)?;
-    let self_trait = self_trait(parts, cursor, below)?;
-    cursor.expect(Terminal::Sign('>'))?;
-    Ok((self_type, self_trait))
+    let found = self_and_trait(parts, cursor, below)?;
+    terminated(found, cursor.expect(Terminal::Sign('>')))
 }
 
 /// A qualified path (Rust Reference, Qualified paths).
@@ -374,11 +425,8 @@ pub fn qualified<R: Inside>(
     requires { R.nests parts.now.inside budget }
     ensures { Gives (read budget spec.qualified cursor.old) result cursor.new }
 {
-    let (self_type, self_trait) = qualified_self(parts, cursor, budget)?;
-    cursor.skip_pair(':', ':')?;
-    let found = type_segments(parts, cursor, budget)?;
-    let ending = last_ending(found.as_slice());
-    let path = qualified_path(self_trait, segments_of(parts.alloc, found)?)?;
-    let self_type = Boxed::new(parts.alloc, self_type)?;
-    Ok((TypeForm::Path(Some(self_type), path), ending))
+    let head = qualified_self(parts, cursor, budget)?;
+    let head = terminated(head, cursor.skip_pair(':', ':'))?;
+    let (head, found) = pair(head, type_segments(parts, cursor, budget))?;
+    Ok(qualified_read(parts.alloc, head, found)?)
 }

@@ -18,7 +18,7 @@ pub fn some_trees(alloc: Global, cursor: &mut Cursor<'_>, budget: u8) -> Result<
     let one = |cursor: &mut Cursor<'_>|
         ensures { Gives (readers budget trees cursor.entry.now) result cursor.exit.now }
     { tree(alloc, cursor, budget) };
-    many(alloc, cursor, |cursor| at_tree(cursor), one)?;
+    many(alloc, cursor, at_tree, one)?;
     Ok(())
 }
 

@@ -4,21 +4,21 @@ ghost use Rattle.educe_pieces.specs.declared.kind.Bracket.TheVariants.{Round};
 ghost use Rattle.educe_grammar.specs.Ahead.{one, stop};
 ghost use Rattle.educe_grammar.specs.Combining.{optional, skipping, flag, commas, sign, word, at, at_angle, at_sign, at_word};
 ghost use Rattle.educe_grammar.specs.Reads.{read};
-ghost use Rattle.educe_grammar.specs.Rules.{types, token, both, either, made, part};
+ghost use Rattle.educe_grammar.specs.Rules.{types, exprs, token, both, either, made, part};
 ghost use Rattle.educe_grammar.specs.Steps.{Gives};
 ghost use Rattle.educe_grammar.specs.Types as spec;
 ghost use Rattle.educe_grammar.specs.declared.terminal.Keyword.TheVariants as keyword;
 ghost use Rattle.educe_grammar.specs.declared.terminal.Terminal.TheVariants as terminal;
 
-use crate::bound::{bound, bound_paths, bounds, optional_for_all};
-use crate::looks::{at_fn, at_fn_param};
+use crate::bound::{BoundRead, bound, bound_paths, bounds, optional_for_all};
+use crate::looks::{at_fn, at_fn_param, at_round_end};
 use crate::names::skip_lifetime;
-use crate::paths::{output, qualified, type_path};
+use crate::paths::{output, qualified, type_path, types_in_round};
 use educe_grammar::{
     Cursor, Ending, Inside, Keyword, ParseError, Parts, Terminal, Typed, list, written,
 };
-use educe_tokens::{Boxed, Bracket, Seq};
-use educe_tree::{Ty, TypeForm, Types};
+use educe_tokens::{Boxed, Bracket, Seq, pair, terminated};
+use educe_tree::{Expr, Ty, TypeForm, Types};
 use std::alloc::{AllocError, Global};
 
 /// The form of a type with its ending.
@@ -94,14 +94,21 @@ fn more_types<R: Inside>(
     if !cursor.eat(Terminal::Sign(',')) {
         return Ok(None);
     }
-    let more = list(
-        parts.alloc,
-        cursor,
-        Terminal::Sign(','),
-        |cursor| cursor.closes(Bracket::Round),
-        |cursor| parts.ty(cursor, budget),
-    )?;
-    Ok(Some(more))
+    Ok(Some(types_in_round(parts, cursor, budget)?))
+}
+
+/// A type, and those behind a comma (Rust Reference, Tuple types).
+#[tactic(auto, unfolding(educe_grammar::proofs::Opened::rules))]
+fn some_types<R: Inside>(
+    parts: &Parts<R>,
+    cursor: &mut Cursor<'_>,
+    budget: u8,
+) -> Result<(Ty, Option<Types>), ParseError>
+    requires { R.nests parts.now.inside (budget + 1) }
+    ensures { Gives (read budget (both (part types) (optional (at_sign 44) (skipping (sign 44) (commas (at (stop Round)) (part types))))) cursor.old) result cursor.new }
+{
+    let first = parts.ty(cursor, budget)?;
+    pair(first, more_types(parts, cursor, budget))
 }
 
 /// A parenthesis or a tuple (Rust Reference, Parenthesized types; Tuple types).
@@ -119,9 +126,8 @@ fn round_form<R: Inside>(
         cursor.expect_close(Bracket::Round)?;
         return Ok((TypeForm::Tuple(Seq::new(parts.alloc)), Ending::Closed));
     }
-    let first = parts.ty(cursor, below)?;
-    let more = more_types(parts, cursor, below)?;
-    cursor.expect_close(Bracket::Round)?;
+    let found = some_types(parts, cursor, below)?;
+    let (first, more) = terminated(found, cursor.expect_close(Bracket::Round))?;
     Ok(round_of(parts.alloc, first, more)?)
 }
 
@@ -159,6 +165,33 @@ fn pointer<R: Inside>(
     Ok((TypeForm::Pointer(Boxed::new(parts.alloc, target)?), ending))
 }
 
+/// A slice, or an array of this length.
+fn square_of(alloc: Global, item: Ty, length: Option<Expr>) -> Result<FormRead, AllocError>
+    ensures { IfOk result (λ read. read ≡ spec.square_of (item, length)) }
+{
+    let item = Boxed::new(alloc, item);
+    match length {
+        None => Ok((TypeForm::Slice(item?), Ending::Closed)),
+        Some(length) => Ok((TypeForm::Array(item?, length.written), Ending::Closed)),
+    }
+}
+
+/// The length of an array, where one comes next (Rust Reference, Array types).
+#[tactic(auto, unfolding(educe_grammar::proofs::Opened::rules))]
+fn length<R: Inside>(
+    parts: &Parts<R>,
+    cursor: &mut Cursor<'_>,
+    budget: u8,
+) -> Result<Option<Expr>, ParseError>
+    requires { R.nests parts.now.inside (budget + 1) }
+    ensures { Gives (read budget (optional (at_sign 59) (skipping (sign 59) (part exprs))) cursor.old) result cursor.new }
+{
+    if !cursor.eat(Terminal::Sign(';')) {
+        return Ok(None);
+    }
+    Ok(Some(parts.expr(cursor, budget)?))
+}
+
 /// A slice or an array (Rust Reference, Slice types; Array types).
 #[tactic(auto, unfolding(educe_grammar::proofs::Opened::rules, educe_grammar::specs::Types::square_form))]
 fn square_form<R: Inside>(
@@ -171,17 +204,9 @@ fn square_form<R: Inside>(
 {
     let below = cursor.open(budget, Bracket::Square)?;
     let item = parts.ty(cursor, below)?;
-    if !cursor.eat(Terminal::Sign(';')) {
-        cursor.expect_close(Bracket::Square)?;
-        return Ok((
-            TypeForm::Slice(Boxed::new(parts.alloc, item)?),
-            Ending::Closed,
-        ));
-    }
-    let length = parts.expr(cursor, below)?;
-    cursor.expect_close(Bracket::Square)?;
-    let form = TypeForm::Array(Boxed::new(parts.alloc, item)?, length.written);
-    Ok((form, Ending::Closed))
+    let found = pair(item, length(parts, cursor, below))?;
+    let (item, length) = terminated(found, cursor.expect_close(Bracket::Square))?;
+    Ok(square_of(parts.alloc, item, length)?)
 }
 
 /// A parameter of a function pointer (Rust Reference, Function pointer types).
@@ -219,11 +244,11 @@ fn fn_pointer<R: Inside>(
         parts.alloc,
         cursor,
         Terminal::Sign(','),
-        |cursor| cursor.closes(Bracket::Round),
+        at_round_end,
         |cursor| fn_param(parts, cursor, below),
     )?;
-    cursor.expect_close(Bracket::Round)?;
-    let output = output(parts, cursor, budget)?;
+    let params = terminated(params, cursor.expect_close(Bracket::Round))?;
+    let (params, output) = pair(params, output(parts, cursor, budget))?;
     Ok(fn_of(parts.alloc, params, output)?)
 }
 
@@ -276,6 +301,16 @@ fn plain_form<R: Inside>(
     named_form(parts, cursor, budget)
 }
 
+/// `dyn` with this bound.
+fn one_bound_object(alloc: Global, found: BoundRead) -> Result<FormRead, AllocError>
+    ensures { IfOk result (λ read. read ≡ spec.bound_form found) }
+{
+    let ending = found.1;
+    let mut all = Seq::new(alloc);
+    all.push(found)?;
+    Ok((TypeForm::TraitObject(bound_paths(alloc, all)?), ending))
+}
+
 /// The form of a type, where `dyn` has one bound (Rust Reference, Trait objects).
 #[tactic(auto, unfolding(educe_grammar::proofs::Opened::rules, educe_grammar::specs::Types::one_bound_form))]
 fn one_bound_form<R: Inside>(
@@ -290,13 +325,8 @@ fn one_bound_form<R: Inside>(
         return plain_form(parts, cursor, budget);
     }
     let below = cursor.open_under(budget, Terminal::Word(Keyword::Dyn))?;
-    let (path, ending) = bound(parts, cursor, below)?;
-    let mut found = Seq::new(parts.alloc);
-    found.push((path, ending))?;
-    Ok((
-        TypeForm::TraitObject(bound_paths(parts.alloc, found)?),
-        ending,
-    ))
+    let found = bound(parts, cursor, below)?;
+    Ok(one_bound_object(parts.alloc, found)?)
 }
 
 /// The form of a type, where `dyn` has any bounds (Rust Reference, Trait objects).
