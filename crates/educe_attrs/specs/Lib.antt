@@ -1,7 +1,6 @@
 pub mod Gathered
 pub mod Words
 pub mod Rank
-pub mod Traits
 pub mod Metas
 pub mod Named
 pub mod Params

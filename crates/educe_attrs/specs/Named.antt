@@ -3,11 +3,11 @@ use Rattle.std.specs.Prelude.{if◌then◌else◌, List, Option, Some, None, opt
 use Rattle.educe_tokens.specs.declared.token.Token.{Token}
 use Rattle.educe_tree.specs.declared.attr.Meta.{Meta}
 use Rattle.educe_tree.specs.declared.attr.Meta.TheVariants as said
-use Rattle.educe_attrs.specs.declared.traits.Trait.{Trait}
-use Rattle.educe_attrs.specs.declared.traits.Trait.TheVariants.{PartialEq, PartialOrd, Ord}
+use Rattle.educe_traits.specs.declared.traits.Trait.{Trait}
+use Rattle.educe_traits.specs.declared.traits.Trait.TheVariants.{PartialEq, PartialOrd, Ord}
 use Rattle.educe_attrs.specs.Gathered.{all_some}
 use Rattle.educe_attrs.specs.Metas.{metas_in}
-use Rattle.educe_attrs.specs.Traits.{text_of}
+use Rattle.educe_traits.specs.Traits.{text_of}
 use Rattle.educe_attrs.specs.Words.{is_one_word}
 
 -- the trait whose name a path is, as it is spelled

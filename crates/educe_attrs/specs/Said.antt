@@ -5,7 +5,7 @@ use Rattle.educe_tree.specs.declared.attr.Meta.{Meta}
 use Rattle.educe_tree.specs.declared.attr.Meta.TheVariants as said
 use Rattle.educe_tree.specs.declared.attr.MetaPath.{MetaPath}
 use Rattle.educe_attrs.specs.declared.setting.Setting.{Setting}
-use Rattle.educe_attrs.specs.declared.traits.Trait.{Trait}
+use Rattle.educe_traits.specs.declared.traits.Trait.{Trait}
 use Rattle.educe_attrs.specs.Gathered.{all_joined}
 use Rattle.educe_attrs.specs.Named.{traits_in}
 use Rattle.educe_attrs.specs.Settings.{settings_in}

@@ -10,13 +10,13 @@ use Rattle.educe_grammar.specs.Ahead.{opens}
 use Rattle.educe_attrs.specs.declared.param.Param.{Param}
 use Rattle.educe_attrs.specs.declared.param.Param.TheVariants.{Ignore}
 use Rattle.educe_attrs.specs.declared.setting.Setting.{Setting}
-use Rattle.educe_attrs.specs.declared.traits.Trait.{Trait}
-use Rattle.educe_attrs.specs.declared.traits.Trait.TheVariants.{PartialEq, PartialOrd, Ord}
+use Rattle.educe_traits.specs.declared.traits.Trait.{Trait}
+use Rattle.educe_traits.specs.declared.traits.Trait.TheVariants.{PartialEq, PartialOrd, Ord}
 use Rattle.educe_attrs.specs.Gathered.{all_some}
 use Rattle.educe_attrs.specs.Metas.{metas_in}
 use Rattle.educe_attrs.specs.Named.{trait_named}
 use Rattle.educe_attrs.specs.Params.{params_in, are_params}
-use Rattle.educe_attrs.specs.Traits.{same_trait}
+use Rattle.educe_traits.specs.Traits.{same_trait}
 use Rattle.educe_attrs.specs.Words.{is_word}
 
 -- the token is `(`

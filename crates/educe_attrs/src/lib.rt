@@ -10,11 +10,9 @@ mod param;
 mod rank;
 mod said;
 mod setting;
-mod traits;
 mod word;
 
 pub use metas::metas_in;
 pub use param::{Param, Params, ignores, rank_in, rank_span_in};
 pub use said::{listed_by, settings_by};
 pub use setting::{Setting, Settings, params_of};
-pub use traits::{Trait, Traits, all_listed, each_once, is_listed, same_trait};

@@ -5,9 +5,9 @@ ghost use Rattle.educe_attrs.specs.Named as spec;
 
 use crate::gathered::{all_behind, one_more};
 use crate::metas::metas_in;
-use crate::traits::{Trait, Traits};
 use crate::word::is_one_word;
 use educe_tokens::TokenSlice;
+use educe_traits::{Trait, Traits};
 use educe_tree::{Meta, MetaPath};
 use std::alloc::{AllocError, Global};
 

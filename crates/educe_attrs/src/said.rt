@@ -6,9 +6,9 @@ ghost use Rattle.educe_attrs.specs.Said as spec;
 use crate::gathered::all_behind;
 use crate::named::add_traits;
 use crate::setting::{Settings, add_settings};
-use crate::traits::Traits;
 use crate::word::is_one_word;
 use educe_tokens::Seq;
+use educe_traits::Traits;
 use educe_tree::{Attributes, Meta, MetaPath};
 use std::alloc::{AllocError, Global};
 

@@ -8,9 +8,9 @@ use crate::gathered::{all_behind, one_more};
 use crate::metas::metas_in;
 use crate::named::trait_named;
 use crate::param::{Param, Params, are_params, params_in};
-use crate::traits::{Trait, same_trait};
 use crate::word::is_word;
 use educe_tokens::{Bracket, Seq, Token, TokenKind, TokenSlice};
+use educe_traits::{Trait, same_trait};
 use educe_tree::Meta;
 use std::alloc::{AllocError, Global};
 

@@ -12,8 +12,8 @@ use Rattle.educe_tokens.specs.Quote.{quoted, word_lexeme}
 use Rattle.educe_tokens.specs.WrittenLexemes.{written_lexemes}
 use Rattle.educe_tokens.proofs.Printable.{IsPrintable, printable-nil, printable-ident, printable-word, printable-written, printable-append, printable-brackets, printable-flat_map, printable-quoted as template}
 use Rattle.educe_tree.specs.declared.ident.Ident.{Ident}
-use Rattle.educe_attrs.specs.declared.traits.Trait.{Trait}
-use Rattle.educe_attrs.specs.declared.traits.Trait.TheVariants.{PartialEq, PartialOrd, Ord}
+use Rattle.educe_traits.specs.declared.traits.Trait.{Trait}
+use Rattle.educe_traits.specs.declared.traits.Trait.TheVariants.{PartialEq, PartialOrd, Ord}
 use Rattle.educe_body.specs.declared.form.Known.{Known}
 use Rattle.educe_body.specs.declared.form.Known.TheVariants.{Truth, Order, PartialOrder}
 use Rattle.educe_body.specs.declared.form.Form.{Form, Local, Reference, Call', IfReturn', Return', SomeOf', MatchOrdering', Block', Row_of-Form, end_of-Form, more_of-Form}

@@ -1,7 +1,7 @@
 //! Functions and the items that hold them.
 use crate::form::Forms;
-use educe_attrs::Trait;
 use educe_tokens::{Seq, Word, Written};
+use educe_traits::Trait;
 use educe_tree::Ident;
 
 /// Names in their order.

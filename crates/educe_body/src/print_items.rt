@@ -10,8 +10,8 @@ ghost use Rattle.educe_body.specs.TokenLaws.{impl_printable, item_printable};
 
 use crate::body::{Function, Functions, ImplItem, Item, Names};
 use crate::print::push_block;
-use educe_attrs::Trait;
 use educe_tokens::{ToTokens, TokenStream, Word, append_written, push_word, quote};
+use educe_traits::Trait;
 use std::alloc::{AllocError, Global};
 
 impl Function {

@@ -14,9 +14,9 @@ use Rattle.educe_tokens.proofs.Unique.{lexes_one}
 use Rattle.educe_tree.specs.declared.derive.DeriveInput.{DeriveInput}
 use Rattle.educe_grammar.specs.Refusal.{IsRefusalOf}
 use Rattle.educe_grammar.proofs.Refusals.{one_refusal}
-use Rattle.educe_attrs.specs.declared.traits.Trait.{Trait}
-use Rattle.educe_attrs.specs.declared.traits.Trait.TheVariants.{PartialEq, PartialOrd, Ord}
-use Rattle.educe_attrs.specs.Traits.{is_listed}
+use Rattle.educe_traits.specs.declared.traits.Trait.{Trait}
+use Rattle.educe_traits.specs.declared.traits.Trait.TheVariants.{PartialEq, PartialOrd, Ord}
+use Rattle.educe_traits.specs.Traits.{is_listed}
 use Rattle.educe_body.specs.Keys.{fields_of}
 use Rattle.educe_core.specs.Listed.{listed, traits_before}
 use Rattle.educe_core.specs.Ranks.{Rises}

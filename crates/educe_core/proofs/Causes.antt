@@ -27,9 +27,9 @@ use Rattle.educe_grammar.proofs.ReadsAgain.{definition_again, one_reading}
 use Rattle.educe_grammar.proofs.Refusals.{refused_undefined}
 use Rattle.educe_grammar.proofs.Repeated.{never_all_apart}
 use Rattle.educe_grammar.proofs.Unions.{union_undefined}
-use Rattle.educe_attrs.specs.declared.traits.Trait.{Trait}
-use Rattle.educe_attrs.specs.declared.traits.Trait.TheVariants.{PartialEq, PartialOrd, Ord}
-use Rattle.educe_attrs.specs.Traits.{is_listed}
+use Rattle.educe_traits.specs.declared.traits.Trait.{Trait}
+use Rattle.educe_traits.specs.declared.traits.Trait.TheVariants.{PartialEq, PartialOrd, Ord}
+use Rattle.educe_traits.specs.Traits.{is_listed}
 use Rattle.educe_core.specs.Built.{IsBuilt}
 use Rattle.educe_core.specs.Listed.{listed, fixed_order}
 use Rattle.educe_core.specs.Ranks.{AreRanksApart}

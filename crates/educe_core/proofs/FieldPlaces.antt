@@ -24,15 +24,15 @@ use Rattle.educe_grammar.proofs.NamesPlaced.{AllPlaced, Places, all_front, all_b
 use Rattle.educe_attrs.specs.declared.param.Param.{Param}
 use Rattle.educe_attrs.specs.declared.param.Param.TheVariants.{Ignore, Rank}
 use Rattle.educe_attrs.specs.declared.setting.Setting.{Setting}
-use Rattle.educe_attrs.specs.declared.traits.Trait.{Trait}
-use Rattle.educe_attrs.specs.declared.traits.Trait.TheVariants.{PartialEq, PartialOrd, Ord}
+use Rattle.educe_traits.specs.declared.traits.Trait.{Trait}
+use Rattle.educe_traits.specs.declared.traits.Trait.TheVariants.{PartialEq, PartialOrd, Ord}
 use Rattle.educe_attrs.specs.Gathered.{behind, all_joined, alone, all_some}
 use Rattle.educe_attrs.specs.Metas.{inside, metas_in}
 use Rattle.educe_attrs.specs.Named.{trait_named}
 use Rattle.educe_attrs.specs.Params.{written_rank, param_of, params_in, are_params, first_rank, rank_span_in}
 use Rattle.educe_attrs.specs.Said.{unless_educe, settings_said, settings_by}
 use Rattle.educe_attrs.specs.Settings.{begins_round, is_ignore_alone, fitting, order_params, params_for, with_params, setting_of, settings_in, params_of}
-use Rattle.educe_attrs.specs.Traits.{same_trait}
+use Rattle.educe_traits.specs.Traits.{same_trait}
 use Rattle.educe_attrs.specs.Words.{is_one_word}
 use Rattle.educe_attrs.proofs.Inside.{are_metas_inside}
 use Rattle.educe_body.specs.Keys.{shape_fields, fields_of}

@@ -6,7 +6,7 @@ use Rattle.educe_tokens.proofs.Ascii.{chars-ascii}
 use Rattle.educe_tree.specs.declared.data.Field.{Field}
 use Rattle.educe_tree.specs.declared.derive.DeriveInput.{DeriveInput}
 use Rattle.educe_attrs.specs.declared.setting.Setting.{Setting}
-use Rattle.educe_attrs.specs.declared.traits.Trait.{Trait}
+use Rattle.educe_traits.specs.declared.traits.Trait.{Trait}
 use Rattle.educe_attrs.specs.Said.{listed_by, settings_by}
 use Rattle.educe_core.specs.Built.{IsBuilt, is_struct}
 use Rattle.educe_core.specs.Listed.{listed}

@@ -3,8 +3,8 @@ use Rattle.std.proofs.Common.{◌≡◌, ℕ, ◌+◌, ◌<◌, Bool, true, fals
 use Rattle.std.specs.Prelude.{if◌then◌else◌}
 use Rattle.std.specs.List.{filter, AllByRecursion, AllZip}
 use Rattle.std.proofs.lemmas.List.{take_more}
-use Rattle.educe_attrs.specs.declared.traits.Trait.{Trait}
-use Rattle.educe_attrs.specs.declared.traits.Trait.TheVariants.{PartialEq, PartialOrd, Ord}
+use Rattle.educe_traits.specs.declared.traits.Trait.{Trait}
+use Rattle.educe_traits.specs.declared.traits.Trait.TheVariants.{PartialEq, PartialOrd, Ord}
 use Rattle.educe_core.specs.Settings.{Kept}
 use Rattle.educe_core.specs.Blocks.{IsInOrder}
 use Rattle.educe_core.proofs.Elements.{each_moved}

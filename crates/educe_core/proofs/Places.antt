@@ -16,7 +16,7 @@ use Rattle.educe_grammar.specs.Parsed.{IsWhole, IsParseCause, end_of, end_place}
 use Rattle.educe_grammar.specs.Placed.{IsPlace}
 use Rattle.educe_grammar.specs.Refusal.{IsRefusalOf}
 use Rattle.educe_grammar.proofs.NamesPlaced.{place_has, cause_placed}
-use Rattle.educe_attrs.specs.declared.traits.Trait.{Trait}
+use Rattle.educe_traits.specs.declared.traits.Trait.{Trait}
 use Rattle.educe_core.specs.Settings.{ReusesARank}
 use Rattle.educe_core.proofs.FieldPlaces.{reuse_placed}
 

@@ -7,7 +7,7 @@ use Rattle.std.specs.Ordering.{int_cmp}
 use Rattle.std.proofs.lemmas.Int.{ints}
 use Rattle.std.proofs.lemmas.List.Sorted.{IsPermutation-map, IsPermutation-sym}
 use Rattle.educe_tree.specs.declared.derive.DeriveInput.{DeriveInput}
-use Rattle.educe_attrs.specs.declared.traits.Trait.{Trait}
+use Rattle.educe_traits.specs.declared.traits.Trait.{Trait}
 use Rattle.educe_body.specs.Keys.{fields_of}
 use Rattle.educe_core.specs.declared.ranked.Ranked.{Ranked}
 use Rattle.educe_core.specs.Ranked.{kept_of}

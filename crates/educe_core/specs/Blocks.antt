@@ -12,9 +12,9 @@ use Rattle.educe_tree.specs.declared.path.Path.{out-Path}
 use Rattle.educe_tree.specs.declared.path.Segment.{out-Segment}
 use Rattle.educe_tree.specs.declared.data.Field.{Field}
 use Rattle.educe_tree.specs.declared.derive.DeriveInput.{DeriveInput}
-use Rattle.educe_attrs.specs.declared.traits.Trait.{Trait}
-use Rattle.educe_attrs.specs.declared.traits.Trait.TheVariants.{PartialEq, PartialOrd, Ord}
-use Rattle.educe_attrs.specs.Traits.{is_listed}
+use Rattle.educe_traits.specs.declared.traits.Trait.{Trait}
+use Rattle.educe_traits.specs.declared.traits.Trait.TheVariants.{PartialEq, PartialOrd, Ord}
+use Rattle.educe_traits.specs.Traits.{is_listed}
 use Rattle.educe_body.specs.declared.form.Form.{Form, Reference, Call, IfReturn, MatchOrdering}
 use Rattle.educe_body.specs.declared.form.Form as form
 use Rattle.educe_body.specs.declared.form.Known.{Known}

@@ -6,9 +6,9 @@ use Rattle.educe_tree.specs.declared.derive.DeriveInput.{DeriveInput}
 use Rattle.educe_tree.specs.declared.derive.Shape.{Shape}
 use Rattle.educe_tree.specs.declared.derive.Shape.TheVariants.{Struct, Enum}
 use Rattle.educe_attrs.specs.declared.setting.Setting.{Setting}
-use Rattle.educe_attrs.specs.declared.traits.Trait.{Trait}
+use Rattle.educe_traits.specs.declared.traits.Trait.{Trait}
 use Rattle.educe_attrs.specs.Said.{listed_by, settings_by}
-use Rattle.educe_attrs.specs.Traits.{each_once, all_listed}
+use Rattle.educe_traits.specs.Traits.{each_once, all_listed}
 use Rattle.educe_body.specs.Keys.{fields_of}
 use Rattle.educe_body.specs.Words.{HasWord}
 

@@ -2,10 +2,10 @@
 use Rattle.std.specs.Prelude.{List, [], ◌∷◌, unwrap_or}
 use Rattle.std.specs.List.{before_first, filter}
 use Rattle.educe_tree.specs.declared.derive.DeriveInput.{DeriveInput}
-use Rattle.educe_attrs.specs.declared.traits.Trait.{Trait}
-use Rattle.educe_attrs.specs.declared.traits.Trait.TheVariants.{PartialEq, PartialOrd, Ord}
+use Rattle.educe_traits.specs.declared.traits.Trait.{Trait}
+use Rattle.educe_traits.specs.declared.traits.Trait.TheVariants.{PartialEq, PartialOrd, Ord}
 use Rattle.educe_attrs.specs.Said.{listed_by}
-use Rattle.educe_attrs.specs.Traits.{is_listed, same_trait}
+use Rattle.educe_traits.specs.Traits.{is_listed, same_trait}
 
 -- the traits that a definition lists; none where an attribute of the type may not stand there
 unfoldable pub listed : DeriveInput → List Trait

@@ -8,11 +8,10 @@ ghost use Rattle.educe_core.specs.Model.{IsModelOf};
 ghost use Rattle.educe_core.specs.Settings.{settings_of};
 
 use crate::comparing::OTHER;
-use educe_attrs::{
-    Setting, Settings, Trait, Traits, all_listed, each_once, listed_by, settings_by,
-};
+use educe_attrs::{Setting, Settings, listed_by, settings_by};
 use educe_body::has_word;
 use educe_tokens::Seq;
+use educe_traits::{Trait, Traits, all_listed, each_once};
 use educe_tree::{DeriveInput, Field, Shape};
 use std::alloc::{AllocError, Global};
 

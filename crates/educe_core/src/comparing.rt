@@ -9,11 +9,11 @@ ghost use Rattle.educe_core.specs.Comparing as meaning;
 ghost use Rattle.educe_core.specs.Blocks as spec;
 
 use crate::ranked::Ranked;
-use educe_attrs::Trait;
 use educe_body::{
     Body, Callee, Form, Forms, Function, Functions, ImplItem, Item, Known, built_in_path, key_word,
 };
 use educe_tokens::{Boxed, Seq, Word, Written};
+use educe_traits::Trait;
 use educe_tree::{DeriveInput, Duplicate, Field, Ident};
 use std::alloc::{AllocError, Global};
 use std::cmp::Ordering;

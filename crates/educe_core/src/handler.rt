@@ -19,9 +19,10 @@ use crate::comparing::comparison_block;
 use crate::handler_error::HandlerError;
 use crate::ranked::Ranked;
 use crate::ranks::{by_rank, kept_fields};
-use educe_attrs::{Settings, Trait, is_listed};
+use educe_attrs::Settings;
 use educe_body::{Item, Items};
 use educe_tokens::{EduceError, Kind, Seq, Span, Token};
+use educe_traits::{Trait, is_listed};
 use educe_tree::DeriveInput;
 use std::alloc::Global;
 

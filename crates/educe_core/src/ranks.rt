@@ -13,7 +13,8 @@ use crate::built::fields_of;
 use crate::handler_error::HandlerError;
 use crate::ranked::Ranked;
 use crate::settings::{is_kept, rank_of, rank_place};
-use educe_attrs::{Settings, Trait};
+use educe_attrs::Settings;
+use educe_traits::Trait;
 use educe_tree::DeriveInput;
 use std::alloc::{AllocError, Global};
 

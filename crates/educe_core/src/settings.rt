@@ -3,8 +3,9 @@ ghost use Rattle.std.specs.Prelude.{◌≡◌, ◌<◌, ◌^◌};
 ghost use Rattle.std.specs.Option.{option_copied};
 ghost use Rattle.educe_core.specs.Settings as spec;
 
-use educe_attrs::{Param, Setting, Trait, ignores, params_of, rank_in, rank_span_in};
+use educe_attrs::{Param, Setting, ignores, params_of, rank_in, rank_span_in};
 use educe_tokens::Span;
+use educe_traits::Trait;
 
 /// The parameters that one of the two orders takes from the other one's setting.
 fn other_params(which: Trait, settings: &[Setting]) -> Option<&[Param]>

@@ -2,9 +2,9 @@ use Rattle.std.proofs.Common.{◌≡◌, ◌<◌, ◌^◌, List, Some, map, leng
 use Rattle.std.specs.List.{AllByRecursion}
 use Rattle.std.proofs.lemmas.Bool.{false≢true}
 use Rattle.educe_tree.specs.declared.data.Field.{Field}
-use Rattle.educe_attrs.specs.declared.traits.Trait.{Trait}
+use Rattle.educe_traits.specs.declared.traits.Trait.{Trait}
 use Rattle.educe_attrs.specs.Said.{listed_by}
-use Rattle.educe_attrs.specs.Traits.{each_once}
+use Rattle.educe_traits.specs.Traits.{each_once}
 use Rattle.educe_core.specs.Built.{IsFitting}
 use Rattle.educe_core.specs.Settings.{settings_of}
 use Rattle.educe_core.proofs.Forms.{built_plain, listed_given, plain_parts}

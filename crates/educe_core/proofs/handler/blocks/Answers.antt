@@ -1,8 +1,8 @@
 use Rattle.std.proofs.Common.{◌≡◌, Bool, true, false, List, get_or, refl, sym, ap, ◌∙◌}
-use Rattle.educe_attrs.specs.declared.traits.Trait.{Trait}
-use Rattle.educe_attrs.specs.declared.traits.Trait.TheVariants.{PartialEq}
+use Rattle.educe_traits.specs.declared.traits.Trait.{Trait}
+use Rattle.educe_traits.specs.declared.traits.Trait.TheVariants.{PartialEq}
 use Rattle.educe_body.specs.declared.body.Item.{Item}
-use Rattle.educe_attrs.specs.Traits.{is_listed}
+use Rattle.educe_traits.specs.Traits.{is_listed}
 use Rattle.educe_core.specs.Listed.{listed, fixed_order}
 use Rattle.educe_core.specs.Blocks.{IsBlock, HasNoCause}
 use Rattle.educe_core.proofs.Handling.{zip_passed, zip_skipped, each_passed, each_skipped}

@@ -1,8 +1,8 @@
 use Rattle.std.proofs.Common.{take}
 use Rattle.std.specs.List.{filter, AllZip, AllByRecursion}
-use Rattle.educe_attrs.specs.declared.traits.Trait.{Trait}
+use Rattle.educe_traits.specs.declared.traits.Trait.{Trait}
 use Rattle.educe_body.specs.declared.body.Item.{Item}
-use Rattle.educe_attrs.specs.Traits.{is_listed}
+use Rattle.educe_traits.specs.Traits.{is_listed}
 use Rattle.educe_core.specs.Listed.{listed}
 use Rattle.educe_core.specs.Blocks.{IsBlock, HasNoCause}
 use Rattle.educe_core.proofs.handler.blocks.Given as goal

@@ -1,8 +1,8 @@
 -- The traits that can be derived, and lists of them.
 use Rattle.std.specs.Prelude.{ℕ, Bool, true, false, ◌&&◌, List, nat_le, count_by, codes}
 use Rattle.std.specs.List.{list_any, list_all}
-use Rattle.educe_attrs.specs.declared.traits.Trait.{Trait}
-use Rattle.educe_attrs.specs.declared.traits.Trait.TheVariants.{PartialEq, PartialOrd, Ord}
+use Rattle.educe_traits.specs.declared.traits.Trait.{Trait}
+use Rattle.educe_traits.specs.declared.traits.Trait.TheVariants.{PartialEq, PartialOrd, Ord}
 
 -- how the name of the trait is spelled
 abbrev pub text_of : Trait → List ℕ

@@ -1,6 +1,6 @@
 //! The traits that can be derived.
 ghost use Rattle.std.specs.Prelude.{◌≡◌, chars};
-ghost use Rattle.educe_attrs.specs.Traits as spec;
+ghost use Rattle.educe_traits.specs.Traits as spec;
 
 use educe_tokens::Seq;
 
