@@ -2,9 +2,10 @@
 //! texts that differ by a token and are none. Where `rustc` reads the syntax that is carried, it
 //! answers the same but for the differences in the documents.
 
+use crate::checks;
 use educe_parser::parse_derive_input;
 use educe_token_vectors::lex_answer;
-use educe_tokens::{Kind, TokenSlice};
+use educe_tokens::{EduceError, Kind, TokenSlice};
 use std::alloc::Global;
 use std::process::Abort;
 use std::test::Fail;
@@ -28,14 +29,21 @@ fn kind_name(kind: Kind) -> &'static str {
     }
 }
 
-/// What is answered for a source: `Ok`, or what the refusal is called.
+/// What an answer is called: `Ok`, or what the refusal is called.
+fn answer_name<T: Drop>(answer: Result<T, EduceError>) -> &'static str {
+    match answer {
+        Ok(_) => "Ok",
+        Err(error) => kind_name(error.kind),
+    }
+}
+
+/// What is answered for a source.
 fn answer(alloc: Global, source: &str) -> Result<&'static str, Fail> {
-    let tokens = match lex_answer(alloc, source)? {
-        Ok(tokens) => TokenSlice::new(alloc, tokens)?,
-        Err(error) => return Ok(kind_name(error.kind)),
-    };
-    match parse_derive_input(alloc, &tokens) {
-        Ok(_) => Ok("Ok"),
+    match lex_answer(alloc, source)? {
+        Ok(tokens) => {
+            let tokens = TokenSlice::new(alloc, tokens)?;
+            Ok(answer_name(parse_derive_input(alloc, &tokens)))
+        }
         Err(error) => Ok(kind_name(error.kind)),
     }
 }
@@ -43,7 +51,8 @@ fn answer(alloc: Global, source: &str) -> Result<&'static str, Fail> {
 /// Each of the sources gets this answer.
 fn check(rt: &impl Abort, alloc: Global, expected: &str, sources: &[&str]) -> Result<(), Fail> {
     for source in sources {
-        assert_eq!(rt; answer(alloc, source)?, expected, "{source}");
+        let found = answer(alloc, source)?;
+        checks::check(rt, (*source, found), (*source, expected));
     }
     Ok(())
 }

@@ -3,15 +3,19 @@
 ghost use Rattle.std.specs.Prelude.{IsTrue};
 ghost use Rattle.educe_tokens.specs.Quote.{is_ascii_name};
 
+use crate::checks::{check, check_text, copied, first, printed, printed_first};
 use educe_token_vectors::lexed;
-use educe_tokens::{Boxed, Seq, Span, Spelling, TokenKind, TokenSlice, Written, text_of_tree};
+use educe_tokens::{
+    Boxed, Seq, Span, Spelling, ToTokens, Token, TokenKind, TokenSlice, Written, text_of_tree,
+};
 use educe_tree::{
     AngleArg, Args, Attribute, Attributes, DeriveInput, Duplicate, Expr, ExprForm, Field,
-    FieldForm, FieldShape, GenericParam, Generics, Ident, Lifetime, Meta, MetaPath, Path, Segment,
-    Shape, Ty, TypeForm, TypeParam, Types, Variant, Variants, WherePredicate, is_name,
-    path_to_string, unraw,
+    FieldForm, FieldShape, GenericParam, Generics, Ident, Lifetime, Meta, MetaPath, Params, Path,
+    Predicates, Segment, Shape, Ty, TypeForm, TypeParam, Types, Variant, Variants, WherePredicate,
+    is_name, path_to_string, unraw,
 };
 use std::alloc::{AllocError, Global};
+use std::process::Abort;
 use std::test::Fail;
 
 /// The tokens `a`.
@@ -86,84 +90,50 @@ fn object(alloc: Global) -> Result<TypeForm, AllocError> {
     Ok(TypeForm::TraitObject(paths))
 }
 
-#[test]
-fn tells_names_from_keywords(rt: HostRuntime) -> Result<(), Fail> {
-    let alloc = rt.alloc();
-    for (text, want) in [
-        ("a", true),
-        ("r#fn", true),
-        ("union", true),
-        ("dyn", false),
-        ("Self", false),
-        ("gen", true),
-        ("_", false),
-        ("_a", true),
-        ("'a", false),
-        ("1", false),
-    ] {
-        let tokens = lexed(alloc, text)?;
-        let token = tokens.get(0).ok_or("no token")?;
-        assert_eq!(rt; is_name(token), want, "{text}");
+/// What the form of a type is called.
+fn form_name(form: &TypeForm) -> &'static str {
+    match form {
+        TypeForm::Reference(true, _) => "Reference(true, _)",
+        TypeForm::FnPtr(_, Some(_)) => "FnPtr(_, Some(_))",
+        TypeForm::TraitObject(_) => "TraitObject(_)",
+        _ => "another",
     }
-    Ok(())
 }
 
-#[test]
-fn names_without_the_mark(rt: HostRuntime) -> Result<(), Fail> {
-    let alloc = rt.alloc();
-    for (text, want) in [("r#fn", "fn"), ("fn", "fn"), ("r", "r"), ("", "")] {
-        let text = Spelling::from_str(alloc, text)?;
-        assert_eq!(rt; unraw(&text), want);
-    }
-    assert_eq!(rt; Ident::from_name(alloc, "r_a")?.unraw(), "r_a");
-    Ok(())
+/// Whether a text is a name.
+fn is_name_text(alloc: Global, text: &str) -> Result<bool, Fail> {
+    let tokens = lexed(alloc, text)?;
+    Ok(is_name(first(&tokens)?))
 }
 
-#[test]
-fn tells_one_word(rt: HostRuntime) -> Result<(), Fail> {
-    let alloc = rt.alloc();
-    let written = word(alloc)?;
-    let one = MetaPath { written };
-    assert!(rt; one.is_ident("a"));
-    assert!(rt; !one.is_ident("b"));
-    assert!(rt; one.get_ident().is_some());
-    assert_eq!(rt; path_to_string(alloc, &one)?.as_str(), "a");
-    let written = long(alloc)?;
-    let many = MetaPath { written };
-    assert!(rt; !many.is_ident("a"));
-    assert!(rt; many.get_ident().is_none());
-    assert_eq!(rt;
-        path_to_string(alloc, &many.duplicate(alloc)?)?.as_str(),
-        "::a::b"
-    );
-    assert_eq!(rt; text_of_tree(alloc, &many)?.as_str(), ":: a :: b");
-    Ok(())
+/// A text without the mark.
+fn unmarked(alloc: Global, text: &str) -> Result<String, AllocError> {
+    let text = Spelling::from_str(alloc, text)?;
+    String::from_str(alloc, unraw(&text))
 }
 
-#[test]
-fn copies_forms(rt: HostRuntime) -> Result<(), Fail> {
-    let alloc = rt.alloc();
-    let copy = reference(alloc)?.duplicate(alloc)?;
-    assert!(rt; matches!(&copy, TypeForm::Reference(true, _)));
-    let copy = pointer(alloc)?.duplicate(alloc)?;
-    assert!(rt; matches!(&copy, TypeForm::FnPtr(_, Some(_))));
-    Ok(())
+/// A name without the mark.
+fn unmarked_name(alloc: Global) -> Result<String, AllocError> {
+    let ident = Ident::from_name(alloc, "r_a")?;
+    String::from_str(alloc, ident.unraw())
 }
 
-#[test]
-fn copies_a_type(rt: HostRuntime) -> Result<(), Fail> {
-    let alloc = rt.alloc();
-    let object = object(alloc)?;
-    let copy = ty(alloc, object)?.duplicate(alloc)?;
-    assert!(rt; matches!(&copy.form, TypeForm::TraitObject(_)));
-    assert_eq!(rt; text_of_tree(alloc, &copy)?.as_str(), ":: a :: b");
-    Ok(())
+/// The copy of the type of a form.
+fn copied_type(alloc: Global, form: Result<TypeForm, AllocError>) -> Result<Ty, AllocError> {
+    copied(alloc, ty(alloc, form?))
 }
 
-/// The lifetime `'b`.
-fn lifetime(alloc: Global) -> Result<Lifetime, Fail> {
-    let tokens = lexed(alloc, " 'b")?;
-    let token = tokens.get(0).ok_or("no token")?;
+/// What the form is called in the copy of its type.
+fn copied_form(
+    alloc: Global,
+    form: Result<TypeForm, AllocError>,
+) -> Result<&'static str, AllocError> {
+    let copy = copied_type(alloc, form)?;
+    Ok(form_name(&copy.form))
+}
+
+/// The lifetime that a token is.
+fn lifetime(alloc: Global, token: &Token) -> Result<Lifetime, Fail> {
     match token.kind {
         TokenKind::Lifetime => Ok(Lifetime {
             text: token.spelling.duplicate(alloc)?,
@@ -173,30 +143,35 @@ fn lifetime(alloc: Global) -> Result<Lifetime, Fail> {
     }
 }
 
-/// The parameter `T`, and one predicate.
-fn generics(alloc: Global) -> Result<Generics, AllocError> {
+/// The copy of the lifetime that a text begins with.
+fn copied_lifetime(alloc: Global, text: &str) -> Result<Lifetime, Fail> {
+    let tokens = lexed(alloc, text)?;
+    let lifetime = lifetime(alloc, first(&tokens)?)?;
+    Ok(copied(alloc, Ok(lifetime))?)
+}
+
+/// The parameter `T`.
+fn params(alloc: Global) -> Result<Params, AllocError> {
     let ident = Ident::from_name(alloc, "T")?;
     let written = long(alloc)?;
     let mut params = Seq::new(alloc);
     params.push(GenericParam::TypeParam(TypeParam { ident, written }))?;
+    Ok(params)
+}
+
+/// One predicate.
+fn predicates(alloc: Global) -> Result<Predicates, AllocError> {
     let written = word(alloc)?;
     let mut predicates = Seq::new(alloc);
     predicates.push(WherePredicate { written })?;
-    Ok(Generics { params, predicates })
+    Ok(predicates)
 }
 
-#[test]
-fn prints_parameters(rt: HostRuntime) -> Result<(), Fail> {
-    let alloc = rt.alloc();
-    let generics = generics(alloc)?;
-    let param = generics.params.get(0).ok_or("no parameter")?;
-    assert_eq!(rt; text_of_tree(alloc, param)?.as_str(), ":: a :: b");
-    let predicate = generics.predicates.get(0).ok_or("no predicate")?;
-    assert_eq!(rt; text_of_tree(alloc, predicate)?.as_str(), "a");
-    let lifetime = lifetime(alloc)?.duplicate(alloc)?;
-    assert_eq!(rt; text_of_tree(alloc, &lifetime)?.as_str(), "'b");
-    assert_eq!(rt; lifetime.span, Span { start: 1, end: 3 });
-    Ok(())
+/// The parameter `T`, and one predicate.
+fn generics(alloc: Global) -> Result<Generics, AllocError> {
+    let params = params(alloc)?;
+    let predicates = predicates(alloc)?;
+    Ok(Generics { params, predicates })
 }
 
 /// `a = ::a::b`
@@ -270,10 +245,95 @@ fn first_name(definition: &DeriveInput) -> Option<&str> {
 }
 
 #[test]
+fn tells_names_from_keywords(rt: HostRuntime) -> Result<(), Fail> {
+    let alloc = rt.alloc();
+    for (text, want) in [
+        ("a", true),
+        ("r#fn", true),
+        ("union", true),
+        ("dyn", false),
+        ("Self", false),
+        ("gen", true),
+        ("_", false),
+        ("_a", true),
+        ("'a", false),
+        ("1", false),
+    ] {
+        check(&rt, (text, is_name_text(alloc, text)?), (text, want));
+    }
+    Ok(())
+}
+
+#[test]
+fn names_without_the_mark(rt: HostRuntime) -> Result<(), Fail> {
+    let alloc = rt.alloc();
+    for (text, want) in [("r#fn", "fn"), ("fn", "fn"), ("r", "r"), ("", "")] {
+        check_text(&rt, unmarked(alloc, text)?, want);
+    }
+    check_text(&rt, unmarked_name(alloc)?, "r_a");
+    Ok(())
+}
+
+/// The copy of the path of these tokens is the word `a` or not, and is written so, without and with
+/// blanks.
+fn check_path(
+    rt: &impl Abort,
+    alloc: Global,
+    written: Written,
+    is_word: bool,
+    texts: (&str, &str),
+) -> Result<(), Fail> {
+    let path = copied(alloc, Ok(MetaPath { written }))?;
+    check(rt, path.is_ident("a"), is_word);
+    check(rt, path.is_ident("b"), false);
+    check(rt, path.get_ident().is_some(), is_word);
+    check_text(rt, path_to_string(alloc, &path)?, texts.0);
+    check_text(rt, printed(alloc, path)?, texts.1);
+    Ok(())
+}
+
+#[test]
+fn tells_one_word(rt: HostRuntime) -> Result<(), Fail> {
+    let alloc = rt.alloc();
+    check_path(&rt, alloc, word(alloc)?, true, ("a", "a"))?;
+    check_path(&rt, alloc, long(alloc)?, false, ("::a::b", ":: a :: b"))
+}
+
+#[test]
+fn copies_types(rt: HostRuntime) -> Result<(), Fail> {
+    let alloc = rt.alloc();
+    check(
+        &rt,
+        copied_form(alloc, reference(alloc))?,
+        "Reference(true, _)",
+    );
+    check(
+        &rt,
+        copied_form(alloc, pointer(alloc))?,
+        "FnPtr(_, Some(_))",
+    );
+    check(&rt, copied_form(alloc, object(alloc))?, "TraitObject(_)");
+    let copy = copied_type(alloc, object(alloc))?;
+    check_text(&rt, printed(alloc, copy)?, ":: a :: b");
+    Ok(())
+}
+
+#[test]
+fn prints_parameters(rt: HostRuntime) -> Result<(), Fail> {
+    let alloc = rt.alloc();
+    check_text(&rt, printed_first(alloc, params(alloc)?)?, ":: a :: b");
+    check_text(&rt, printed_first(alloc, predicates(alloc)?)?, "a");
+    let lifetime = copied_lifetime(alloc, " 'b")?;
+    check_text(&rt, text_of_tree(alloc, &lifetime)?, "'b");
+    check(&rt, lifetime.span, Span { start: 1, end: 3 });
+    Ok(())
+}
+
+#[test]
 fn copies_a_definition(rt: HostRuntime) -> Result<(), Fail> {
     let alloc = rt.alloc();
-    let copy = definition(alloc)?.duplicate(alloc)?;
-    assert!(rt; copy.ident.text.is("E"));
-    assert_eq!(rt; first_name(&copy), Some("x"));
+    let copy = copied(alloc, definition(alloc))?;
+    let name = copy.ident.text.as_str();
+    check(&rt, (name, first_name(&copy)), ("E", Some("x")));
     Ok(())
 }

@@ -1,5 +1,5 @@
 //! What the tests share.
-ghost use Rattle.std.specs.Prelude.{IfOk, IfErr, chars};
+ghost use Rattle.std.specs.Prelude.{◌≡◌, IfOk, IfErr, chars};
 ghost use Rattle.educe_tokens.specs.Lexes.{Lexes};
 ghost use Rattle.educe_tokens.specs.Causes.{IsLexicalCause};
 
@@ -35,17 +35,9 @@ pub fn lexed_slice(alloc: Global, text: &str) -> Result<TokenSlice, Fail>
     Ok(TokenSlice::new(alloc, lexed(alloc, text)?)?)
 }
 
-/// The refusal of a text that has no tokens.
-pub(crate) fn refusal(alloc: Global, text: &str) -> Result<EduceError, Fail>
-    ensures { IfOk result (λ e. IsLexicalCause (chars text.now) e) }
-{
-    match lex_answer(alloc, text)? {
-        Ok(_) => Err(Fail::from(text)),
-        Err(error) => Ok(error),
-    }
-}
-
 /// The characters of a text.
-pub(crate) fn characters(alloc: Global, text: &str) -> Result<Vec<char>, AllocError> {
+pub(crate) fn characters(alloc: Global, text: &str) -> Result<Vec<char>, AllocError>
+    ensures { IfOk result (λ found. found.items ≡ chars text.now) }
+{
     text.chars().collect(alloc)
 }

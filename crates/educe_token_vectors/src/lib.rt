@@ -2,6 +2,8 @@
 //! that they are; and what the tests of all crates share.
 #![tactic(auto)]
 
+#[cfg(test)]
+mod checks;
 mod common;
 #[cfg(test)]
 mod pieces;

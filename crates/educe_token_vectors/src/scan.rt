@@ -1,192 +1,220 @@
 //! Of `educe_scan`: the piece at the front of a text, and whether a text is one piece.
 
+use crate::checks::check;
 use crate::common::characters;
+use educe_pieces::PieceKind::Token;
+use educe_pieces::TokenKind::Punct;
 use educe_pieces::{Bracket, LiteralKind, PieceKind, TokenKind, UncarriedKind};
 use educe_scan::{is_piece, piece_at};
-use std::alloc::{AllocError, Global};
+use std::alloc::Global;
+use std::process::Abort;
 use std::test::Fail;
 
-/// A literal.
-fn literal(kind: LiteralKind, len: usize) -> Option<(PieceKind, usize)> {
-    Some((PieceKind::Token(TokenKind::Literal(kind)), len))
-}
+const BLANK: PieceKind = PieceKind::Blank;
 
-/// A punctuation character.
-fn punct(c: char, joint: bool) -> Option<(PieceKind, usize)> {
-    Some((PieceKind::Token(TokenKind::Punct(c, joint)), 1))
-}
+const COMMENT: PieceKind = PieceKind::Comment;
 
-#[test]
-fn words(rt: HostRuntime) {
-    let word = PieceKind::Token(TokenKind::Ident);
-    assert_eq!(rt; piece_at(&['a', '_', '1', ':']), Some((word, 3)));
-    assert_eq!(rt; piece_at(&['é']), Some((word, 1)));
-    assert_eq!(rt; piece_at(&['r']), Some((word, 1)));
-    assert_eq!(rt; piece_at(&['b', 'r', ' ']), Some((word, 2)));
-    assert_eq!(rt; piece_at(&['r', '#', 'f', 'n']), Some((word, 4)));
-    assert_eq!(rt; piece_at(&['r', '#', 'c', 'r', 'a', 't', 'e']), None);
-    assert_eq!(rt; piece_at(&['r', '#', '_']), None);
-    assert_eq!(rt; piece_at(&['r', '#', '_', '_']), Some((word, 4)));
-    assert_eq!(rt; piece_at(&['r', '#']), None);
-    assert_eq!(rt; piece_at(&['a', '#']), None);
-    assert_eq!(rt; piece_at(&['a', '"']), None);
-    assert_eq!(rt; piece_at(&['a', '\'']), None);
-}
+const DOC: PieceKind = PieceKind::Token(TokenKind::Doc);
 
-#[test]
-fn lifetimes_and_characters(rt: HostRuntime) {
-    let lifetime = PieceKind::Token(TokenKind::Lifetime);
-    assert_eq!(rt; piece_at(&['\'', 'a', '\'']), literal(LiteralKind::Char, 3));
-    assert_eq!(rt;
-        piece_at(&['\'', '\\', '\'', '\'']),
-        literal(LiteralKind::Char, 4)
-    );
-    assert_eq!(rt; piece_at(&['\'', 'a']), Some((lifetime, 2)));
-    assert_eq!(rt; piece_at(&['\'', 'a', '\'', 'b']), None);
-    assert_eq!(rt; piece_at(&['\'', 'a', 'b', '\'']), None);
-    assert_eq!(rt;
-        piece_at(&['\'', 's', 't', 'a', 't', 'i', 'c', ' ']),
-        Some((lifetime, 7))
-    );
-    assert_eq!(rt; piece_at(&['\'', '_', ',']), Some((lifetime, 2)));
-    assert_eq!(rt; piece_at(&['\'', 'r', '#', 'a']), Some((lifetime, 2)));
-    assert_eq!(rt; piece_at(&['\'', '+']), None);
-    assert_eq!(rt;
-        piece_at(&['b', '\'', 'a', '\'']),
-        literal(LiteralKind::Byte, 4)
-    );
-    assert_eq!(rt; piece_at(&['b', '\'', 'a']), None);
+const WORD: PieceKind = PieceKind::Token(TokenKind::Ident);
+
+const LIFETIME: PieceKind = PieceKind::Token(TokenKind::Lifetime);
+
+const INT: PieceKind = PieceKind::Token(TokenKind::Literal(LiteralKind::Int));
+
+const STR: PieceKind = PieceKind::Token(TokenKind::Literal(LiteralKind::Str));
+
+const BYTE_STR: PieceKind = PieceKind::Token(TokenKind::Literal(LiteralKind::ByteStr));
+
+const CHAR: PieceKind = PieceKind::Token(TokenKind::Literal(LiteralKind::Char));
+
+const BYTE: PieceKind = PieceKind::Token(TokenKind::Literal(LiteralKind::Byte));
+
+const OPENER: PieceKind = PieceKind::Token(TokenKind::Start(Bracket::Square));
+
+const CLOSER: PieceKind = PieceKind::Token(TokenKind::Stop(Bracket::Curly));
+
+const FLOAT: PieceKind = PieceKind::Uncarried(UncarriedKind::Float);
+
+const C_STRING: PieceKind = PieceKind::Uncarried(UncarriedKind::CStr);
+
+/// The piece at the front of a text.
+fn found(alloc: Global, text: &str) -> Result<Option<(PieceKind, usize)>, Fail> {
+    Ok(piece_at(&characters(alloc, text)?))
 }
 
 #[test]
-fn strings(rt: HostRuntime) {
-    let c_string = PieceKind::Uncarried(UncarriedKind::CStr);
-    assert_eq!(rt;
-        piece_at(&['"', 'a', '"', '+']),
-        literal(LiteralKind::Str, 3)
-    );
-    assert_eq!(rt; piece_at(&['"', 'a', '"', 'b']), None);
-    assert_eq!(rt; piece_at(&['"', 'a']), None);
-    assert_eq!(rt;
-        piece_at(&['b', '"', 'a', '"']),
-        literal(LiteralKind::ByteStr, 4)
-    );
-    assert_eq!(rt;
-        piece_at(&['b', 'r', '"', 'a', '"']),
-        literal(LiteralKind::ByteStr, 5)
-    );
-    assert_eq!(rt; piece_at(&['b', 'r', '"', 'é', '"']), None);
-    assert_eq!(rt; piece_at(&['b', 'r', '#', 'a']), None);
-    assert_eq!(rt;
-        piece_at(&['r', '"', 'é', '"']),
-        literal(LiteralKind::Str, 4)
-    );
-    assert_eq!(rt;
-        piece_at(&['r', '#', '"', '"', '"', '#']),
-        literal(LiteralKind::Str, 6)
-    );
-    assert_eq!(rt; piece_at(&['r', '#', '#', 'a']), None);
-    assert_eq!(rt; piece_at(&['c', '"', 'a', '"']), Some((c_string, 4)));
-    assert_eq!(rt;
-        piece_at(&['c', 'r', '#', '"', 'a', '"', '#']),
-        Some((c_string, 7))
-    );
+fn words(rt: HostRuntime) -> Result<(), Fail> {
+    check(
+        &rt,
+        rt.alloc(),
+        found,
+        &[
+            ("a_1:", Some((WORD, 3))),
+            ("é", Some((WORD, 1))),
+            ("r", Some((WORD, 1))),
+            ("br ", Some((WORD, 2))),
+            ("r#fn", Some((WORD, 4))),
+            ("r#crate", None),
+            ("r#_", None),
+            ("r#__", Some((WORD, 4))),
+            ("r#", None),
+            ("a#", None),
+            ("a\"", None),
+            ("a'", None),
+        ],
+    )
 }
 
 #[test]
-fn signs(rt: HostRuntime) {
-    let opener = PieceKind::Token(TokenKind::Start(Bracket::Square));
-    let closer = PieceKind::Token(TokenKind::Stop(Bracket::Curly));
-    assert_eq!(rt; piece_at(&['\u{200E}', 'a']), Some((PieceKind::Blank, 1)));
-    assert_eq!(rt; piece_at(&['[', ']']), Some((opener, 1)));
-    assert_eq!(rt; piece_at(&['}', '}']), Some((closer, 1)));
-    assert_eq!(rt; piece_at(&[':', ':']), punct(':', true));
-    assert_eq!(rt; piece_at(&['/']), punct('/', false));
-    assert_eq!(rt; piece_at(&['/', '=']), punct('/', true));
-    assert_eq!(rt; piece_at(&['+', '/']), punct('+', true));
-    assert_eq!(rt; piece_at(&['+', '/', '/']), punct('+', false));
-    assert_eq!(rt; piece_at(&['-', '/', '*']), punct('-', false));
-    assert_eq!(rt; piece_at(&['&', '\'', 'a']), punct('&', false));
-    assert_eq!(rt; piece_at(&['\\', 'n']), None);
-    assert_eq!(rt; piece_at(&[]), None);
+fn lifetimes_and_characters(rt: HostRuntime) -> Result<(), Fail> {
+    check(
+        &rt,
+        rt.alloc(),
+        found,
+        &[
+            ("'a'", Some((CHAR, 3))),
+            ("'\\''", Some((CHAR, 4))),
+            ("'a", Some((LIFETIME, 2))),
+            ("'a'b", None),
+            ("'ab'", None),
+            ("'static ", Some((LIFETIME, 7))),
+            ("'_,", Some((LIFETIME, 2))),
+            ("'r#a", Some((LIFETIME, 2))),
+            ("'+", None),
+            ("b'a'", Some((BYTE, 4))),
+            ("b'a", None),
+        ],
+    )
 }
 
 #[test]
-fn comments(rt: HostRuntime) {
-    let doc = PieceKind::Token(TokenKind::Doc);
-    assert_eq!(rt; piece_at(&['/', '/']), Some((PieceKind::Comment, 2)));
-    assert_eq!(rt;
-        piece_at(&['/', '/', 'a', '\n', 'b']),
-        Some((PieceKind::Comment, 3))
-    );
-    assert_eq!(rt;
-        piece_at(&['/', '*', '*', '/', '/']),
-        Some((PieceKind::Comment, 4))
-    );
-    assert_eq!(rt; piece_at(&['/', '/', '/', 'a', '\n']), Some((doc, 4)));
-    assert_eq!(rt; piece_at(&['/', '*']), None);
-    assert_eq!(rt; piece_at(&['/', '/', '!']), None);
+fn strings(rt: HostRuntime) -> Result<(), Fail> {
+    check(
+        &rt,
+        rt.alloc(),
+        found,
+        &[
+            ("\"a\"+", Some((STR, 3))),
+            ("\"a\"b", None),
+            ("\"a", None),
+            ("b\"a\"", Some((BYTE_STR, 4))),
+            ("br\"a\"", Some((BYTE_STR, 5))),
+            ("br\"é\"", None),
+            ("br#a", None),
+            ("r\"é\"", Some((STR, 4))),
+            ("r#\"\"\"#", Some((STR, 6))),
+            ("r##a", None),
+            ("c\"a\"", Some((C_STRING, 4))),
+            ("cr#\"a\"#", Some((C_STRING, 7))),
+        ],
+    )
 }
 
 #[test]
-fn numbers(rt: HostRuntime) {
-    let float = PieceKind::Uncarried(UncarriedKind::Float);
-    assert_eq!(rt; piece_at(&['1', '.', '.']), literal(LiteralKind::Int, 1));
-    assert_eq!(rt; piece_at(&['1', '.', 'a']), literal(LiteralKind::Int, 1));
-    assert_eq!(rt;
-        piece_at(&['1', '_', 'u', '8']),
-        literal(LiteralKind::Int, 4)
-    );
-    assert_eq!(rt; piece_at(&['1', '.']), Some((float, 2)));
-    assert_eq!(rt; piece_at(&['1', '.', '5', '.', '.']), Some((float, 3)));
-    assert_eq!(rt; piece_at(&['1', 'a']), None);
+fn signs(rt: HostRuntime) -> Result<(), Fail> {
+    check(
+        &rt,
+        rt.alloc(),
+        found,
+        &[
+            ("\u{200E}a", Some((BLANK, 1))),
+            ("[]", Some((OPENER, 1))),
+            ("}}", Some((CLOSER, 1))),
+            ("::", Some((Token(Punct(':', true)), 1))),
+            ("/", Some((Token(Punct('/', false)), 1))),
+            ("/=", Some((Token(Punct('/', true)), 1))),
+            ("+/", Some((Token(Punct('+', true)), 1))),
+            ("+//", Some((Token(Punct('+', false)), 1))),
+            ("-/*", Some((Token(Punct('-', false)), 1))),
+            ("&'a", Some((Token(Punct('&', false)), 1))),
+            ("\\n", None),
+            ("", None),
+        ],
+    )
 }
 
-/// Whether a text is one piece of a kind.
-fn tells(alloc: Global, kind: PieceKind, text: &str) -> Result<bool, AllocError> {
-    Ok(is_piece(kind, &characters(alloc, text)?))
+#[test]
+fn comments(rt: HostRuntime) -> Result<(), Fail> {
+    check(
+        &rt,
+        rt.alloc(),
+        found,
+        &[
+            ("//", Some((COMMENT, 2))),
+            ("//a\nb", Some((COMMENT, 3))),
+            ("/**//", Some((COMMENT, 4))),
+            ("///a\n", Some((DOC, 4))),
+            ("/*", None),
+            ("//!", None),
+        ],
+    )
+}
+
+#[test]
+fn numbers(rt: HostRuntime) -> Result<(), Fail> {
+    check(
+        &rt,
+        rt.alloc(),
+        found,
+        &[
+            ("1..", Some((INT, 1))),
+            ("1.a", Some((INT, 1))),
+            ("1_u8", Some((INT, 4))),
+            ("1.", Some((FLOAT, 2))),
+            ("1.5..", Some((FLOAT, 3))),
+            ("1a", None),
+        ],
+    )
+}
+
+/// Compares whether a text is one piece of a kind.
+fn check_whole(
+    rt: &impl Abort,
+    alloc: Global,
+    table: &[(PieceKind, &str, bool)],
+) -> Result<(), Fail> {
+    for (kind, text, expected) in table {
+        let found = is_piece(*kind, &characters(alloc, text)?);
+        assert_eq!(rt; found, *expected, "at {text}");
+    }
+    Ok(())
 }
 
 #[test]
 fn texts_that_are_one_piece(rt: HostRuntime) -> Result<(), Fail> {
-    let table = [
-        (PieceKind::Blank, "\t"),
-        (PieceKind::Comment, "/* /* */ */"),
-        (PieceKind::Token(TokenKind::Doc), "/// a"),
-        (PieceKind::Token(TokenKind::Ident), "r#type"),
-        (PieceKind::Token(TokenKind::Punct('+', false)), "+"),
-        (PieceKind::Token(TokenKind::Punct('+', true)), "+"),
-        (
-            PieceKind::Token(TokenKind::Literal(LiteralKind::Int)),
-            "0xffu8",
-        ),
-        (PieceKind::Uncarried(UncarriedKind::Float), "1.5e-3f32"),
-        (PieceKind::Uncarried(UncarriedKind::CStr), "cr#\"\"a\"#"),
-    ];
-    for (kind, text) in table {
-        assert_eq!(rt; tells(rt.alloc(), kind, text)?, true, "at {text}");
-    }
-    Ok(())
+    check_whole(
+        &rt,
+        rt.alloc(),
+        &[
+            (BLANK, "\t", true),
+            (COMMENT, "/* /* */ */", true),
+            (DOC, "/// a", true),
+            (WORD, "r#type", true),
+            (Token(Punct('+', false)), "+", true),
+            (Token(Punct('+', true)), "+", true),
+            (INT, "0xffu8", true),
+            (FLOAT, "1.5e-3f32", true),
+            (C_STRING, "cr#\"\"a\"#", true),
+        ],
+    )
 }
 
 #[test]
 fn texts_that_are_not_one_piece(rt: HostRuntime) -> Result<(), Fail> {
-    let table = [
-        (PieceKind::Blank, "  "),
-        (PieceKind::Comment, "/* /* */"),
-        (PieceKind::Comment, "//! a"),
-        (PieceKind::Token(TokenKind::Doc), "////"),
-        (PieceKind::Token(TokenKind::Ident), "r#self"),
-        (PieceKind::Token(TokenKind::Ident), "a b"),
-        (PieceKind::Token(TokenKind::Lifetime), "'a'"),
-        (
-            PieceKind::Token(TokenKind::Literal(LiteralKind::Int)),
-            "1.5",
-        ),
-        (PieceKind::Token(TokenKind::Literal(LiteralKind::Str)), ""),
-    ];
-    for (kind, text) in table {
-        assert_eq!(rt; tells(rt.alloc(), kind, text)?, false, "at {text}");
-    }
-    Ok(())
+    check_whole(
+        &rt,
+        rt.alloc(),
+        &[
+            (BLANK, "  ", false),
+            (COMMENT, "/* /* */", false),
+            (COMMENT, "//! a", false),
+            (DOC, "////", false),
+            (WORD, "r#self", false),
+            (WORD, "a b", false),
+            (LIFETIME, "'a'", false),
+            (INT, "1.5", false),
+            (STR, "", false),
+        ],
+    )
 }

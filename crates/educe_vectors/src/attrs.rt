@@ -1,50 +1,63 @@
 //! Of `educe_attrs`: what attributes list and set.
 
+use crate::common::{check_equal, definition, found};
 use educe_attrs::{
-    Param, Setting, Trait, all_listed, each_once, ignores, listed_by, params_of, rank_in,
-    rank_span_in, settings_by,
+    Param, Setting, ignores, listed_by, params_of, rank_in, rank_span_in, settings_by,
 };
 use educe_parser::parse_metas;
-use educe_token_vectors::{lexed, lexed_slice};
+use educe_token_vectors::lexed_slice;
 use educe_tokens::{Seq, Span};
-use educe_tree::{Attribute, Attributes, Duplicate, Meta};
-use std::alloc::Global;
+use educe_traits::{Trait, all_listed, each_once};
+use educe_tree::{Attribute, Attributes, Duplicate, Meta, Metas};
+use std::alloc::{AllocError, Global};
 use std::process::Abort;
 use std::test::Fail;
 
-/// The attributes that the metas of a text are.
-fn attributes(alloc: Global, text: &str) -> Result<Attributes, Fail> {
-    let tokens = lexed_slice(alloc, text)?;
-    let Ok(metas) = parse_metas(alloc, &tokens) else {
-        return Err(Fail::from("no metas"));
-    };
+/// The metas that a text is.
+fn metas(alloc: Global, text: &str) -> Result<Metas, Fail> {
+    found(parse_metas(alloc, &lexed_slice(alloc, text)?))
+}
+
+/// An attribute of an equal meta.
+fn attribute(alloc: Global, meta: &Meta) -> Result<Attribute, AllocError> {
+    let meta = meta.duplicate(alloc)?;
+    Ok(Attribute { meta })
+}
+
+/// The attributes of these metas.
+fn attributes_of(alloc: Global, metas: &[Meta]) -> Result<Attributes, Fail> {
     let mut attributes = Seq::new(alloc);
-    for meta in metas.as_slice() {
-        attributes.push(Attribute {
-            meta: meta.duplicate(alloc)?,
-        })?;
+    for meta in metas {
+        attributes.push(attribute(alloc, meta)?)?;
     }
     Ok(attributes)
 }
 
-/// The names of the traits that the attributes of a type list, or `none`.
-fn listing(alloc: Global, text: &str) -> Result<String, Fail> {
-    let attributes = attributes(alloc, text)?;
+/// The attributes that the metas of a text are.
+fn attributes(alloc: Global, text: &str) -> Result<Attributes, Fail> {
+    attributes_of(alloc, metas(alloc, text)?.as_slice())
+}
+
+/// The names of traits.
+fn names(alloc: Global, traits: &[Trait]) -> Result<String, Fail> {
     let mut names = String::new(alloc);
-    match listed_by(alloc, &attributes)? {
-        Some(traits) => {
-            for which in traits.as_slice() {
-                names.push_str(which.name())?;
-                names.push(' ')?;
-            }
-        }
-        None => names.push_str("none")?,
+    for which in traits {
+        names.push_str(which.name())?;
+        names.push(' ')?;
     }
     Ok(names)
 }
 
+/// The names of the traits that the attributes of a type list, or `none`.
+fn listing(alloc: Global, attributes: &Attributes) -> Result<String, Fail> {
+    match listed_by(alloc, attributes)? {
+        Some(traits) => names(alloc, traits.as_slice()),
+        None => Ok(String::from_str(alloc, "none")?),
+    }
+}
+
 /// A setting in words.
-fn add_words(words: &mut String, setting: &Setting) -> Result<(), Fail> {
+fn add_words(words: &mut String, setting: &Setting) -> Result<(), AllocError> {
     words.push_str(setting.which.name())?;
     for param in setting.params.as_slice() {
         match param {
@@ -52,29 +65,40 @@ fn add_words(words: &mut String, setting: &Setting) -> Result<(), Fail> {
             Param::Rank(rank, _) => write!(words, " {rank}")?,
         }
     }
-    words.push_str("; ")?;
-    Ok(())
+    words.push_str("; ")
+}
+
+/// Settings in words.
+fn words_of(alloc: Global, settings: &[Setting]) -> Result<String, Fail> {
+    let mut words = String::new(alloc);
+    for setting in settings {
+        add_words(&mut words, setting)?;
+    }
+    Ok(words)
 }
 
 /// The settings of the attributes of a field in words, or `none`.
-fn settings(alloc: Global, text: &str) -> Result<String, Fail> {
-    let attributes = attributes(alloc, text)?;
-    let mut words = String::new(alloc);
-    match settings_by(alloc, &attributes)? {
-        Some(settings) => {
-            for setting in settings.as_slice() {
-                add_words(&mut words, setting)?;
-            }
-        }
-        None => words.push_str("none")?,
+fn settings(alloc: Global, attributes: &Attributes) -> Result<String, Fail> {
+    match settings_by(alloc, attributes)? {
+        Some(settings) => words_of(alloc, settings.as_slice()),
+        None => Ok(String::from_str(alloc, "none")?),
     }
-    Ok(words)
+}
+
+/// What the metas of a text list.
+fn listing_of(alloc: Global, text: &str) -> Result<String, Fail> {
+    listing(alloc, &attributes(alloc, text)?)
+}
+
+/// What the metas of a text set.
+fn settings_of(alloc: Global, text: &str) -> Result<String, Fail> {
+    settings(alloc, &attributes(alloc, text)?)
 }
 
 /// The traits that the attributes list, for each of the texts.
 fn check_listing(rt: &impl Abort, alloc: Global, cases: &[(&str, &str)]) -> Result<(), Fail> {
     for (text, expected) in cases {
-        assert_eq!(rt; listing(alloc, text)?.as_str(), *expected, "{text}");
+        check_equal(rt, text, listing_of(alloc, text)?.as_str(), *expected);
     }
     Ok(())
 }
@@ -82,7 +106,7 @@ fn check_listing(rt: &impl Abort, alloc: Global, cases: &[(&str, &str)]) -> Resu
 /// The settings that the attributes give, for each of the texts.
 fn check_settings(rt: &impl Abort, alloc: Global, cases: &[(&str, &str)]) -> Result<(), Fail> {
     for (text, expected) in cases {
-        assert_eq!(rt; settings(alloc, text)?.as_str(), *expected, "{text}");
+        check_equal(rt, text, settings_of(alloc, text)?.as_str(), *expected);
     }
     Ok(())
 }
@@ -241,40 +265,76 @@ fn other_ranks_give_no_settings(rt: HostRuntime) -> Result<(), Fail> {
     )
 }
 
+/// How many attributes there are, and how many traits and settings they give.
+fn counts(alloc: Global, attributes: &Attributes) -> Result<[usize; 3], Fail> {
+    let traits = listed_by(alloc, attributes)?.ok_or("no traits")?;
+    let settings = settings_by(alloc, attributes)?.ok_or("no settings")?;
+    Ok([attributes.len(), traits.len(), settings.len()])
+}
+
+/// The same of the attributes of a definition.
+fn counts_of(alloc: Global, text: &str) -> Result<[usize; 3], Fail> {
+    counts(alloc, &definition(alloc, text)?.attrs)
+}
+
 #[test]
 fn documentation_says_nothing(rt: HostRuntime) -> Result<(), Fail> {
-    let alloc = rt.alloc();
-    let mut attributes = Seq::new(alloc);
-    for token in lexed(alloc, "/// educe(Ord)\n")?.as_slice() {
-        attributes.push(Attribute {
-            meta: Meta::Doc(token.duplicate(alloc)?),
-        })?;
+    let found = counts_of(rt.alloc(), "/// educe(Ord)\nstruct S;")?;
+    assert_eq!(rt; found, [1, 0, 0]);
+    Ok(())
+}
+
+/// Whether a trait is ignored, its rank, and the place of that.
+type Said = (bool, Option<i64>, Option<Span>);
+
+/// What settings say of a trait.
+fn said_of(which: Trait, settings: &[Setting]) -> Option<Said> {
+    match params_of(which, settings) {
+        Some(params) => Some((ignores(params), rank_in(params), rank_span_in(params))),
+        None => None,
     }
-    assert_eq!(rt; attributes.len(), 1);
-    let traits = listed_by(alloc, &attributes)?.ok_or("no traits")?;
-    assert_eq!(rt; traits.len(), 0);
-    let settings = settings_by(alloc, &attributes)?.ok_or("no settings")?;
-    assert_eq!(rt; settings.len(), 0);
+}
+
+/// What the settings of attributes say of a trait.
+fn params_in(alloc: Global, attributes: &Attributes, which: Trait) -> Result<Option<Said>, Fail> {
+    match settings_by(alloc, attributes)? {
+        Some(settings) => Ok(said_of(which, settings.as_slice())),
+        None => Err(Fail::from("no settings")),
+    }
+}
+
+/// What the settings of a text say of a trait.
+fn params(alloc: Global, text: &str, which: Trait) -> Result<Option<Said>, Fail> {
+    params_in(alloc, &attributes(alloc, text)?, which)
+}
+
+/// What the settings of a text say of each of the traits.
+fn check_params(
+    rt: &impl Abort,
+    alloc: Global,
+    text: &str,
+    cases: &[(Trait, Option<Said>)],
+) -> Result<(), Fail> {
+    for (which, expected) in cases {
+        check_equal(rt, which.name(), params(alloc, text, *which)?, *expected);
+    }
     Ok(())
 }
 
 #[test]
 fn the_first_setting_of_a_trait_counts(rt: HostRuntime) -> Result<(), Fail> {
-    let alloc = rt.alloc();
     let text = "educe(PartialEq(ignore), Ord(rank = - 2, ignore), Ord(rank = 3))";
-    let attributes = attributes(alloc, text)?;
-    let settings = settings_by(alloc, &attributes)?.ok_or("no settings")?;
-    let settings = settings.as_slice();
-    assert!(rt; params_of(Trait::PartialOrd, settings).is_none());
-    let params = params_of(Trait::PartialEq, settings).ok_or("no parameters")?;
-    assert!(rt; ignores(params));
-    assert_eq!(rt; rank_in(params), None);
-    assert_eq!(rt; rank_span_in(params), None);
-    let params = params_of(Trait::Ord, settings).ok_or("no parameters")?;
-    assert!(rt; ignores(params));
-    assert_eq!(rt; rank_in(params), Some(-2));
-    assert_eq!(rt; rank_span_in(params), Some(Span { start: 29, end: 39 }));
-    Ok(())
+    let place = Span { start: 29, end: 39 };
+    check_params(
+        &rt,
+        rt.alloc(),
+        text,
+        &[
+            (Trait::PartialOrd, None),
+            (Trait::PartialEq, Some((true, None, None))),
+            (Trait::Ord, Some((true, Some(-2), Some(place)))),
+        ],
+    )
 }
 
 #[test]

@@ -7,4 +7,6 @@ mod attrs;
 #[cfg(test)]
 mod body;
 #[cfg(test)]
+mod common;
+#[cfg(test)]
 mod program;

@@ -1,7 +1,9 @@
 //! Of `educe_core`: runs over devices in memory, and bodies tried over tables.
+ghost use Rattle.std.specs.Prelude.{◌≤◌};
 
-use educe_core::{MemorySink, MemorySource, run};
-use std::alloc::Global;
+use crate::common::check_equal;
+use educe_core::{MemorySink, MemorySource, Sink, Source, run};
+use std::alloc::{AllocError, Global};
 use std::process::Abort;
 use std::test::Fail;
 
@@ -15,8 +17,38 @@ mod refusals;
 const ONE_FIELD: &str =
     "# [ automatically_derived ] impl :: core :: cmp :: PartialEq for S { fn eq ( & self , other : & Self ) -> :: core :: primitive :: bool { if :: core :: cmp :: PartialEq :: ne ( & self . a , & other . a ) { return false ; } true } }\n";
 
-/// A run with one word, and what it answers.
+/// What a run answers and writes.
 #[derive(Drop)]
+struct Outcome {
+    code: u8,
+    text: MemorySink,
+    notes: MemorySink,
+}
+
+/// The text that bytes are, or `no text`.
+fn shown(bytes: &[u8]) -> &str {
+    match str::from_utf8(bytes) {
+        Ok(text) => text,
+        Err(_) => "no text",
+    }
+}
+
+/// The exit status of a run with one word.
+fn run_word<S: Source + Drop, K: Sink, E: Sink>(
+    alloc: Global,
+    word: &str,
+    source: Result<S, AllocError>,
+    sink: &mut K,
+    notes: &mut E,
+) -> Result<u8, AllocError> {
+    let mut source = source?;
+    let mut words = Vec::new(alloc);
+    words.push(String::from_str(alloc, word)?)?;
+    Ok(run(alloc, &words, &mut source, sink, notes).code())
+}
+
+/// A run with one word over devices of which the calls of these numbers fail, and what it answers.
+#[derive(Clone, Copy)]
 struct Case<'a> {
     word: &'a str,
     input: &'a [u8],
@@ -43,19 +75,47 @@ impl<'a> Case<'a> {
         }
     }
 
-    /// Runs over devices whose calls move at most ten bytes.
+    /// The exit status of the run, whose reads take at most so many bytes.
+    fn exit_code(
+        &self,
+        alloc: Global,
+        step: usize,
+        text: &mut MemorySink,
+        notes: &mut MemorySink,
+    ) -> Result<u8, AllocError>
+        requires { 1 ≤ step }
+    {
+        let source = MemorySource::new(alloc, self.input, step, self.failing_reads);
+        run_word(alloc, self.word, source, text, notes)
+    }
+
+    /// The run over devices whose calls move at most so many bytes.
+    fn outcome(&self, alloc: Global, step: usize) -> Result<Outcome, AllocError>
+        requires { 1 ≤ step }
+    {
+        let mut text = MemorySink::new(alloc, step, self.failing_writes)?;
+        let mut notes = MemorySink::new(alloc, step, self.failing_notes)?;
+        let code = self.exit_code(alloc, step, &mut text, &mut notes)?;
+        Ok(Outcome { code, text, notes })
+    }
+
+    /// The run answers so where calls move at most ten bytes.
     fn check(&self, rt: &impl Abort, alloc: Global) -> Result<(), Fail> {
-        let mut words = Vec::new(alloc);
-        words.push(String::from_str(alloc, self.word)?)?;
-        let mut source = MemorySource::new(alloc, self.input, 10, self.failing_reads)?;
-        let mut sink = MemorySink::new(alloc, 10, self.failing_writes)?;
-        let mut notes = MemorySink::new(alloc, 10, self.failing_notes)?;
-        let status = run(alloc, &words, &mut source, &mut sink, &mut notes);
-        assert_eq!(rt; status.code(), self.code);
-        assert_eq!(rt; sink.bytes(), self.text.as_bytes());
-        assert_eq!(rt; notes.bytes(), self.notes.as_bytes());
+        let found = self.outcome(alloc, 10)?;
+        let input = shown(self.input);
+        check_equal(rt, input, found.code, self.code);
+        check_equal(rt, input, shown(found.text.bytes()), self.text);
+        check_equal(rt, input, shown(found.notes.bytes()), self.notes);
         Ok(())
     }
+}
+
+/// Each of the inputs is expanded to this text.
+fn check_expanded(rt: &impl Abort, alloc: Global, cases: &[(&str, &str)]) -> Result<(), Fail> {
+    for (input, text) in cases {
+        Case::of(input.as_bytes(), 0, text, "").check(rt, alloc)?;
+    }
+    Ok(())
 }
 
 /// Each of the inputs is refused with these notes.
@@ -66,14 +126,10 @@ fn check_refused(rt: &impl Abort, alloc: Global, cases: &[(&str, &str)]) -> Resu
     Ok(())
 }
 
-/// The notes of a run of `expand`, which are empty exactly where it ends with 0.
-fn notes_of(rt: &impl Abort, alloc: Global, input: &[u8]) -> Result<MemorySink, Fail> {
-    let mut words = Vec::new(alloc);
-    words.push(String::from_str(alloc, "expand")?)?;
-    let mut source = MemorySource::new(alloc, input, 4096, &[])?;
-    let mut sink = MemorySink::new(alloc, 4096, &[])?;
-    let mut notes = MemorySink::new(alloc, 4096, &[])?;
-    let status = run(alloc, &words, &mut source, &mut sink, &mut notes);
-    assert_eq!(rt; status.code() == 0, notes.bytes().is_empty());
-    Ok(notes)
+/// The input has these notes, which are empty exactly where the run ends with 0.
+fn check_notes(rt: &impl Abort, alloc: Global, input: &str, notes: &str) -> Result<(), Fail> {
+    let found = Case::of(input.as_bytes(), 0, "", "").outcome(alloc, 4096)?;
+    check_equal(rt, input, shown(found.notes.bytes()), notes);
+    check_equal(rt, input, found.code == 0, notes.is_empty());
+    Ok(())
 }

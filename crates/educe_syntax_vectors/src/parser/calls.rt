@@ -1,33 +1,65 @@
 //! What the calls answer: trees by their text, refusals by their place and words.
 
+use super::{answer_name, kind_name};
+use crate::checks::{check, check_text, printed};
 use educe_parser::{
     parse_derive_input, parse_expr, parse_ident, parse_metas, parse_path, parse_predicates,
 };
 use educe_token_vectors::lexed_slice;
-use educe_tokens::{Kind, Span, text_of_tree};
-use educe_tree::{Meta, Shape};
+use educe_tokens::{EduceError, Kind, Span, ToTokens, text_of_tree};
+use educe_tree::{DeriveInput, ExprPath, Meta, Shape, WherePredicate};
 use std::alloc::Global;
 use std::process::Abort;
 use std::test::Fail;
 
-/// The definition is refused so, at this place and with these words.
-fn check_refusal(
+/// The tree that is answered.
+fn read<T: Drop>(answer: Result<T, EduceError>) -> Result<T, Fail> {
+    match answer {
+        Ok(tree) => Ok(tree),
+        Err(error) => Err(Fail::from(kind_name(error.kind))),
+    }
+}
+
+/// The text of the tree that is answered.
+fn read_text<T: ToTokens + Drop>(
+    alloc: Global,
+    answer: Result<T, EduceError>,
+) -> Result<String, Fail> {
+    Ok(printed(alloc, read(answer)?)?)
+}
+
+/// The refusal that is answered.
+fn refused<T: Drop>(answer: Result<T, EduceError>) -> Result<EduceError, Fail> {
+    match answer {
+        Ok(_) => Err(Fail::from("read")),
+        Err(error) => Ok(error),
+    }
+}
+
+/// The one word of a refusal.
+fn only_word(error: &EduceError) -> Option<&str> {
+    match error.words.as_slice() {
+        [] => None,
+        [word] => Some(word.as_str()),
+        _ => Some("more than one word"),
+    }
+}
+
+/// Each definition is refused so, at this place and with this word.
+fn check_refusals(
     rt: &impl Abort,
     alloc: Global,
-    source: &str,
-    kind: Kind,
-    span: Span,
-    words: &[&str],
+    rows: &[(&str, Kind, (u32, u32), Option<&str>)],
 ) -> Result<(), Fail> {
-    let tokens = lexed_slice(alloc, source)?;
-    let Err(error) = parse_derive_input(alloc, &tokens) else {
-        return Err(Fail::from("read"));
-    };
-    assert_eq!(rt; error.kind, kind, "{source}");
-    assert_eq!(rt; error.span, span, "{source}");
-    assert_eq!(rt; error.words.len(), words.len(), "{source}");
-    for (found, word) in error.words.as_slice().iter().zip(words) {
-        assert_eq!(rt; found.as_str(), *word, "{source}");
+    for (source, kind, place, word) in rows {
+        let tokens = lexed_slice(alloc, source)?;
+        let error = refused(parse_derive_input(alloc, &tokens))?;
+        let found = (error.span.start, error.span.end);
+        check(
+            rt,
+            (*source, error.kind, found, only_word(&error)),
+            (*source, *kind, *place, *word),
+        );
     }
     Ok(())
 }
@@ -35,133 +67,149 @@ fn check_refusal(
 #[test]
 fn names_are_read(rt: HostRuntime) -> Result<(), Fail> {
     let alloc = rt.alloc();
-    let Ok(ident) = parse_ident(alloc, &lexed_slice(alloc, "r#fn")?) else {
-        return Err(Fail::from("refused"));
-    };
-    assert_eq!(rt; ident.text.as_str(), "r#fn");
-    let Err(error) = parse_ident(alloc, &lexed_slice(alloc, "fn")?) else {
-        return Err(Fail::from("read"));
-    };
-    assert_eq!(rt; error.kind, Kind::Syntax);
+    let tokens = lexed_slice(alloc, "r#fn")?;
+    check_text(&rt, read_text(alloc, parse_ident(alloc, &tokens))?, "r#fn");
     Ok(())
 }
 
 #[test]
-fn expressions_and_paths_are_read(rt: HostRuntime) -> Result<(), Fail> {
+fn keywords_are_no_names(rt: HostRuntime) -> Result<(), Fail> {
     let alloc = rt.alloc();
-    let Ok(expr) = parse_expr(alloc, &lexed_slice(alloc, "-a.b(1) + 2")?) else {
-        return Err(Fail::from("refused"));
-    };
-    assert_eq!(rt; text_of_tree(alloc, &expr)?.as_str(), "- a . b ( 1 ) + 2");
-    let Ok(path) = parse_path(alloc, &lexed_slice(alloc, "<T as A>::b::<C>")?) else {
-        return Err(Fail::from("refused"));
-    };
-    assert_eq!(rt;
-        text_of_tree(alloc, &path)?.as_str(),
-        "< T as A >:: b ::< C >"
+    let tokens = lexed_slice(alloc, "fn")?;
+    check(&rt, answer_name(parse_ident(alloc, &tokens)), "Syntax");
+    Ok(())
+}
+
+#[test]
+fn expressions_are_read(rt: HostRuntime) -> Result<(), Fail> {
+    let alloc = rt.alloc();
+    let tokens = lexed_slice(alloc, "-a.b(1) + 2")?;
+    check_text(
+        &rt,
+        read_text(alloc, parse_expr(alloc, &tokens))?,
+        "- a . b ( 1 ) + 2",
     );
-    assert!(rt; path.self_type.is_some());
-    assert_eq!(rt; path.path.segments.len(), 2);
+    Ok(())
+}
+
+/// The path has the type of a qualified path, and two segments.
+fn check_path(rt: &impl Abort, path: &ExprPath) {
+    check(rt, path.self_type.is_some(), true);
+    check(rt, path.path.segments.len(), 2);
+}
+
+#[test]
+fn paths_are_read(rt: HostRuntime) -> Result<(), Fail> {
+    let alloc = rt.alloc();
+    let tokens = lexed_slice(alloc, "<T as A>::b::<C>")?;
+    let path = read(parse_path(alloc, &tokens))?;
+    check_path(&rt, &path);
+    check_text(&rt, printed(alloc, path)?, "< T as A >:: b ::< C >");
+    Ok(())
+}
+
+/// The predicates are these two.
+fn check_predicates(
+    rt: &impl Abort,
+    alloc: Global,
+    predicates: &[WherePredicate],
+) -> Result<(), Fail> {
+    let [first, second] = predicates else {
+        return Err(Fail::from("not two"));
+    };
+    check_text(rt, text_of_tree(alloc, first)?, "A : B + 'a");
+    check_text(rt, text_of_tree(alloc, second)?, "'a : 'b");
     Ok(())
 }
 
 #[test]
 fn predicates_are_read_whole(rt: HostRuntime) -> Result<(), Fail> {
     let alloc = rt.alloc();
-    let Ok(predicates) = parse_predicates(alloc, &lexed_slice(alloc, "A: B + 'a, 'a: 'b,")?) else {
-        return Err(Fail::from("refused"));
+    let tokens = lexed_slice(alloc, "A: B + 'a, 'a: 'b,")?;
+    let predicates = read(parse_predicates(alloc, &tokens))?;
+    check_predicates(&rt, alloc, predicates.as_slice())
+}
+
+/// The metas are these three.
+fn check_metas(rt: &impl Abort, alloc: Global, metas: &[Meta]) -> Result<(), Fail> {
+    let [
+        Meta::Word(word),
+        Meta::List(path, list, _),
+        Meta::NameValue(name, value, span),
+    ] = metas
+    else {
+        return Err(Fail::from("not these"));
     };
-    assert_eq!(rt; predicates.len(), 2);
-    let [first, second] = predicates.as_slice() else {
-        return Err(Fail::from("not two"));
-    };
-    assert_eq!(rt; text_of_tree(alloc, first)?.as_str(), "A : B + 'a");
-    assert_eq!(rt; text_of_tree(alloc, second)?.as_str(), "'a : 'b");
+    check_text(rt, text_of_tree(alloc, word)?, "a");
+    check_text(rt, text_of_tree(alloc, path)?, "b :: c");
+    check(rt, list.tokens().len(), 5);
+    check_text(rt, text_of_tree(alloc, name)?, "f");
+    check_text(rt, text_of_tree(alloc, value)?, "1 + 2");
+    check(rt, *span, Span { start: 15, end: 24 });
     Ok(())
 }
 
 #[test]
 fn metas_are_read(rt: HostRuntime) -> Result<(), Fail> {
     let alloc = rt.alloc();
-    let Ok(metas) = parse_metas(alloc, &lexed_slice(alloc, "a, b::c(d; e), f = 1 + 2")?) else {
-        return Err(Fail::from("refused"));
+    let tokens = lexed_slice(alloc, "a, b::c(d; e), f = 1 + 2")?;
+    let metas = read(parse_metas(alloc, &tokens))?;
+    check_metas(&rt, alloc, metas.as_slice())
+}
+
+/// The fields are these two.
+fn check_fields(rt: &impl Abort, alloc: Global, shape: &Shape) -> Result<(), Fail> {
+    let Shape::Struct(shape) = shape else {
+        return Err(Fail::from("no struct"));
     };
-    let [
-        Meta::Word(word),
-        Meta::List(path, list, _),
-        Meta::NameValue(name, value, span),
-    ] = metas.as_slice()
-    else {
-        return Err(Fail::from("not these"));
+    let [first, second] = shape.fields.as_slice() else {
+        return Err(Fail::from("not two"));
     };
-    assert_eq!(rt; text_of_tree(alloc, word)?.as_str(), "a");
-    assert_eq!(rt; text_of_tree(alloc, path)?.as_str(), "b :: c");
-    assert_eq!(rt; list.tokens().len(), 5);
-    assert_eq!(rt; text_of_tree(alloc, name)?.as_str(), "f");
-    assert_eq!(rt; text_of_tree(alloc, value)?.as_str(), "1 + 2");
-    assert_eq!(rt; *span, Span { start: 15, end: 24 });
+    check_text(rt, text_of_tree(alloc, &first.ty)?, "Vec < T >");
+    check(rt, first.span, Span { start: 21, end: 31 });
+    check_text(rt, text_of_tree(alloc, &second.ty)?, "A");
     Ok(())
+}
+
+/// The definition has this name, and one each of attributes, parameters and predicates.
+fn check_head(rt: &impl Abort, found: &DeriveInput) {
+    check(rt, found.ident.text.as_str(), "S");
+    check(rt, found.attrs.len(), 1);
+    check(rt, found.generics.params.len(), 1);
+    check(rt, found.generics.predicates.len(), 1);
 }
 
 #[test]
 fn definitions_are_trees(rt: HostRuntime) -> Result<(), Fail> {
     let alloc = rt.alloc();
     let tokens = lexed_slice(alloc, "#[x] pub struct S<T>(pub Vec<T>, A) where T: B;")?;
-    let Ok(found) = parse_derive_input(alloc, &tokens) else {
-        return Err(Fail::from("refused"));
-    };
-    assert_eq!(rt; found.ident.text.as_str(), "S");
-    assert_eq!(rt; found.attrs.len(), 1);
-    assert_eq!(rt; found.generics.params.len(), 1);
-    assert_eq!(rt; found.generics.predicates.len(), 1);
-    let Shape::Struct(shape) = &found.shape else {
-        return Err(Fail::from("no struct"));
-    };
-    let [first, second] = shape.fields.as_slice() else {
-        return Err(Fail::from("not two"));
-    };
-    assert_eq!(rt; text_of_tree(alloc, &first.ty)?.as_str(), "Vec < T >");
-    assert_eq!(rt; first.span, Span { start: 21, end: 31 });
-    assert_eq!(rt; text_of_tree(alloc, &second.ty)?.as_str(), "A");
-    Ok(())
+    let found = read(parse_derive_input(alloc, &tokens))?;
+    check_head(&rt, &found);
+    check_fields(&rt, alloc, &found.shape)
 }
 
 #[test]
 fn refusals_have_their_places(rt: HostRuntime) -> Result<(), Fail> {
-    let alloc = rt.alloc();
-    let at = |start: u32, end: u32| Span { start, end };
-    check_refusal(&rt, alloc, "", Kind::Syntax, at(0, 0), &[])?;
-    check_refusal(&rt, alloc, "struct S", Kind::Syntax, at(8, 8), &[])?;
-    check_refusal(
+    check_refusals(
         &rt,
-        alloc,
-        "struct S { a: impl X }",
-        Kind::Syntax,
-        at(14, 18),
-        &[],
-    )?;
-    check_refusal(
-        &rt,
-        alloc,
-        "struct S<T, T>;",
-        Kind::DuplicateName,
-        at(12, 13),
-        &["T"],
-    )?;
-    check_refusal(
-        &rt,
-        alloc,
-        "struct S { a: u8, r#a: u8 }",
-        Kind::DuplicateName,
-        at(18, 21),
-        &["r#a"],
-    )?;
-    check_refusal(
-        &rt,
-        alloc,
-        "pub union U { a: u8 }",
-        Kind::NotCarried,
-        at(4, 9),
-        &["union"],
+        rt.alloc(),
+        &[
+            ("", Kind::Syntax, (0, 0), None),
+            ("struct S", Kind::Syntax, (8, 8), None),
+            ("struct S { a: impl X }", Kind::Syntax, (14, 18), None),
+            ("struct S<T, T>;", Kind::DuplicateName, (12, 13), Some("T")),
+            (
+                "struct S { a: u8, r#a: u8 }",
+                Kind::DuplicateName,
+                (18, 21),
+                Some("r#a"),
+            ),
+            (
+                "pub union U { a: u8 }",
+                Kind::NotCarried,
+                (4, 9),
+                Some("union"),
+            ),
+        ],
     )
 }

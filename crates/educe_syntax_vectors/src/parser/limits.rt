@@ -5,6 +5,14 @@ use std::alloc::{AllocError, Global};
 use std::process::Abort;
 use std::test::Fail;
 
+/// Appends a part so often.
+fn push_times(text: &mut String, part: &str, times: usize) -> Result<(), AllocError> {
+    for _ in 0..times {
+        text.push_str(part)?;
+    }
+    Ok(())
+}
+
 /// The text of a part that stands so often between what stands before and behind it.
 fn text(
     alloc: Global,
@@ -16,15 +24,27 @@ fn text(
     let (start, inside, stop) = part;
     let mut text = String::new(alloc);
     text.push_str(before)?;
-    for _ in 0..times {
-        text.push_str(start)?;
-    }
+    push_times(&mut text, start, times)?;
     text.push_str(inside)?;
-    for _ in 0..times {
-        text.push_str(stop)?;
-    }
+    push_times(&mut text, stop, times)?;
     text.push_str(behind)?;
     Ok(text)
+}
+
+/// With each part so often the text gets this answer.
+fn check_times(
+    rt: &impl Abort,
+    alloc: Global,
+    expected: &str,
+    around: (&str, &str),
+    times: usize,
+    parts: &[(&str, &str, &str)],
+) -> Result<(), Fail> {
+    for part in parts {
+        let source = text(alloc, around, *part, times)?;
+        check(rt, alloc, expected, &[source.as_str()])?;
+    }
+    Ok(())
 }
 
 /// With each part so often the text is read, and with it once more it is too deep.
@@ -35,13 +55,9 @@ fn check_limit(
     limit: usize,
     parts: &[(&str, &str, &str)],
 ) -> Result<(), Fail> {
-    for part in parts {
-        let within = text(alloc, around, *part, limit)?;
-        check(rt, alloc, "Ok", &[within.as_str()])?;
-        let past = text(alloc, around, *part, limit.saturating_add(1))?;
-        check(rt, alloc, "TooDeep", &[past.as_str()])?;
-    }
-    Ok(())
+    let past = limit.saturating_add(1);
+    check_times(rt, alloc, "Ok", around, limit, parts)?;
+    check_times(rt, alloc, "TooDeep", around, past, parts)
 }
 
 #[test]
@@ -167,10 +183,12 @@ fn chains_end(rt: HostRuntime) -> Result<(), Fail> {
 
 #[test]
 fn lists_do_not_nest(rt: HostRuntime) -> Result<(), Fail> {
-    let alloc = rt.alloc();
-    for part in [("", "A", ", A"), ("", "A", "::A"), ("", "A", "<B>::C")] {
-        let source = text(alloc, ("struct S(", ");"), part, 1000)?;
-        check(&rt, alloc, "Ok", &[source.as_str()])?;
-    }
-    Ok(())
+    check_times(
+        &rt,
+        rt.alloc(),
+        "Ok",
+        ("struct S(", ");"),
+        1000,
+        &[("", "A", ", A"), ("", "A", "::A"), ("", "A", "<B>::C")],
+    )
 }

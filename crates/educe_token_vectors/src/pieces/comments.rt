@@ -1,74 +1,123 @@
 //! Comments and documentation.
 
+use crate::checks::check;
 use crate::common::characters;
 use educe_pieces::{PieceKind, TokenKind, comment_at, doc_value, ends_line_before};
-use std::alloc::{AllocError, Global};
+use educe_scan::is_piece;
+use std::alloc::Global;
 use std::test::Fail;
 
+/// A comment that is no documentation.
+const COMMENT: PieceKind = PieceKind::Comment;
+
+/// Outer documentation.
+const DOC: PieceKind = PieceKind::Token(TokenKind::Doc);
+
 /// What is found at the front of a text.
-fn found(alloc: Global, text: &str) -> Result<Option<(PieceKind, usize)>, AllocError> {
+fn found(alloc: Global, text: &str) -> Result<Option<(PieceKind, usize)>, Fail> {
     Ok(comment_at(&characters(alloc, text)?))
 }
 
 #[test]
 fn comments(rt: HostRuntime) -> Result<(), Fail> {
-    let table = [
-        ("// a", 4),
-        ("// a\n// b", 4),
-        ("//", 2),
-        ("////", 4),
-        ("/**/", 4),
-        ("/***/", 5),
-        ("/*** a */", 9),
-        ("/* /* */ */ */", 11),
-        ("/* / * /*/ */ */", 16),
-    ];
-    for (text, len) in table {
-        let expected = Some((PieceKind::Comment, len));
-        assert_eq!(rt; found(rt.alloc(), text)?, expected, "at {text}");
-    }
-    Ok(())
+    check(
+        &rt,
+        rt.alloc(),
+        found,
+        &[
+            ("// a", Some((COMMENT, 4))),
+            ("// a\n// b", Some((COMMENT, 4))),
+            ("//", Some((COMMENT, 2))),
+            ("////", Some((COMMENT, 4))),
+            ("/**/", Some((COMMENT, 4))),
+            ("/***/", Some((COMMENT, 5))),
+            ("/*** a */", Some((COMMENT, 9))),
+            ("/* /* */ */ */", Some((COMMENT, 11))),
+            ("/* / * /*/ */ */", Some((COMMENT, 16))),
+        ],
+    )
 }
 
 #[test]
 fn documentation(rt: HostRuntime) -> Result<(), Fail> {
-    let table = [
-        ("/// a", 5),
-        ("///", 3),
-        ("///\n/", 3),
-        ("/** a */", 8),
-        ("/**\n*/ a */", 6),
-        ("/** /* */ */", 12),
-    ];
-    for (text, len) in table {
-        let expected = Some((PieceKind::Token(TokenKind::Doc), len));
-        assert_eq!(rt; found(rt.alloc(), text)?, expected, "at {text}");
-    }
-    Ok(())
+    check(
+        &rt,
+        rt.alloc(),
+        found,
+        &[
+            ("/// a", Some((DOC, 5))),
+            ("///", Some((DOC, 3))),
+            ("///\n/", Some((DOC, 3))),
+            ("/** a */", Some((DOC, 8))),
+            ("/**\n*/ a */", Some((DOC, 6))),
+            ("/** /* */ */", Some((DOC, 12))),
+        ],
+    )
 }
 
 #[test]
 fn none_found(rt: HostRuntime) -> Result<(), Fail> {
-    let table = [
-        "//!", "//! a", "/*! a */", "/* a", "/*/", "/* /* */", "a/*", "/", "",
-    ];
-    for text in table {
-        assert_eq!(rt; found(rt.alloc(), text)?, None, "at {text}");
+    check(
+        &rt,
+        rt.alloc(),
+        found,
+        &[
+            ("//!", None),
+            ("//! a", None),
+            ("/*! a */", None),
+            ("/* a", None),
+            ("/*/", None),
+            ("/* /* */", None),
+            ("a/*", None),
+            ("/", None),
+            ("", None),
+        ],
+    )
+}
+
+/// Whether a comment or documentation may stand before a rest.
+fn may_stand_before(alloc: Global, (spelling, rest): (&str, &str)) -> Result<bool, Fail> {
+    let characters_before = characters(alloc, spelling)?;
+    if !is_piece(COMMENT, &characters_before) && !is_piece(DOC, &characters_before) {
+        return Err(Fail::from(spelling));
     }
-    Ok(())
+    Ok(ends_line_before(&characters_before, &characters(alloc, rest)?))
 }
 
 #[test]
-fn ends_of_lines(rt: HostRuntime) {
-    assert_eq!(rt; ends_line_before(&['/', '/', 'a'], &['b']), false);
-    assert_eq!(rt; ends_line_before(&['/', '/', 'a'], &['\n', 'b']), true);
-    assert_eq!(rt; ends_line_before(&['/', '/', '/'], &[]), true);
-    assert_eq!(rt; ends_line_before(&['/', '*', '*', '/'], &['b']), true);
+fn ends_of_lines(rt: HostRuntime) -> Result<(), Fail> {
+    check(
+        &rt,
+        rt.alloc(),
+        may_stand_before,
+        &[
+            (("//a", "b"), false),
+            (("//a", "\nb"), true),
+            (("///", ""), true),
+            (("/**/", "b"), true),
+        ],
+    )
+}
+
+/// The text of documentation.
+fn doc_text<'a>(alloc: Global, doc: &'a str) -> Result<&'a str, Fail> {
+    if is_piece(DOC, &characters(alloc, doc)?) {
+        Ok(doc_value(doc))
+    } else {
+        Err(Fail::from(doc))
+    }
 }
 
 #[test]
-fn texts(rt: HostRuntime) {
-    assert_eq!(rt; doc_value("/// a\u{2028}"), " a\u{2028}");
-    assert_eq!(rt; doc_value("///"), "");
-    assert_eq!(rt; doc_value("/** /* é */ */"), " /* é */ ");
+fn texts(rt: HostRuntime) -> Result<(), Fail> {
+    check(
+        &rt,
+        rt.alloc(),
+        doc_text,
+        &[
+            ("/// a\u{2028}", " a\u{2028}"),
+            ("///", ""),
+            ("/** /* é */ */", " /* é */ "),
+        ],
+    )
 }

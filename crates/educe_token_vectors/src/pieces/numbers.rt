@@ -1,12 +1,13 @@
 //! Numbers, and the values of integers.
 
+use crate::checks::check;
 use crate::common::characters;
 use educe_pieces::{
     LiteralKind, PieceKind, TokenKind, UncarriedKind, int_value, may_follow_float, may_follow_int,
     number_at,
 };
+use educe_scan::is_piece;
 use std::alloc::Global;
-use std::process::Abort;
 use std::test::Fail;
 
 /// An integer.
@@ -29,13 +30,9 @@ fn number_before_rest(text: &[char]) -> Option<(PieceKind, usize)> {
     if apart { Some((kind, len)) } else { None }
 }
 
-/// Compares which number stands at the front, and how long it is.
-fn check(rt: &impl Abort, alloc: Global, table: &[(&str, PieceKind, usize)]) -> Result<(), Fail> {
-    for (source, kind, len) in table {
-        let text = characters(alloc, source)?;
-        assert_eq!(rt; number_before_rest(&text), Some((*kind, *len)), "{source}");
-    }
-    Ok(())
+/// The number at the front of a text, if it may stand before the rest.
+fn found(alloc: Global, text: &str) -> Result<Option<(PieceKind, usize)>, Fail> {
+    Ok(number_before_rest(&characters(alloc, text)?))
 }
 
 #[test]
@@ -43,28 +40,31 @@ fn integers(rt: HostRuntime) -> Result<(), Fail> {
     check(
         &rt,
         rt.alloc(),
+        found,
         &[
-            ("1", INT, 1),
-            ("007", INT, 3),
-            ("1_000", INT, 5),
-            ("0x_F", INT, 4),
-            ("0x_Fu8", INT, 6),
-            ("0b101i128", INT, 9),
-            ("0o17", INT, 4),
-            ("1u8.5", INT, 3),
-            ("1..2", INT, 1),
-            ("1.a", INT, 1),
-            ("1._", INT, 1),
-            ("1.e5", INT, 1),
-            ("0x1f32", INT, 6),
-            ("0xe+1", INT, 3),
-            ("340282366920938463463374607431768211455", INT, 39),
-            ("340282366920938463463374607431768211456", WIDE_INT, 39),
-            ("0xFFFF_FFFF_FFFF_FFFF_FFFF_FFFF_FFFF_FFFF", INT, 41),
+            ("1", Some((INT, 1))),
+            ("007", Some((INT, 3))),
+            ("1_000", Some((INT, 5))),
+            ("0x_F", Some((INT, 4))),
+            ("0x_Fu8", Some((INT, 6))),
+            ("0b101i128", Some((INT, 9))),
+            ("0o17", Some((INT, 4))),
+            ("1u8.5", Some((INT, 3))),
+            ("1..2", Some((INT, 1))),
+            ("1.a", Some((INT, 1))),
+            ("1._", Some((INT, 1))),
+            ("1.e5", Some((INT, 1))),
+            ("0x1f32", Some((INT, 6))),
+            ("0xe+1", Some((INT, 3))),
+            ("340282366920938463463374607431768211455", Some((INT, 39))),
+            (
+                "340282366920938463463374607431768211456",
+                Some((WIDE_INT, 39)),
+            ),
+            ("0xFFFF_FFFF_FFFF_FFFF_FFFF_FFFF_FFFF_FFFF", Some((INT, 41))),
             (
                 "0x1_0000_0000_0000_0000_0000_0000_0000_0000u8",
-                WIDE_INT,
-                45,
+                Some((WIDE_INT, 45)),
             ),
         ],
     )
@@ -75,43 +75,71 @@ fn floats(rt: HostRuntime) -> Result<(), Fail> {
     check(
         &rt,
         rt.alloc(),
+        found,
         &[
-            ("1.", FLOAT, 2),
-            ("1.+", FLOAT, 2),
-            ("1.5", FLOAT, 3),
-            ("1.5.6", FLOAT, 3),
-            ("1.5e3", FLOAT, 5),
-            ("1e3", FLOAT, 3),
-            ("1E-_5", FLOAT, 5),
-            ("1e+3f64", FLOAT, 7),
-            ("1f32", FLOAT, 4),
-            ("0f32", FLOAT, 4),
-            ("1_f32", FLOAT, 5),
+            ("1.", Some((FLOAT, 2))),
+            ("1.+", Some((FLOAT, 2))),
+            ("1.5", Some((FLOAT, 3))),
+            ("1.5.6", Some((FLOAT, 3))),
+            ("1.5e3", Some((FLOAT, 5))),
+            ("1e3", Some((FLOAT, 3))),
+            ("1E-_5", Some((FLOAT, 5))),
+            ("1e+3f64", Some((FLOAT, 7))),
+            ("1f32", Some((FLOAT, 4))),
+            ("0f32", Some((FLOAT, 4))),
+            ("1_f32", Some((FLOAT, 5))),
         ],
     )
 }
 
 #[test]
 fn no_numbers(rt: HostRuntime) -> Result<(), Fail> {
-    let alloc = rt.alloc();
-    for source in [
-        "0x", "0x_", "0b2", "0b12", "0o8", "1a", "1u9", "1e", "1e+", "1e+_", "1.5f33", "1.5e",
-        "0b1f32", "0x1.5", "0b1.", "1é",
-    ] {
-        let text = characters(alloc, source)?;
-        assert_eq!(rt; number_before_rest(&text), None, "{source}");
+    check(
+        &rt,
+        rt.alloc(),
+        found,
+        &[
+            ("0x", None),
+            ("0x_", None),
+            ("0b2", None),
+            ("0b12", None),
+            ("0o8", None),
+            ("1a", None),
+            ("1u9", None),
+            ("1e", None),
+            ("1e+", None),
+            ("1e+_", None),
+            ("1.5f33", None),
+            ("1.5e", None),
+            ("0b1f32", None),
+            ("0x1.5", None),
+            ("0b1.", None),
+            ("1é", None),
+        ],
+    )
+}
+
+/// The value of an integer.
+fn value(alloc: Global, integer: &str) -> Result<Option<u128>, Fail> {
+    if is_piece(INT, &characters(alloc, integer)?) {
+        Ok(int_value(integer))
+    } else {
+        Err(Fail::from(integer))
     }
-    Ok(())
 }
 
 #[test]
-fn values_of_integers(rt: HostRuntime) {
-    assert_eq!(rt; int_value("1_000"), Some(1000));
-    assert_eq!(rt; int_value("0x_Fu8"), Some(15));
-    assert_eq!(rt; int_value("0o17"), Some(15));
-    assert_eq!(rt; int_value("0b101i128"), Some(5));
-    assert_eq!(rt;
-        int_value("340282366920938463463374607431768211455"),
-        Some(u128::MAX)
-    );
+fn values_of_integers(rt: HostRuntime) -> Result<(), Fail> {
+    check(
+        &rt,
+        rt.alloc(),
+        value,
+        &[
+            ("1_000", Some(1000)),
+            ("0x_Fu8", Some(15)),
+            ("0o17", Some(15)),
+            ("0b101i128", Some(5)),
+            ("340282366920938463463374607431768211455", Some(u128::MAX)),
+        ],
+    )
 }

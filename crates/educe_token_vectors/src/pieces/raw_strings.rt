@@ -1,32 +1,38 @@
 //! Raw strings.
 
+use crate::checks::check;
 use crate::common::characters;
-use educe_pieces::{raw_len, raw_value};
-use std::alloc::{AllocError, Global};
+use educe_pieces::{LiteralKind, PieceKind, TokenKind, begins_with, raw_len, raw_value};
+use educe_scan::is_piece;
+use std::alloc::Global;
 use std::test::Fail;
 
+/// A string, raw or not.
+const STR: PieceKind = PieceKind::Token(TokenKind::Literal(LiteralKind::Str));
+
 /// How many characters the raw text at the front has.
-fn found(alloc: Global, text: &str) -> Result<Option<usize>, AllocError> {
+fn found(alloc: Global, text: &str) -> Result<Option<usize>, Fail> {
     Ok(raw_len(&characters(alloc, text)?))
 }
 
 #[test]
 fn raw_texts(rt: HostRuntime) -> Result<(), Fail> {
-    let table = [
-        ("\"\"", Some(2)),
-        ("\"\"\"", Some(2)),
-        ("#\"a\"b\"#", Some(7)),
-        ("#\"a\"b\"##", Some(7)),
-        ("##\"a\"#\"##", Some(9)),
-        ("#\"a\"", None),
-        ("\"a", None),
-        ("#a", None),
-        ("", None),
-    ];
-    for (text, len) in table {
-        assert_eq!(rt; found(rt.alloc(), text)?, len, "at {text}");
-    }
-    Ok(())
+    check(
+        &rt,
+        rt.alloc(),
+        found,
+        &[
+            ("\"\"", Some(2)),
+            ("\"\"\"", Some(2)),
+            ("#\"a\"b\"#", Some(7)),
+            ("#\"a\"b\"##", Some(7)),
+            ("##\"a\"#\"##", Some(9)),
+            ("#\"a\"", None),
+            ("\"a", None),
+            ("#a", None),
+            ("", None),
+        ],
+    )
 }
 
 #[test]
@@ -41,9 +47,26 @@ fn at_most_255_marks(rt: HostRuntime) {
     assert_eq!(rt; raw_len(&more), None);
 }
 
+/// The value of a raw string.
+fn value<'a>(alloc: Global, literal: &'a str) -> Result<&'a str, Fail> {
+    let text = characters(alloc, literal)?;
+    if begins_with(&text, 'r') && is_piece(STR, &text) {
+        Ok(raw_value(literal))
+    } else {
+        Err(Fail::from(literal))
+    }
+}
+
 #[test]
-fn values(rt: HostRuntime) {
-    assert_eq!(rt; raw_value("r\"\""), "");
-    assert_eq!(rt; raw_value("r#\"a\"b\"#"), "a\"b");
-    assert_eq!(rt; raw_value("r##\"a\"#\"##"), "a\"#");
+fn values(rt: HostRuntime) -> Result<(), Fail> {
+    check(
+        &rt,
+        rt.alloc(),
+        value,
+        &[
+            ("r\"\"", ""),
+            ("r#\"a\"b\"#", "a\"b"),
+            ("r##\"a\"#\"##", "a\"#"),
+        ],
+    )
 }

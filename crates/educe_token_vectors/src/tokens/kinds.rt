@@ -3,10 +3,10 @@
 //! as pieces that are carried, it gives the same kinds and the same jointness, but for the differences
 //! that `docs/DECISIONS.md` names.
 
+use crate::checks::check_texts;
 use crate::common::lex_answer;
 use educe_tokens::{Kind, LiteralKind, TokenKind, TokenStream};
 use std::alloc::Global;
-use std::process::Abort;
 use std::test::Fail;
 
 /// The name of a kind; a joint punctuation character has a `+` behind it.
@@ -56,20 +56,12 @@ fn answer(alloc: Global, source: &str) -> Result<String, Fail> {
     }
 }
 
-/// Compares what `lex` answers.
-fn check(rt: &impl Abort, alloc: Global, table: &[(&str, &str)]) -> Result<(), Fail> {
-    for (source, expected) in table {
-        let answer = answer(alloc, source)?;
-        assert_eq!(rt; answer.as_str(), *expected, "{source}");
-    }
-    Ok(())
-}
-
 #[test]
 fn blanks(rt: HostRuntime) -> Result<(), Fail> {
-    check(
+    check_texts(
         &rt,
         rt.alloc(),
+        answer,
         &[
             (
                 "\t\u{B}\u{C}\r\n \u{85}\u{200E}\u{200F}\u{2028}\u{2029}a",
@@ -83,9 +75,10 @@ fn blanks(rt: HostRuntime) -> Result<(), Fail> {
 
 #[test]
 fn comments(rt: HostRuntime) -> Result<(), Fail> {
-    check(
+    check_texts(
         &rt,
         rt.alloc(),
+        answer,
         &[
             ("// a", ""),
             ("//", ""),
@@ -107,9 +100,10 @@ fn comments(rt: HostRuntime) -> Result<(), Fail> {
 
 #[test]
 fn documentation(rt: HostRuntime) -> Result<(), Fail> {
-    check(
+    check_texts(
         &rt,
         rt.alloc(),
+        answer,
         &[
             ("///", "Doc"),
             ("/// a\nb", "Doc Ident"),
@@ -124,9 +118,10 @@ fn documentation(rt: HostRuntime) -> Result<(), Fail> {
 
 #[test]
 fn identifiers(rt: HostRuntime) -> Result<(), Fail> {
-    check(
+    check_texts(
         &rt,
         rt.alloc(),
+        answer,
         &[
             ("a", "Ident"),
             ("_", "Ident"),
@@ -154,9 +149,10 @@ fn identifiers(rt: HostRuntime) -> Result<(), Fail> {
 
 #[test]
 fn lifetimes(rt: HostRuntime) -> Result<(), Fail> {
-    check(
+    check_texts(
         &rt,
         rt.alloc(),
+        answer,
         &[
             ("'a", "Lifetime"),
             ("'_", "Lifetime"),
@@ -171,9 +167,10 @@ fn lifetimes(rt: HostRuntime) -> Result<(), Fail> {
 
 #[test]
 fn integers(rt: HostRuntime) -> Result<(), Fail> {
-    check(
+    check_texts(
         &rt,
         rt.alloc(),
+        answer,
         &[
             ("0", "Int"),
             ("1_000_", "Int"),
@@ -210,9 +207,10 @@ fn integers(rt: HostRuntime) -> Result<(), Fail> {
 
 #[test]
 fn floats(rt: HostRuntime) -> Result<(), Fail> {
-    check(
+    check_texts(
         &rt,
         rt.alloc(),
+        answer,
         &[
             ("1.", "NotCarried 0..2"),
             ("1.5", "NotCarried 0..3"),
@@ -234,9 +232,10 @@ fn floats(rt: HostRuntime) -> Result<(), Fail> {
 
 #[test]
 fn characters(rt: HostRuntime) -> Result<(), Fail> {
-    check(
+    check_texts(
         &rt,
         rt.alloc(),
+        answer,
         &[
             ("'a'", "Char"),
             ("'é'", "Char"),
@@ -267,9 +266,10 @@ fn characters(rt: HostRuntime) -> Result<(), Fail> {
 
 #[test]
 fn bytes(rt: HostRuntime) -> Result<(), Fail> {
-    check(
+    check_texts(
         &rt,
         rt.alloc(),
+        answer,
         &[
             ("b'a'", "Byte"),
             ("b'\\xff'", "Byte"),
@@ -285,9 +285,10 @@ fn bytes(rt: HostRuntime) -> Result<(), Fail> {
 
 #[test]
 fn strings(rt: HostRuntime) -> Result<(), Fail> {
-    check(
+    check_texts(
         &rt,
         rt.alloc(),
+        answer,
         &[
             ("\"\"", "Str"),
             ("\"a\"", "Str"),
@@ -309,9 +310,10 @@ fn strings(rt: HostRuntime) -> Result<(), Fail> {
 
 #[test]
 fn byte_strings(rt: HostRuntime) -> Result<(), Fail> {
-    check(
+    check_texts(
         &rt,
         rt.alloc(),
+        answer,
         &[
             ("b\"\"", "ByteStr"),
             ("b\"a\\xff\\\n b\"", "ByteStr"),
@@ -324,9 +326,10 @@ fn byte_strings(rt: HostRuntime) -> Result<(), Fail> {
 
 #[test]
 fn raw_strings(rt: HostRuntime) -> Result<(), Fail> {
-    check(
+    check_texts(
         &rt,
         rt.alloc(),
+        answer,
         &[
             ("r\"\"", "Str"),
             ("r\"\\\"", "Str"),
@@ -350,9 +353,10 @@ fn raw_strings(rt: HostRuntime) -> Result<(), Fail> {
 
 #[test]
 fn c_strings(rt: HostRuntime) -> Result<(), Fail> {
-    check(
+    check_texts(
         &rt,
         rt.alloc(),
+        answer,
         &[
             ("c\"a\"", "NotCarried 0..4"),
             ("c\"é\\xff\\u{1}\"", "NotCarried 0..14"),
@@ -368,9 +372,10 @@ fn c_strings(rt: HostRuntime) -> Result<(), Fail> {
 
 #[test]
 fn punctuation(rt: HostRuntime) -> Result<(), Fail> {
-    check(
+    check_texts(
         &rt,
         rt.alloc(),
+        answer,
         &[
             ("+=", "Punct+ Punct"),
             ("+ =", "Punct Punct"),
@@ -389,9 +394,10 @@ fn punctuation(rt: HostRuntime) -> Result<(), Fail> {
 
 #[test]
 fn brackets(rt: HostRuntime) -> Result<(), Fail> {
-    check(
+    check_texts(
         &rt,
         rt.alloc(),
+        answer,
         &[
             ("()", "Start Stop"),
             ("([{}])", "Start Start Start Stop Stop Stop"),

@@ -1,35 +1,49 @@
 //! The printed text of tokens.
 
-use educe_tokens::{Seq, have_no_doc, lex, quote, text};
+use crate::checks::{check_text, check_texts};
+use educe_tokens::{SOURCE_LIMIT, Seq, have_no_doc, lex, quote, text};
+use std::alloc::Global;
 use std::test::Fail;
+
+/// The printed text of a template.
+fn quoted(alloc: Global) -> Result<String, Fail> {
+    let mut tokens = Seq::new(alloc);
+    quote(alloc, &mut tokens, "# [ a :: b ]")?;
+    Ok(text(alloc, &tokens)?)
+}
 
 #[test]
 fn one_space_between_tokens(rt: HostRuntime) -> Result<(), Fail> {
-    let alloc = rt.alloc();
-    let mut tokens = Seq::new(alloc);
-    quote(alloc, &mut tokens, "# [ a :: b ]")?;
-    assert_eq!(rt; text(alloc, &tokens)?.as_str(), "# [ a :: b ]");
-    Ok(())
+    check_text(&rt, quoted(rt.alloc()), "# [ a :: b ]")
+}
+
+/// The printed text of what was read.
+fn printed(alloc: Global, source: &str) -> Result<String, Fail> {
+    if source.len() > SOURCE_LIMIT {
+        return Err(Fail::from("too long"));
+    }
+    let Ok(tokens) = lex(alloc, source) else {
+        return Err(Fail::from(source));
+    };
+    if !have_no_doc(&tokens) {
+        return Err(Fail::from("documentation"));
+    }
+    Ok(text(alloc, &tokens)?)
 }
 
 #[test]
 fn prints_what_was_read(rt: HostRuntime) -> Result<(), Fail> {
-    let alloc = rt.alloc();
-    for (source, printed) in [
-        ("a/* x /* y */ */b", "a b"),
-        ("1..2", "1 .. 2"),
-        (
-            "<<'a>::é(r#fn,\"\\u{41}\")-1u8 // x",
-            "<< 'a >:: é ( r#fn , \"\\u{41}\" ) - 1u8",
-        ),
-    ] {
-        let Ok(tokens) = lex(alloc, source) else {
-            return Err(Fail::from(source));
-        };
-        if !have_no_doc(&tokens) {
-            return Err(Fail::from(source));
-        }
-        assert_eq!(rt; text(alloc, &tokens)?.as_str(), printed, "{source}");
-    }
-    Ok(())
+    check_texts(
+        &rt,
+        rt.alloc(),
+        printed,
+        &[
+            ("a/* x /* y */ */b", "a b"),
+            ("1..2", "1 .. 2"),
+            (
+                "<<'a>::é(r#fn,\"\\u{41}\")-1u8 // x",
+                "<< 'a >:: é ( r#fn , \"\\u{41}\" ) - 1u8",
+            ),
+        ],
+    )
 }

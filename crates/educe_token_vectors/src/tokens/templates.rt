@@ -1,76 +1,135 @@
 //! Tokens of templates, parts of lists, and copies.
 
-use educe_tokens::{Bracket, Seq, Span, TokenKind, TokenSlice, Written, append_written, quote};
+use crate::checks::{check_text, check_texts};
+use crate::tokens::described::described;
+use educe_tokens::{Seq, TokenSlice, Written, append_written, quote};
+use std::alloc::{AllocError, Global};
 use std::test::Fail;
 
-#[test]
+/// The tokens of a template, and behind them those of an equal list that may be printed anywhere.
 #[tactic(auto, unfolding(educe_tokens::specs::Quote::quoted))]
-fn quotes_and_appends(rt: HostRuntime) -> Result<(), Fail> {
-    let alloc = rt.alloc();
+fn quoted_twice(alloc: Global) -> Result<String, Fail> {
     let mut tokens = Seq::new(alloc);
     quote(alloc, &mut tokens, "fn f_1 ( & self ) -> :: X { _ }")?;
     let copy = Written::from_template(alloc, "fn f_1 ( & self ) -> :: X { _ }")?;
     append_written(alloc, &mut tokens, &copy)?;
-    let pieces = [
-        ("fn", TokenKind::Ident),
-        ("f_1", TokenKind::Ident),
-        ("(", TokenKind::Start(Bracket::Round)),
-        ("&", TokenKind::Punct('&', false)),
-        ("self", TokenKind::Ident),
-        (")", TokenKind::Stop(Bracket::Round)),
-        ("-", TokenKind::Punct('-', true)),
-        (">", TokenKind::Punct('>', false)),
-        (":", TokenKind::Punct(':', true)),
-        (":", TokenKind::Punct(':', false)),
-        ("X", TokenKind::Ident),
-        ("{", TokenKind::Start(Bracket::Curly)),
-        ("_", TokenKind::Ident),
-        ("}", TokenKind::Stop(Bracket::Curly)),
-    ];
-    assert_eq!(rt; tokens.len(), 2 * pieces.len());
-    for (token, (text, kind)) in tokens.as_slice().iter().zip(pieces) {
-        assert!(rt; token.spelling.is(text), "{text}");
-        assert_eq!(rt; token.kind, kind, "{text}");
-        assert_eq!(rt; token.span, Span::NONE, "{text}");
+    described(alloc, tokens.as_slice())
+}
+
+#[test]
+fn quotes_and_appends(rt: HostRuntime) -> Result<(), Fail> {
+    check_text(
+        &rt,
+        quoted_twice(rt.alloc()),
+        "0..0 Ident fn\n\
+         0..0 Ident f_1\n\
+         0..0 Start(Round) (\n\
+         0..0 Punct('&', false) &\n\
+         0..0 Ident self\n\
+         0..0 Stop(Round) )\n\
+         0..0 Punct('-', true) -\n\
+         0..0 Punct('>', false) >\n\
+         0..0 Punct(':', true) :\n\
+         0..0 Punct(':', false) :\n\
+         0..0 Ident X\n\
+         0..0 Start(Curly) {\n\
+         0..0 Ident _\n\
+         0..0 Stop(Curly) }\n\
+         0..0 Ident fn\n\
+         0..0 Ident f_1\n\
+         0..0 Start(Round) (\n\
+         0..0 Punct('&', false) &\n\
+         0..0 Ident self\n\
+         0..0 Stop(Round) )\n\
+         0..0 Punct('-', true) -\n\
+         0..0 Punct('>', false) >\n\
+         0..0 Punct(':', true) :\n\
+         0..0 Punct(':', false) :\n\
+         0..0 Ident X\n\
+         0..0 Start(Curly) {\n\
+         0..0 Ident _\n\
+         0..0 Stop(Curly) }\n",
+    )
+}
+
+/// The spellings of tokens, with a blank between two, and how many there are.
+fn spellings(alloc: Global, tokens: &TokenSlice) -> Result<String, AllocError> {
+    if tokens.is_empty() {
+        return String::from_str(alloc, "none");
     }
-    Ok(())
+    let mut spellings = format!(in alloc; "{}:", tokens.len())?;
+    for token in tokens.as_slice() {
+        spellings.push(' ')?;
+        spellings.push_str(token.spelling.as_str())?;
+    }
+    Ok(spellings)
+}
+
+/// A part of a list, which is given away.
+fn part(all: TokenSlice, (start, end): (usize, usize)) -> Result<TokenSlice, Fail> {
+    if start > end || end > all.len() {
+        return Err(Fail::from("no such part"));
+    }
+    Ok(all.part(start, end)?.duplicate()?)
+}
+
+/// The spellings of a part of a part, when the lists around it are gone.
+fn part_of_part(
+    alloc: Global,
+    (outer, inner): ((usize, usize), (usize, usize)),
+) -> Result<String, Fail> {
+    let mut tokens = Seq::new(alloc);
+    quote(alloc, &mut tokens, "a :: b c")?;
+    let part_of_all = part(TokenSlice::new(alloc, tokens)?, outer)?;
+    Ok(spellings(alloc, &part(part_of_all, inner)?)?)
 }
 
 #[test]
 fn parts_share_a_list(rt: HostRuntime) -> Result<(), Fail> {
-    let alloc = rt.alloc();
-    let mut tokens = Seq::new(alloc);
-    quote(alloc, &mut tokens, "a :: b c")?;
-    let all = TokenSlice::new(alloc, tokens)?;
-    assert!(rt; all.len() == 5);
-    let part = all.part(1, 4)?;
-    assert!(rt; part.len() == 3);
-    assert!(rt; part.as_slice()[0].spelling.is(":"));
-    let last = part.part(2, 3)?.duplicate()?;
-    drop(all);
-    assert!(rt; last.len() == 1);
-    assert!(rt; last.as_slice()[0].spelling.is("b"));
-    assert!(rt; !last.is_empty());
-    assert!(rt; part.part(3, 3)?.is_empty());
-    Ok(())
+    check_texts(
+        &rt,
+        rt.alloc(),
+        part_of_part,
+        &[
+            (((0, 5), (0, 5)), "5: a : : b c"),
+            (((1, 4), (0, 3)), "3: : : b"),
+            (((1, 4), (2, 3)), "1: b"),
+            (((1, 4), (3, 3)), "none"),
+        ],
+    )
 }
 
-// The part `a:` of `a::b`.
-#[test]
-fn a_copy_ends_apart(rt: HostRuntime) -> Result<(), Fail> {
-    let alloc = rt.alloc();
+/// The part `a:` of `a::b`.
+fn front(alloc: Global) -> Result<Written, Fail> {
     let mut tokens = Seq::new(alloc);
     quote(alloc, &mut tokens, "a :: b")?;
     let all = TokenSlice::new(alloc, tokens)?;
-    assert!(rt; all.len() == 4);
-    let written = Written::new(all.part(0, 2)?).duplicate()?;
-    let last = written.tokens().as_slice().last().ok_or("no token")?;
-    assert_eq!(rt; last.kind, TokenKind::Punct(':', true));
+    if all.len() != 4 {
+        return Err(Fail::from("not 4 tokens"));
+    }
+    Ok(Written::new(all.part(0, 2)?).duplicate()?)
+}
+
+/// The part as it is.
+fn original(alloc: Global) -> Result<String, Fail> {
+    described(alloc, front(alloc)?.tokens().as_slice())
+}
+
+/// The part as it is copied to another place.
+fn copy(alloc: Global) -> Result<String, Fail> {
+    let written = front(alloc)?;
     let mut copies = Seq::new(alloc);
     append_written(alloc, &mut copies, &written)?;
-    assert_eq!(rt; copies.len(), 2);
-    let copy = copies.get(1).ok_or("no copy")?;
-    assert_eq!(rt; copy.kind, TokenKind::Punct(':', false));
-    assert_eq!(rt; copy.span, last.span);
-    Ok(())
+    described(alloc, copies.as_slice())
+}
+
+#[test]
+fn a_copy_ends_apart(rt: HostRuntime) -> Result<(), Fail> {
+    let alloc = rt.alloc();
+    check_text(
+        &rt,
+        original(alloc),
+        "0..0 Ident a\n0..0 Punct(':', true) :\n",
+    )?;
+    check_text(&rt, copy(alloc), "0..0 Ident a\n0..0 Punct(':', false) :\n")
 }

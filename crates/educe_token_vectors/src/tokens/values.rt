@@ -1,26 +1,30 @@
 //! Spans and values of tokens.
 
+use crate::checks::{check, check_text, check_texts};
 use crate::common::lexed;
-use educe_tokens::{Span, Token, int_value, string_value};
-use std::alloc::Global;
-use std::process::Abort;
+use crate::tokens::described::described;
+use educe_tokens::{Token, int_value, string_value};
+use std::alloc::{AllocError, Global};
 use std::test::Fail;
+
+/// Where the tokens of a text stand, and what they are.
+fn tokens(alloc: Global, source: &str) -> Result<String, Fail> {
+    described(alloc, lexed(alloc, source)?.as_slice())
+}
 
 #[test]
 fn spans_in_bytes(rt: HostRuntime) -> Result<(), Fail> {
-    let alloc = rt.alloc();
-    let tokens = lexed(alloc, "struct é\u{2028}{ a: u8 }")?;
-    assert_eq!(rt; tokens.len(), 7);
-    let starts = [0, 7, 12, 14, 15, 17, 20];
-    let ends = [6, 9, 13, 15, 16, 19, 21];
-    for i in 0..7usize {
-        let Some(token) = tokens.get(i) else {
-            return Err(Fail::from("short"));
-        };
-        let (start, end) = (starts[i], ends[i]);
-        assert_eq!(rt; token.span, Span { start, end });
-    }
-    Ok(())
+    check_text(
+        &rt,
+        tokens(rt.alloc(), "struct é\u{2028}{ a: u8 }"),
+        "0..6 Ident struct\n\
+         7..9 Ident é\n\
+         12..13 Start(Curly) {\n\
+         14..15 Ident a\n\
+         15..16 Punct(':', false) :\n\
+         17..19 Ident u8\n\
+         20..21 Stop(Curly) }\n",
+    )
 }
 
 /// The one token of a text.
@@ -32,54 +36,65 @@ fn token(alloc: Global, source: &str) -> Result<Token, Fail> {
     }
 }
 
-#[test]
-fn integers(rt: HostRuntime) -> Result<(), Fail> {
-    let alloc = rt.alloc();
-    for (source, value) in [
-        ("1", Some(1)),
-        ("007", Some(7)),
-        ("1_000", Some(1000)),
-        ("0x_Fu8", Some(15)),
-        ("0b1010usize", Some(10)),
-        ("0o17_i128", Some(15)),
-        ("340282366920938463463374607431768211455", Some(u128::MAX)),
-        ("_1", None),
-        ("'1'", None),
-    ] {
-        assert_eq!(rt; int_value(&token(alloc, source)?), value, "{source}");
-    }
-    Ok(())
+/// The integer value of the one token of a text.
+fn integer(alloc: Global, source: &str) -> Result<Option<u128>, Fail> {
+    Ok(int_value(&token(alloc, source)?))
 }
 
-/// Compares what the string value of the one token of a text is.
-fn check(rt: &impl Abort, alloc: Global, source: &str, value: Option<&str>) -> Result<(), Fail> {
-    let found = string_value(alloc, &token(alloc, source)?)?;
-    match (&found, value) {
-        (Some(found), Some(value)) => assert_eq!(rt; found.as_str(), value, "{source}"),
-        (None, None) => {}
-        _ => return Err(Fail::from(source)),
+#[test]
+fn integers(rt: HostRuntime) -> Result<(), Fail> {
+    check(
+        &rt,
+        rt.alloc(),
+        integer,
+        &[
+            ("1", Some(1)),
+            ("007", Some(7)),
+            ("1_000", Some(1000)),
+            ("0x_Fu8", Some(15)),
+            ("0b1010usize", Some(10)),
+            ("0o17_i128", Some(15)),
+            ("340282366920938463463374607431768211455", Some(u128::MAX)),
+            ("_1", None),
+            ("'1'", None),
+        ],
+    )
+}
+
+/// The text, where there is one.
+fn or_no_string(alloc: Global, value: Option<String>) -> Result<String, AllocError> {
+    match value {
+        Some(value) => Ok(value),
+        None => String::from_str(alloc, "no string"),
     }
-    Ok(())
+}
+
+/// The string value of the one token of a text, where it has one.
+fn string(alloc: Global, source: &str) -> Result<String, Fail> {
+    let token = token(alloc, source)?;
+    let value = string_value(alloc, &token)?;
+    Ok(or_no_string(alloc, value)?)
 }
 
 #[test]
 fn strings(rt: HostRuntime) -> Result<(), Fail> {
-    let alloc = rt.alloc();
-    for (source, value) in [
-        ("\"a\"", Some("a")),
-        ("\"\\n\\r\\t\\\\\\0\\'\\\"\"", Some("\n\r\t\\\0'\"")),
-        ("\"\\x41\\u{1_F600}\"", Some("A\u{1F600}")),
-        ("\"a\\\n \t\r\n b\"", Some("ab")),
-        ("\"a\\\r\n b\"", Some("ab")),
-        ("r\"\\n\"", Some("\\n")),
-        ("r#\"a\"b\"#", Some("a\"b")),
-        ("/// a", Some(" a")),
-        ("/** a */", Some(" a ")),
-        ("b\"a\"", None),
-        ("'a'", None),
-        ("a", None),
-    ] {
-        check(&rt, alloc, source, value)?;
-    }
-    Ok(())
+    check_texts(
+        &rt,
+        rt.alloc(),
+        string,
+        &[
+            ("\"a\"", "a"),
+            ("\"\\n\\r\\t\\\\\\0\\'\\\"\"", "\n\r\t\\\0'\""),
+            ("\"\\x41\\u{1_F600}\"", "A\u{1F600}"),
+            ("\"a\\\n \t\r\n b\"", "ab"),
+            ("\"a\\\r\n b\"", "ab"),
+            ("r\"\\n\"", "\\n"),
+            ("r#\"a\"b\"#", "a\"b"),
+            ("/// a", " a"),
+            ("/** a */", " a "),
+            ("b\"a\"", "no string"),
+            ("'a'", "no string"),
+            ("a", "no string"),
+        ],
+    )
 }

@@ -1,146 +1,141 @@
 //! Keys of fields, and bodies that read fields by them.
 
-use educe_body::{
-    Answers, Body, Callee, FieldValue, Form, Forms, Outcome, Scope, Value, built_in_path, eval,
-    key_word,
-};
-use educe_tokens::{Seq, Span, TokenSlice, Word, Written};
-use educe_tree::{
-    DeriveInput, Field, FieldForm, FieldShape, Fields, Generics, Ident, Shape, Ty, TypeForm,
-};
+use crate::body::{call, list, list_of_two, pair};
+use crate::common::{check_equal, definition, table, value};
+use educe_body::{Body, Callee, Form, Outcome, Scope, eval, key_word};
+use educe_tokens::{Seq, Word};
+use educe_tree::{DeriveInput, Field, Ident, Shape};
 use std::alloc::{AllocError, Global};
 use std::cmp::Ordering;
+use std::process::Abort;
 use std::test::Fail;
 
-/// A field, by this name where there is one.
-#[tactic(auto, unfolding(educe_tokens::specs::Quote::quoted))]
-fn field(alloc: Global, ident: Option<Ident>) -> Result<Field, AllocError> {
-    let written = Written::from_template(alloc, "a")?;
-    let form = TypeForm::Never;
-    Ok(Field {
-        attrs: Seq::new(alloc),
-        ident,
-        ty: Ty { form, written },
-        span: Span::NONE,
-    })
+/// The field of a struct at an index.
+fn field(ast: &DeriveInput, index: usize) -> Option<&Field> {
+    match &ast.shape {
+        Shape::Struct(shape) => shape.fields.get(index),
+        Shape::Enum(_) => None,
+    }
 }
 
-#[test]
-fn keys_are_names_and_places(rt: HostRuntime) -> Result<(), Fail> {
-    let alloc = rt.alloc();
-    let named = field(alloc, Some(Ident::from_name(alloc, "x")?))?;
-    assert_eq!(rt; key_word(alloc, 3, &named)?.as_str(), "x");
-    let unnamed = field(alloc, None)?;
-    for (place, key) in [
-        (0, "0"),
-        (9, "9"),
-        (10, "10"),
-        (usize::MAX, "18446744073709551615"),
-    ] {
-        assert_eq!(rt; key_word(alloc, place, &unnamed)?.as_str(), key);
+/// The key of the field of a struct at an index, were it at this place.
+fn key_in(alloc: Global, ast: &DeriveInput, index: usize, place: usize) -> Result<Word, Fail> {
+    let field = field(ast, index).ok_or("no field")?;
+    Ok(key_word(alloc, place, field)?)
+}
+
+/// The same of the struct that a text is.
+fn key(alloc: Global, source: &str, index: usize, place: usize) -> Result<Word, Fail> {
+    key_in(alloc, &definition(alloc, source)?, index, place)
+}
+
+/// The key of the first field at each of the places.
+fn check_keys(rt: &impl Abort, alloc: Global, cases: &[(&str, usize, &str)]) -> Result<(), Fail> {
+    for (source, place, expected) in cases {
+        let found = key(alloc, source, 0, *place)?;
+        check_equal(rt, source, found.as_str(), *expected);
     }
     Ok(())
 }
 
-/// The definition `S` of this shape.
-fn definition(alloc: Global, shape: Shape) -> Result<DeriveInput, AllocError> {
-    Ok(DeriveInput {
-        attrs: Seq::new(alloc),
-        ident: Ident::from_name(alloc, "S")?,
-        generics: Generics {
-            params: Seq::new(alloc),
-            predicates: Seq::new(alloc),
-        },
-        shape,
-        tokens: TokenSlice::new(alloc, Seq::new(alloc))?,
-    })
+#[test]
+fn keys_are_names_and_places(rt: HostRuntime) -> Result<(), Fail> {
+    check_keys(
+        &rt,
+        rt.alloc(),
+        &[
+            ("struct S { x: u8 }", 3, "x"),
+            ("struct S(u8);", 0, "0"),
+            ("struct S(u8);", 9, "9"),
+            ("struct S(u8);", 10, "10"),
+            ("struct S(u8);", usize::MAX, "18446744073709551615"),
+        ],
+    )
 }
 
-/// The shape of two fields that are written so.
-fn shape(form: FieldForm, fields: Fields) -> Shape {
-    Shape::Struct(FieldShape { form, fields })
-}
-
-/// Two fields without names.
-fn unnamed(alloc: Global) -> Result<Shape, AllocError> {
-    let mut fields = Seq::new(alloc);
-    fields.push(field(alloc, None)?)?;
-    fields.push(field(alloc, None)?)?;
-    Ok(shape(FieldForm::Unnamed, fields))
-}
-
-/// The fields `x` and `y`.
-fn named(alloc: Global) -> Result<Shape, AllocError> {
-    let mut fields = Seq::new(alloc);
-    fields.push(field(alloc, Some(Ident::from_name(alloc, "x")?))?)?;
-    fields.push(field(alloc, Some(Ident::from_name(alloc, "y")?))?)?;
-    Ok(shape(FieldForm::Named, fields))
+/// A field of `self`.
+fn read(alloc: Global, key: Word) -> Result<Form, AllocError> {
+    let base = Ident::from_name(alloc, "self")?;
+    Ok(Form::Reference(base, key))
 }
 
 /// The comparison of two fields of `self` by these keys.
 fn compared(alloc: Global, first: Word, second: Word) -> Result<Body, AllocError> {
-    let mut arguments = Forms::new(alloc);
-    arguments.push(Form::Reference(Ident::from_name(alloc, "self")?, first))?;
-    arguments.push(Form::Reference(Ident::from_name(alloc, "self")?, second))?;
-    let path = built_in_path(alloc, &Callee::Cmp)?;
-    let mut block = Forms::new(alloc);
-    block.push(Form::Call(path, arguments))?;
-    Ok(Body {
-        params: Seq::new(alloc),
-        block,
-    })
+    let arguments = list_of_two(alloc, read(alloc, first), read(alloc, second));
+    let block = list(alloc, call(alloc, Callee::Cmp, arguments))?;
+    let params = Seq::new(alloc);
+    Ok(Body { params, block })
 }
 
-/// A definition and a value for `self`, without one for a parameter.
-fn scope<'a>(ast: &'a DeriveInput, this: &'a Value) -> Scope<'a> {
-    let this = Some(this);
+/// What a body without parameters gives over the values 5 and 7.
+fn evaluated(alloc: Global, ast: &DeriveInput, body: &Body) -> Result<Outcome, Fail> {
+    let this = value(alloc, &[5, 7])?;
+    let answers = table(alloc, &[])?;
+    let this = Some(&this);
     let other = None;
-    Scope { ast, this, other }
+    Ok(eval(alloc, body, &Scope { ast, this, other }, &answers)?)
 }
 
-/// What the comparison gives over the values 5 and 7.
-fn order(alloc: Global, shape: Shape, first: Word, second: Word) -> Result<Outcome, AllocError> {
-    let ast = definition(alloc, shape)?;
-    let mut fields = Seq::new(alloc);
-    fields.push(FieldValue { ty: 0, number: 5 })?;
-    fields.push(FieldValue { ty: 0, number: 7 })?;
-    let value = Value { variant: 0, fields };
-    let answers = Answers {
-        rows: Seq::new(alloc),
-        by_number: true,
-    };
-    let body = compared(alloc, first, second)?;
-    eval(alloc, &body, &scope(&ast, &value), &answers)
+/// What the comparison gives in a definition.
+fn order_in(alloc: Global, ast: &DeriveInput, first: Word, second: Word) -> Result<Outcome, Fail> {
+    evaluated(alloc, ast, &compared(alloc, first, second)?)
 }
 
-/// The key of a field without a name.
-fn index(alloc: Global, place: usize) -> Result<Word, AllocError> {
-    key_word(alloc, place, &field(alloc, None)?)
+/// What the comparison gives, by the keys that the fields of another definition have at these places.
+fn order(
+    alloc: Global,
+    source: &str,
+    keys: &str,
+    first: usize,
+    second: usize,
+) -> Result<Outcome, Fail> {
+    let first = key(alloc, keys, first, first)?;
+    let second = key(alloc, keys, second, second)?;
+    order_in(alloc, &definition(alloc, source)?, first, second)
 }
+
+/// A definition, one whose fields have the keys, the places of two of these, and what the comparison
+/// gives.
+type Case<'a> = (&'a str, &'a str, usize, usize, Outcome);
+
+/// What the comparison gives in each of the definitions.
+fn check_orders(rt: &impl Abort, alloc: Global, cases: &[Case]) -> Result<(), Fail> {
+    for (source, keys, first, second, expected) in cases {
+        let found = order(alloc, source, keys, *first, *second)?;
+        check_equal(rt, source, found, *expected);
+    }
+    Ok(())
+}
+
+const LESS: Outcome = Outcome::Order(Ordering::Less);
+
+const GREATER: Outcome = Outcome::Order(Ordering::Greater);
 
 #[test]
 fn reads_fields_by_their_places(rt: HostRuntime) -> Result<(), Fail> {
-    let alloc = rt.alloc();
-    let found = order(alloc, unnamed(alloc)?, index(alloc, 0)?, index(alloc, 1)?)?;
-    assert_eq!(rt; found, Outcome::Order(Ordering::Less));
-    let found = order(alloc, unnamed(alloc)?, index(alloc, 1)?, index(alloc, 0)?)?;
-    assert_eq!(rt; found, Outcome::Order(Ordering::Greater));
-    let found = order(alloc, unnamed(alloc)?, index(alloc, 1)?, index(alloc, 2)?)?;
-    assert_eq!(rt; found, Outcome::Stuck);
-    Ok(())
+    let keys = "struct S(u8, u8, u8);";
+    check_orders(
+        &rt,
+        rt.alloc(),
+        &[
+            ("struct S(u8, u8);", keys, 0, 1, LESS),
+            ("struct S(u8, u8);", keys, 1, 0, GREATER),
+            ("struct S(u8, u8);", keys, 1, 2, Outcome::Stuck),
+        ],
+    )
 }
 
 #[test]
 fn reads_fields_by_their_names(rt: HostRuntime) -> Result<(), Fail> {
-    let alloc = rt.alloc();
-    let x = Word::from_name(alloc, "x")?;
-    let y = Word::from_name(alloc, "y")?;
-    let found = order(alloc, named(alloc)?, x, y)?;
-    assert_eq!(rt; found, Outcome::Order(Ordering::Less));
-    let found = order(alloc, named(alloc)?, index(alloc, 0)?, index(alloc, 1)?)?;
-    assert_eq!(rt; found, Outcome::Stuck);
-    let none = Shape::Enum(Seq::new(alloc));
-    let found = order(alloc, none, index(alloc, 0)?, index(alloc, 1)?)?;
-    assert_eq!(rt; found, Outcome::Stuck);
-    Ok(())
+    let named = "struct S { x: u8, y: u8 }";
+    let unnamed = "struct S(u8, u8);";
+    check_orders(
+        &rt,
+        rt.alloc(),
+        &[
+            (named, named, 0, 1, LESS),
+            (named, unnamed, 0, 1, Outcome::Stuck),
+            ("enum S {}", unnamed, 0, 1, Outcome::Stuck),
+        ],
+    )
 }

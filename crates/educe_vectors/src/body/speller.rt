@@ -1,164 +1,174 @@
 //! The text of items.
 ghost use Rattle.std.specs.Prelude.{IsTrue};
-ghost use Rattle.educe_tokens.specs.Quote.{is_template, quoted};
-ghost use Rattle.educe_tokens.specs.Text.{is_written};
+ghost use Rattle.educe_tokens.specs.Quote.{is_ascii_name};
 
-use educe_attrs::Trait;
+use crate::body::{call, list, list_of_two};
 use educe_body::{
     Body, Callee, Form, Forms, Function, ImplItem, Item, Items, Known, built_in_path, spell,
 };
-use educe_tokens::{Boxed, Seq, Span, TokenKind, TokenStream, Word, Written, quote, text_of_tree};
+use educe_tokens::{Boxed, ToTokens, Word, Written, pair, text_of_tree};
+use educe_traits::Trait;
 use educe_tree::Ident;
-use std::alloc::Global;
+use std::alloc::{AllocError, Global};
 use std::cmp::Ordering;
+use std::process::Abort;
 use std::test::Fail;
 
-/// The name that is this template.
-fn name(alloc: Global, text: &str) -> Result<Ident, Fail>
-    requires { IsTrue (is_template text.now) }
+/// The field `a` of what a name stands for.
+fn field(alloc: Global, name: &str) -> Result<Form, AllocError>
+    requires { IsTrue (is_ascii_name name.now) }
 {
-    let mut tokens = TokenStream::new(alloc);
-    quote(alloc, &mut tokens, text)?;
-    let Some(token) = tokens.get(0) else {
-        return Err(Fail::from("no token"));
-    };
-    let TokenKind::Ident = token.kind else {
-        return Err(Fail::from("no name"));
-    };
-    Ok(Ident {
-        text: token.spelling.duplicate(alloc)?,
-        span: Span::NONE,
-    })
+    let (base, key) = pair(Ident::from_name(alloc, name)?, Word::from_name(alloc, "a"))?;
+    Ok(Form::Reference(base, key))
 }
 
-/// The same as a word.
-fn word(alloc: Global, text: &str) -> Result<Word, Fail>
-    requires { IsTrue (is_template text.now) }
+/// What a name stands for.
+fn local(alloc: Global, name: &str) -> Result<Form, AllocError>
+    requires { IsTrue (is_ascii_name name.now) }
 {
-    Ok(Word::new(name(alloc, text)?.text))
-}
-
-/// The tokens of a template.
-fn written(alloc: Global, text: &str) -> Result<Written, Fail>
-    requires template { IsTrue (is_template text.now) }
-    requires written { IsTrue (is_written (quoted text.now)) }
-{
-    Ok(Written::from_template(alloc, text)?)
+    Ok(Form::Local(Ident::from_name(alloc, name)?))
 }
 
 /// Where the fields `a` are not equal, `false` is returned.
-fn compared_field(alloc: Global) -> Result<Form, Fail> {
-    let path = built_in_path(alloc, &Callee::Ne)?;
-    let mut arguments = Forms::new(alloc);
-    arguments.push(Form::Reference(name(alloc, "self")?, word(alloc, "a")?))?;
-    arguments.push(Form::Reference(name(alloc, "other")?, word(alloc, "a")?))?;
-    let call = Boxed::new(alloc, Form::Call(path, arguments))?;
-    Ok(Form::IfReturn(call))
+fn compared_field(alloc: Global) -> Result<Form, AllocError> {
+    let fields = list_of_two(alloc, field(alloc, "self"), field(alloc, "other"));
+    let test = Boxed::new(alloc, call(alloc, Callee::Ne, fields)?)?;
+    Ok(Form::IfReturn(test))
 }
 
-/// `eq` of a struct of one field.
-fn eq_function(alloc: Global) -> Result<Function, Fail> {
-    let mut params = Seq::new(alloc);
-    params.push(word(alloc, "other")?)?;
-    let mut block = Forms::new(alloc);
-    block.push(compared_field(alloc)?)?;
-    block.push(Form::Known(Known::Truth(true)))?;
-    Ok(Function {
-        name: word(alloc, "eq")?,
-        body: Body { params, block },
-    })
+/// The call of a function that is built in on `self` and `other`, on the heap.
+fn compared(alloc: Global, callee: Callee) -> Result<Boxed<Form>, AllocError> {
+    let names = list_of_two(alloc, local(alloc, "self"), local(alloc, "other"));
+    Boxed::new(alloc, call(alloc, callee, names)?)
+}
+
+/// Where the call finds no order but Equal, its answer is returned.
+fn step(alloc: Global, callee: Callee, partial: bool) -> Result<Form, AllocError> {
+    let matched = compared(alloc, callee)?;
+    Ok(Form::MatchOrdering(matched, partial, Ordering::Greater, Ordering::Less))
+}
+
+/// What a tree is printed as.
+fn printed<T: ToTokens + Drop>(
+    alloc: Global,
+    tree: Result<T, AllocError>,
+) -> Result<String, AllocError> {
+    let tree = tree?;
+    text_of_tree(alloc, &tree)
+}
+
+/// The text is the one that is expected.
+fn check(rt: &impl Abort, text: Result<String, AllocError>, expected: &str) -> Result<(), Fail> {
+    assert_eq!(rt; text?.as_str(), expected);
+    Ok(())
 }
 
 #[test]
 fn prints_forms_as_trees(rt: HostRuntime) -> Result<(), Fail> {
     let alloc = rt.alloc();
-    let path = built_in_path(alloc, &Callee::Ne)?;
-    assert_eq!(rt;
-        text_of_tree(alloc, &path)?.as_str(),
-        ":: core :: cmp :: PartialEq :: ne"
-    );
-    let form = compared_field(alloc)?;
-    assert_eq!(rt;
-        text_of_tree(alloc, &form)?.as_str(),
-        "if :: core :: cmp :: PartialEq :: ne ( & self . a , & other . a ) { return false ; }"
-    );
-    Ok(())
+    check(
+        &rt,
+        printed(alloc, built_in_path(alloc, &Callee::Ne)),
+        ":: core :: cmp :: PartialEq :: ne",
+    )?;
+    check(
+        &rt,
+        printed(alloc, compared_field(alloc)),
+        "if :: core :: cmp :: PartialEq :: ne ( & self . a , & other . a ) { return false ; }",
+    )
+}
+
+/// The attribute of an impl.
+#[tactic(auto, unfolding(educe_tokens::specs::Quote::quoted))]
+fn attribute(alloc: Global) -> Result<Written, AllocError> {
+    Written::from_template(alloc, "# [ automatically_derived ]")
+}
+
+/// A function with the parameter `other`.
+fn function(
+    alloc: Global,
+    name: &str,
+    block: Result<Forms, AllocError>,
+) -> Result<Function, AllocError>
+    requires { IsTrue (is_ascii_name name.now) }
+{
+    let params = list(alloc, Word::from_name(alloc, "other"))?;
+    let body = pair(params, block)?;
+    let ((params, block), name) = pair(body, Word::from_name(alloc, name))?;
+    let body = Body { params, block };
+    Ok(Function { name, body })
 }
 
 /// The impl of a trait for `S`, with one function.
-#[tactic(auto, unfolding(educe_tokens::specs::Quote::quoted))]
-fn implementation(alloc: Global, which: Trait, function: Function) -> Result<Items, Fail> {
-    let mut functions = Seq::new(alloc);
-    functions.push(function)?;
-    let mut items = Items::new(alloc);
-    items.push(Item::Impl(ImplItem {
+fn implementation(
+    alloc: Global,
+    which: Trait,
+    function: Result<Function, AllocError>,
+) -> Result<Items, AllocError> {
+    let head = pair(attribute(alloc)?, Ident::from_name(alloc, "S"))?;
+    let ((attributes, ident), functions) = pair(head, list(alloc, function))?;
+    let item = ImplItem {
         which,
-        attributes: written(alloc, "# [ automatically_derived ]")?,
-        ident: name(alloc, "S")?,
+        attributes,
+        ident,
         functions,
-    }))?;
-    Ok(items)
+    };
+    list(alloc, Ok(Item::Impl(item)))
+}
+
+/// The text of the impl of a trait for `S`, whose function of this name has these forms.
+fn spelled(
+    alloc: Global,
+    which: Trait,
+    name: &str,
+    block: Result<Forms, AllocError>,
+) -> Result<String, AllocError>
+    requires { IsTrue (is_ascii_name name.now) }
+{
+    let items = implementation(alloc, which, function(alloc, name, block))?;
+    spell(alloc, &items)
 }
 
 #[test]
 fn spells_an_implementation(rt: HostRuntime) -> Result<(), Fail> {
     let alloc = rt.alloc();
-    let items = implementation(alloc, Trait::PartialEq, eq_function(alloc)?)?;
-    assert_eq!(rt;
-        spell(alloc, &items)?.as_str(),
-        "# [ automatically_derived ] impl :: core :: cmp :: PartialEq for S { fn eq ( & self , other : & Self ) -> :: core :: primitive :: bool { if :: core :: cmp :: PartialEq :: ne ( & self . a , & other . a ) { return false ; } true } }\n"
-    );
-    Ok(())
-}
-
-/// The call of a function that is built in on `self` and `other`.
-fn call(alloc: Global, callee: Callee) -> Result<Form, Fail> {
-    let path = built_in_path(alloc, &callee)?;
-    let mut arguments = Forms::new(alloc);
-    arguments.push(Form::Local(name(alloc, "self")?))?;
-    arguments.push(Form::Local(name(alloc, "other")?))?;
-    Ok(Form::Call(path, arguments))
+    let end = Ok(Form::Known(Known::Truth(true)));
+    let block = list_of_two(alloc, compared_field(alloc), end);
+    check(
+        &rt,
+        spelled(alloc, Trait::PartialEq, "eq", block),
+        "# [ automatically_derived ] impl :: core :: cmp :: PartialEq for S { fn eq ( & self , other : & Self ) -> :: core :: primitive :: bool { if :: core :: cmp :: PartialEq :: ne ( & self . a , & other . a ) { return false ; } true } }\n",
+    )
 }
 
 #[test]
 fn spells_a_step_of_cmp(rt: HostRuntime) -> Result<(), Fail> {
     let alloc = rt.alloc();
-    let mut params = Seq::new(alloc);
-    params.push(word(alloc, "other")?)?;
-    let matched = Boxed::new(alloc, call(alloc, Callee::Cmp)?)?;
-    let mut block = Forms::new(alloc);
-    block.push(Form::MatchOrdering(matched, false, Ordering::Greater, Ordering::Less))?;
-    block.push(Form::Known(Known::Order(Ordering::Equal)))?;
-    let function = Function {
-        name: word(alloc, "cmp")?,
-        body: Body { params, block },
-    };
-    let items = implementation(alloc, Trait::Ord, function)?;
-    assert_eq!(rt;
-        spell(alloc, &items)?.as_str(),
-        "# [ automatically_derived ] impl :: core :: cmp :: Ord for S { fn cmp ( & self , other : & Self ) -> :: core :: cmp :: Ordering { match :: core :: cmp :: Ord :: cmp ( self , other ) { :: core :: cmp :: Ordering :: Equal => ( ) , :: core :: cmp :: Ordering :: Greater => return :: core :: cmp :: Ordering :: Greater , :: core :: cmp :: Ordering :: Less => return :: core :: cmp :: Ordering :: Less , } :: core :: cmp :: Ordering :: Equal } }\n"
-    );
-    Ok(())
+    let end = Ok(Form::Known(Known::Order(Ordering::Equal)));
+    let block = list_of_two(alloc, step(alloc, Callee::Cmp, false), end);
+    check(
+        &rt,
+        spelled(alloc, Trait::Ord, "cmp", block),
+        "# [ automatically_derived ] impl :: core :: cmp :: Ord for S { fn cmp ( & self , other : & Self ) -> :: core :: cmp :: Ordering { match :: core :: cmp :: Ord :: cmp ( self , other ) { :: core :: cmp :: Ordering :: Equal => ( ) , :: core :: cmp :: Ordering :: Greater => return :: core :: cmp :: Ordering :: Greater , :: core :: cmp :: Ordering :: Less => return :: core :: cmp :: Ordering :: Less , } :: core :: cmp :: Ordering :: Equal } }\n",
+    )
+}
+
+/// The order in `Some`.
+fn some_order(alloc: Global) -> Result<Form, AllocError> {
+    Ok(Form::SomeOf(compared(alloc, Callee::Cmp)?))
 }
 
 #[test]
 fn spells_a_step_of_partial_cmp(rt: HostRuntime) -> Result<(), Fail> {
     let alloc = rt.alloc();
-    let mut params = Seq::new(alloc);
-    params.push(word(alloc, "other")?)?;
-    let matched = Boxed::new(alloc, call(alloc, Callee::PartialCmp)?)?;
-    let mut block = Forms::new(alloc);
-    block.push(Form::MatchOrdering(matched, true, Ordering::Greater, Ordering::Less))?;
-    let some = Boxed::new(alloc, call(alloc, Callee::Cmp)?)?;
-    block.push(Form::SomeOf(some))?;
-    let function = Function {
-        name: word(alloc, "partial_cmp")?,
-        body: Body { params, block },
-    };
-    let items = implementation(alloc, Trait::PartialOrd, function)?;
-    assert_eq!(rt;
-        spell(alloc, &items)?.as_str(),
-        "# [ automatically_derived ] impl :: core :: cmp :: PartialOrd for S { fn partial_cmp ( & self , other : & Self , ) -> :: core :: option :: Option < :: core :: cmp :: Ordering > { match :: core :: cmp :: PartialOrd :: partial_cmp ( self , other ) { :: core :: option :: Option :: Some ( :: core :: cmp :: Ordering :: Equal ) => ( ) , :: core :: option :: Option :: Some ( :: core :: cmp :: Ordering :: Greater ) => return :: core :: option :: Option :: Some ( :: core :: cmp :: Ordering :: Greater ) , :: core :: option :: Option :: Some ( :: core :: cmp :: Ordering :: Less ) => return :: core :: option :: Option :: Some ( :: core :: cmp :: Ordering :: Less ) , :: core :: option :: Option :: None => return :: core :: option :: Option :: None , } :: core :: option :: Option :: Some ( :: core :: cmp :: Ord :: cmp ( self , other ) ) } }\n"
+    let block = list_of_two(
+        alloc,
+        step(alloc, Callee::PartialCmp, true),
+        some_order(alloc),
     );
-    Ok(())
+    check(
+        &rt,
+        spelled(alloc, Trait::PartialOrd, "partial_cmp", block),
+        "# [ automatically_derived ] impl :: core :: cmp :: PartialOrd for S { fn partial_cmp ( & self , other : & Self , ) -> :: core :: option :: Option < :: core :: cmp :: Ordering > { match :: core :: cmp :: PartialOrd :: partial_cmp ( self , other ) { :: core :: option :: Option :: Some ( :: core :: cmp :: Ordering :: Equal ) => ( ) , :: core :: option :: Option :: Some ( :: core :: cmp :: Ordering :: Greater ) => return :: core :: option :: Option :: Some ( :: core :: cmp :: Ordering :: Greater ) , :: core :: option :: Option :: Some ( :: core :: cmp :: Ordering :: Less ) => return :: core :: option :: Option :: Some ( :: core :: cmp :: Ordering :: Less ) , :: core :: option :: Option :: None => return :: core :: option :: Option :: None , } :: core :: option :: Option :: Some ( :: core :: cmp :: Ord :: cmp ( self , other ) ) } }\n",
+    )
 }

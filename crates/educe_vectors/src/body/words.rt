@@ -1,8 +1,10 @@
 //! Words of tokens.
 
+use crate::common::check_equal;
 use educe_body::has_word;
 use educe_token_vectors::lexed;
 use std::alloc::Global;
+use std::process::Abort;
 use std::test::Fail;
 
 /// Whether the tokens of a text have a word.
@@ -11,39 +13,63 @@ fn has(alloc: Global, source: &str, word: &str) -> Result<bool, Fail> {
     Ok(has_word(alloc, tokens.as_slice(), word)?)
 }
 
-#[test]
-fn finds_words(rt: HostRuntime) -> Result<(), Fail> {
-    for source in [
-        "struct S { a: u8, other: u8 }",
-        "r#other",
-        "&'other x",
-        "#[a = \"x::other(1)\"]",
-        "\"other\"",
-        "r#\"[other]\"#",
-        "\"x \\x6fther\"",
-        "/// the other one\na",
-        "/** other */",
-    ] {
-        assert!(rt; has(rt.alloc(), source, "other")?, "{source}");
+/// Whether they have it, for each of the texts.
+fn check(
+    rt: &impl Abort,
+    alloc: Global,
+    word: &str,
+    expected: bool,
+    sources: &[&str],
+) -> Result<(), Fail> {
+    for source in sources {
+        check_equal(rt, source, has(alloc, source, word)?, expected);
     }
     Ok(())
 }
 
 #[test]
+fn finds_words(rt: HostRuntime) -> Result<(), Fail> {
+    check(
+        &rt,
+        rt.alloc(),
+        "other",
+        true,
+        &[
+            "struct S { a: u8, other: u8 }",
+            "r#other",
+            "&'other x",
+            "#[a = \"x::other(1)\"]",
+            "\"other\"",
+            "r#\"[other]\"#",
+            "\"x \\x6fther\"",
+            "/// the other one\na",
+            "/** other */",
+        ],
+    )
+}
+
+#[test]
 fn finds_no_parts_of_words(rt: HostRuntime) -> Result<(), Fail> {
-    for source in [
-        "",
-        "others another r#others",
-        "'others",
-        "\"another\"",
-        "\"other_\"",
-        "\"\\u{e9}other other1\"",
-        "b\"other\"",
-        "/// another",
-        "// other\na",
-    ] {
-        assert!(rt; !has(rt.alloc(), source, "other")?, "{source}");
-    }
-    assert!(rt; !has(rt.alloc(), "a \"\" \"b c\"", "")?);
-    Ok(())
+    check(
+        &rt,
+        rt.alloc(),
+        "other",
+        false,
+        &[
+            "",
+            "others another r#others",
+            "'others",
+            "\"another\"",
+            "\"other_\"",
+            "\"\\u{e9}other other1\"",
+            "b\"other\"",
+            "/// another",
+            "// other\na",
+        ],
+    )
+}
+
+#[test]
+fn no_word_is_empty(rt: HostRuntime) -> Result<(), Fail> {
+    check(&rt, rt.alloc(), "", false, &["a \"\" \"b c\""])
 }

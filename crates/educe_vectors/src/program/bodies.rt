@@ -1,148 +1,163 @@
 //! What the functions of items evaluate to.
-ghost use Rattle.std.specs.Prelude.{◌≤◌, length};
 
-use educe_body::{Answer, Answers, Callee, FieldValue, Item, Outcome, Row, Scope, Value, eval};
-use educe_core::expand;
-use educe_parser::parse_derive_input;
-use educe_tokens::{SOURCE_LIMIT, Seq, TokenSlice, lex};
+use crate::common::{check_equal, definition, found, table, value};
+use educe_body::{Answer, Body, Callee, FieldValue, Item, Items, Outcome, Row, Scope, eval};
+use educe_core::{Expansion, expand};
+use educe_tokens::SOURCE_LIMIT;
 use educe_tree::DeriveInput;
 use std::alloc::Global;
 use std::cmp::Ordering;
+use std::process::Abort;
 use std::test::Fail;
 
-/// A value of a struct of fields of one type.
-fn value(alloc: Global, numbers: &[i128]) -> Result<Value, Fail> {
-    let mut fields = Seq::new(alloc);
-    for number in numbers {
-        fields.push(FieldValue {
-            ty: 0,
-            number: *number,
-        })?;
+/// What a text is expanded to.
+fn expansion(alloc: Global, source: &str) -> Result<Expansion, Fail> {
+    if source.len() > SOURCE_LIMIT {
+        return Err(Fail::from("too long"));
     }
-    Ok(Value { variant: 0, fields })
+    found(expand(alloc, source))
 }
 
-/// The definition with two values.
-fn scope<'a>(ast: &'a DeriveInput, this: &'a Value, other: &'a Value) -> Scope<'a> {
-    let this = Some(this);
-    let other = Some(other);
-    Scope { ast, this, other }
+/// The body of the function of the item at an index.
+fn body_of(items: &Items, index: usize) -> Option<&Body> {
+    match items.get(index) {
+        Some(Item::Impl(item)) => match item.functions.get(0) {
+            Some(function) => Some(&function.body),
+            None => None,
+        },
+        None => None,
+    }
 }
 
-/// What the function of one of the items of a struct evaluates to.
+/// What a body evaluates to over values of these numbers.
 fn evaluated(
     alloc: Global,
-    source: &str,
-    index: usize,
-    a: &[i128],
-    b: &[i128],
-    answers: &Answers,
-) -> Result<Outcome, Fail>
-    requires { length source.now ≤ SOURCE_LIMIT }
-{
-    let tokens = lex(alloc, source).ok().ok_or("lex")?;
-    let ast = parse_derive_input(alloc, &TokenSlice::new(alloc, tokens)?)
-        .ok()
-        .ok_or("parse")?;
-    let expansion = expand(alloc, source).ok().ok_or("expand")?;
-    let Some(Item::Impl(item)) = expansion.items().get(index) else {
-        return Err(Fail::from("no item"));
-    };
-    let Some(function) = item.functions.get(0) else {
-        return Err(Fail::from("no function"));
-    };
-    let this = value(alloc, a)?;
-    let other = value(alloc, b)?;
-    Ok(eval(alloc, &function.body, &scope(&ast, &this, &other), answers)?)
+    ast: &DeriveInput,
+    body: &Body,
+    numbers: (&[i128], &[i128]),
+    rows: &[Row],
+) -> Result<Outcome, Fail> {
+    let this = value(alloc, numbers.0)?;
+    let other = value(alloc, numbers.1)?;
+    let answers = table(alloc, rows)?;
+    let this = Some(&this);
+    let other = Some(&other);
+    Ok(eval(alloc, body, &Scope { ast, this, other }, &answers)?)
 }
 
-/// What `eq` of a struct of two bytes evaluates to.
-fn equality(alloc: Global, a: &[i128], b: &[i128], answers: &Answers) -> Result<Outcome, Fail> {
-    let source = "#[educe(PartialEq)] struct S { a: u8, b: u8 }";
-    evaluated(alloc, source, 0, a, b, answers)
+/// A definition, the index of an item, the numbers of the fields of two values, and what the
+/// function of the item evaluates to.
+type Case<'a> = (&'a str, usize, &'a [i128], &'a [i128], Outcome);
+
+/// What the function of the item evaluates to in this expansion of this definition.
+fn outcome_in(
+    alloc: Global,
+    ast: &DeriveInput,
+    expansion: &Expansion,
+    case: &Case,
+    rows: &[Row],
+) -> Result<Outcome, Fail> {
+    let (_, index, this, other, _) = case;
+    let body = body_of(expansion.items(), *index).ok_or("no function")?;
+    evaluated(alloc, ast, body, (this, other), rows)
 }
 
-/// Fields compare as their numbers do.
-fn by_number(alloc: Global) -> Answers {
-    Answers {
-        rows: Seq::new(alloc),
-        by_number: true,
+/// The same in the expansion that the definition has.
+fn outcome_of(
+    alloc: Global,
+    ast: &DeriveInput,
+    case: &Case,
+    rows: &[Row],
+) -> Result<Outcome, Fail> {
+    outcome_in(alloc, ast, &expansion(alloc, case.0)?, case, rows)
+}
+
+/// What functions evaluate to by the table of these rows.
+fn check(rt: &impl Abort, alloc: Global, rows: &[Row], cases: &[Case]) -> Result<(), Fail> {
+    for case in cases {
+        let found = outcome_of(alloc, &definition(alloc, case.0)?, case, rows)?;
+        check_equal(rt, case.0, found, case.4);
     }
+    Ok(())
 }
 
 #[test]
 fn the_least_rank_decides(rt: HostRuntime) -> Result<(), Fail> {
-    let alloc = rt.alloc();
     let source =
         "#[educe(Ord)] struct S { #[educe(Ord(rank = 1))] f1: u8, #[educe(Ord(rank = 0))] f2: u8 }";
-    let outcome = evaluated(alloc, source, 0, &[1, 2], &[2, 1], &by_number(alloc))?;
-    assert_eq!(rt; outcome, Outcome::Order(Ordering::Greater));
-    Ok(())
+    let greater = Outcome::Order(Ordering::Greater);
+    check(
+        &rt,
+        rt.alloc(),
+        &[],
+        &[(source, 0, &[1, 2], &[2, 1], greater)],
+    )
 }
 
 #[test]
 fn each_order_takes_the_settings_of_the_other(rt: HostRuntime) -> Result<(), Fail> {
-    let alloc = rt.alloc();
-    let answers = by_number(alloc);
     let by_cmp = "#[educe(PartialOrd, Ord)] struct S { #[educe(Ord(rank = 1))] a: u8, b: u8 }";
-    let partial_order = evaluated(alloc, by_cmp, 0, &[1, 2], &[2, 1], &answers)?;
-    let greater = Outcome::PartialOrder(Some(Ordering::Greater));
-    assert_eq!(rt; partial_order, greater);
     let by_partial_cmp =
         "#[educe(PartialOrd, Ord)] struct S { #[educe(PartialOrd(ignore))] a: u8, b: u8 }";
-    let order = evaluated(alloc, by_partial_cmp, 1, &[1, 2], &[2, 2], &answers)?;
-    assert_eq!(rt; order, Outcome::Order(Ordering::Equal));
-    Ok(())
+    let greater = Outcome::PartialOrder(Some(Ordering::Greater));
+    let equal = Outcome::Order(Ordering::Equal);
+    check(
+        &rt,
+        rt.alloc(),
+        &[],
+        &[
+            (by_cmp, 0, &[1, 2], &[2, 1], greater),
+            (by_partial_cmp, 1, &[1, 2], &[2, 2], equal),
+        ],
+    )
 }
 
 #[test]
 fn eq_passes_over_ignored_fields(rt: HostRuntime) -> Result<(), Fail> {
-    let alloc = rt.alloc();
     let source = "#[educe(PartialEq)] struct S { #[educe(PartialEq(ignore))] a: u8, b: u8 }";
-    let outcome = evaluated(alloc, source, 0, &[1, 2], &[3, 2], &by_number(alloc))?;
-    assert_eq!(rt; outcome, Outcome::Truth(true));
-    Ok(())
+    let equal = Outcome::Truth(true);
+    check(
+        &rt,
+        rt.alloc(),
+        &[],
+        &[(source, 0, &[1, 2], &[3, 2], equal)],
+    )
 }
+
+/// A struct of two bytes.
+const TWO_FIELDS: &str = "#[educe(PartialEq)] struct S { a: u8, b: u8 }";
 
 #[test]
 fn eq_compares_the_fields(rt: HostRuntime) -> Result<(), Fail> {
-    let alloc = rt.alloc();
-    let by_number = by_number(alloc);
-    assert_eq!(rt;
-        equality(alloc, &[1, 2], &[1, 2], &by_number)?,
-        Outcome::Truth(true)
-    );
-    assert_eq!(rt;
-        equality(alloc, &[1, 2], &[1, 3], &by_number)?,
-        Outcome::Truth(false)
-    );
-    assert_eq!(rt;
-        equality(alloc, &[4, 2], &[1, 2], &by_number)?,
-        Outcome::Truth(false)
-    );
-    assert_eq!(rt; equality(alloc, &[1], &[1], &by_number)?, Outcome::Stuck);
-    Ok(())
+    check(
+        &rt,
+        rt.alloc(),
+        &[],
+        &[
+            (TWO_FIELDS, 0, &[1, 2], &[1, 2], Outcome::Truth(true)),
+            (TWO_FIELDS, 0, &[1, 2], &[1, 3], Outcome::Truth(false)),
+            (TWO_FIELDS, 0, &[4, 2], &[1, 2], Outcome::Truth(false)),
+            (TWO_FIELDS, 0, &[1], &[1], Outcome::Stuck),
+        ],
+    )
 }
 
 #[test]
 fn eq_asks_the_table(rt: HostRuntime) -> Result<(), Fail> {
-    let alloc = rt.alloc();
-    let mut rows = Seq::new(alloc);
-    let zero = FieldValue { ty: 0, number: 0 };
-    rows.push(Row {
+    let zero = Some(FieldValue { ty: 0, number: 0 });
+    let row = Row {
         callee: Callee::Ne,
-        first: Some(zero),
-        second: Some(zero),
+        first: zero,
+        second: zero,
         answer: Answer::Truth(true),
-    })?;
-    let table = Answers {
-        rows,
-        by_number: false,
     };
-    assert_eq!(rt;
-        equality(alloc, &[0, 0], &[0, 0], &table)?,
-        Outcome::Truth(false)
-    );
-    assert_eq!(rt; equality(alloc, &[1, 0], &[1, 0], &table)?, Outcome::Stuck);
-    Ok(())
+    check(
+        &rt,
+        rt.alloc(),
+        &[row],
+        &[
+            (TWO_FIELDS, 0, &[0, 0], &[0, 0], Outcome::Truth(false)),
+            (TWO_FIELDS, 0, &[1, 0], &[1, 0], Outcome::Stuck),
+        ],
+    )
 }

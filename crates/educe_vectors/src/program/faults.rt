@@ -1,27 +1,45 @@
 //! Arguments that are wrong, texts that are none, and devices that fail.
 
 use super::Case;
+use std::alloc::Global;
+use std::process::Abort;
 use std::test::Fail;
+
+/// The run over an input of so many blanks.
+fn check_blanks(
+    rt: &impl Abort,
+    alloc: Global,
+    count: usize,
+    code: u8,
+    notes: &str,
+) -> Result<(), Fail> {
+    let spaces = vec![in alloc; b' '; count]?;
+    Case::of(&spaces, code, "", notes).check(rt, alloc)
+}
 
 #[test]
 fn blanks_alone_are_no_definition(rt: HostRuntime) -> Result<(), Fail> {
-    let alloc = rt.alloc();
-    let spaces = vec![in alloc; b' '; 131_072]?;
-    Case::of(&spaces, 1, "", "1:1: syntax error\n").check(&rt, alloc)
+    check_blanks(&rt, rt.alloc(), 131_072, 1, "1:1: syntax error\n")
 }
 
 #[test]
 fn unknown_words_show_the_usage(rt: HostRuntime) -> Result<(), Fail> {
-    let mut case = Case::of(b"", 2, "", "usage: educe expand\n");
-    case.word = "expnd";
+    let case = Case {
+        word: "expnd",
+        ..Case::of(b"", 2, "", "usage: educe expand\n")
+    };
     case.check(&rt, rt.alloc())
 }
 
 #[test]
 fn a_byte_too_many_is_too_long(rt: HostRuntime) -> Result<(), Fail> {
-    let alloc = rt.alloc();
-    let spaces = vec![in alloc; b' '; 131_073]?;
-    Case::of(&spaces, 5, "", "the input is longer than 131072 bytes\n").check(&rt, alloc)
+    check_blanks(
+        &rt,
+        rt.alloc(),
+        131_073,
+        5,
+        "the input is longer than 131072 bytes\n",
+    )
 }
 
 #[test]
@@ -31,23 +49,35 @@ fn a_lone_byte_ff_is_no_text(rt: HostRuntime) -> Result<(), Fail> {
 
 #[test]
 fn a_failed_read_is_no_end(rt: HostRuntime) -> Result<(), Fail> {
-    let input = b"#[educe(PartialEq)] struct S { a: u8 }";
-    let mut first = Case::of(input, 3, "", "");
-    first.failing_reads = &[0];
+    let case = Case::of(b"#[educe(PartialEq)] struct S { a: u8 }", 3, "", "");
+    let first = Case {
+        failing_reads: &[0],
+        ..case
+    };
+    let later = Case {
+        failing_reads: &[1],
+        ..case
+    };
     first.check(&rt, rt.alloc())?;
-    let mut later = Case::of(input, 3, "", "");
-    later.failing_reads = &[1];
     later.check(&rt, rt.alloc())
 }
 
 #[test]
 fn a_failed_write_is_a_fault(rt: HostRuntime) -> Result<(), Fail> {
-    let input = b"#[educe(PartialEq)] struct S { a: u8 }";
-    let mut sink = Case::of(input, 4, "# [ automa", "");
-    sink.failing_writes = &[1];
+    let sink = Case {
+        failing_writes: &[1],
+        ..Case::of(
+            b"#[educe(PartialEq)] struct S { a: u8 }",
+            4,
+            "# [ automa",
+            "",
+        )
+    };
+    let notes = Case {
+        word: "expnd",
+        failing_notes: &[1],
+        ..Case::of(b"", 4, "", "usage: edu")
+    };
     sink.check(&rt, rt.alloc())?;
-    let mut notes = Case::of(b"", 4, "", "usage: edu");
-    notes.word = "expnd";
-    notes.failing_notes = &[1];
     notes.check(&rt, rt.alloc())
 }

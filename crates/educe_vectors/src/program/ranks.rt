@@ -1,6 +1,8 @@
 //! Ranks of fields: those that take part have ranks that differ.
 
-use super::{check_refused, notes_of};
+use super::{check_notes, check_refused};
+use std::alloc::Global;
+use std::process::Abort;
 use std::test::Fail;
 
 #[test]
@@ -55,15 +57,23 @@ fn ranks_have_64_bits(rt: HostRuntime) -> Result<(), Fail> {
     )
 }
 
-#[test]
-fn ranks_that_differ_are_taken(rt: HostRuntime) -> Result<(), Fail> {
-    for input in [
-        "#[educe(Ord)] struct S { #[educe(Ord(rank = 1))] a: u8, #[educe(Ord(rank = 1, ignore))] b: u8 }",
-        "#[educe(Ord)] struct S { #[educe(Ord(rank = -9223372036854775808))] a: u8, b: u8 }",
-        "#[educe(Ord)] struct S { #[educe(Ord(rank = 9223372036854775807))] a: u8, b: u8 }",
-    ] {
-        let found = notes_of(&rt, rt.alloc(), input.as_bytes())?;
-        assert_eq!(rt; found.bytes(), "".as_bytes(), "{input}");
+/// Each of the inputs is taken.
+fn check_taken(rt: &impl Abort, alloc: Global, inputs: &[&str]) -> Result<(), Fail> {
+    for input in inputs {
+        check_notes(rt, alloc, input, "")?;
     }
     Ok(())
+}
+
+#[test]
+fn ranks_that_differ_are_taken(rt: HostRuntime) -> Result<(), Fail> {
+    check_taken(
+        &rt,
+        rt.alloc(),
+        &[
+            "#[educe(Ord)] struct S { #[educe(Ord(rank = 1))] a: u8, #[educe(Ord(rank = 1, ignore))] b: u8 }",
+            "#[educe(Ord)] struct S { #[educe(Ord(rank = -9223372036854775808))] a: u8, b: u8 }",
+            "#[educe(Ord)] struct S { #[educe(Ord(rank = 9223372036854775807))] a: u8, b: u8 }",
+        ],
+    )
 }

@@ -1,6 +1,8 @@
 //! The line that says where and why a definition is refused.
 
 use super::check_refused;
+use std::alloc::Global;
+use std::process::Abort;
 use std::test::Fail;
 
 /// The line of a definition that lists no traits.
@@ -106,32 +108,45 @@ fn names_are_given_once(rt: HostRuntime) -> Result<(), Fail> {
 
 #[test]
 fn without_traits_nothing_is_set_up(rt: HostRuntime) -> Result<(), Fail> {
-    for input in ["struct S { f1: u8 }", "#[educe()] struct S { a: u8 }"] {
-        check_refused(&rt, rt.alloc(), &[(input, NOT_SET_UP)])?;
+    check_refused(
+        &rt,
+        rt.alloc(),
+        &[
+            ("struct S { f1: u8 }", NOT_SET_UP),
+            ("#[educe()] struct S { a: u8 }", NOT_SET_UP),
+        ],
+    )
+}
+
+/// Each of the inputs is of a form that is not built yet.
+fn check_not_built(rt: &impl Abort, alloc: Global, inputs: &[&str]) -> Result<(), Fail> {
+    for input in inputs {
+        check_refused(rt, alloc, &[(input, NOT_BUILT)])?;
     }
     Ok(())
 }
 
 #[test]
 fn what_is_not_built_yet_is_told(rt: HostRuntime) -> Result<(), Fail> {
-    for input in [
-        "#[educe(PartialEq)] /** the other one */ struct S { a: u8 }",
-        "#[educe(PartialEq)] struct S<T> { a: T }",
-        "#[educe(PartialEq)] struct S where u8: Copy { a: u8 }",
-        "#[educe(PartialEq, PartialEq)] struct S { a: u8 }",
-        "#[educe(PartialEq)] #[repr(C)] struct S { a: u8 }",
-        "#[educe(PartialEq)] struct S { #[educe(PartialEq(ignore), PartialEq(ignore))] a: u8 }",
-        "#[educe(Other)] struct S { a: u8 }",
-        "#[educe(PartialEq)] struct S { a: &'other u8 }",
-        "#[educe(PartialEq)] struct S { #[note = \"an other\"] a: u8 }",
-        "#[educe(PartialEq)] struct S { other: u8 }",
-        "#[educe(Ord)] struct S { #[educe(PartialEq(ignore))] a: u8 }",
-        "#[educe(PartialEq)] enum S {}",
-        "struct S { r#other: u8 }",
-        "struct S { a: r#other }",
-        "#[educe(Ord)] struct S { #[educe(Ord(rank = \"other\"))] a: u8 }",
-    ] {
-        check_refused(&rt, rt.alloc(), &[(input, NOT_BUILT)])?;
-    }
-    Ok(())
+    check_not_built(
+        &rt,
+        rt.alloc(),
+        &[
+            "#[educe(PartialEq)] /** the other one */ struct S { a: u8 }",
+            "#[educe(PartialEq)] struct S<T> { a: T }",
+            "#[educe(PartialEq)] struct S where u8: Copy { a: u8 }",
+            "#[educe(PartialEq, PartialEq)] struct S { a: u8 }",
+            "#[educe(PartialEq)] #[repr(C)] struct S { a: u8 }",
+            "#[educe(PartialEq)] struct S { #[educe(PartialEq(ignore), PartialEq(ignore))] a: u8 }",
+            "#[educe(Other)] struct S { a: u8 }",
+            "#[educe(PartialEq)] struct S { a: &'other u8 }",
+            "#[educe(PartialEq)] struct S { #[note = \"an other\"] a: u8 }",
+            "#[educe(PartialEq)] struct S { other: u8 }",
+            "#[educe(Ord)] struct S { #[educe(PartialEq(ignore))] a: u8 }",
+            "#[educe(PartialEq)] enum S {}",
+            "struct S { r#other: u8 }",
+            "struct S { a: r#other }",
+            "#[educe(Ord)] struct S { #[educe(Ord(rank = \"other\"))] a: u8 }",
+        ],
+    )
 }

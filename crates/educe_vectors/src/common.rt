@@ -1,0 +1,58 @@
+//! What the tests share.
+
+use educe_body::{Answers, FieldValue, Row, Value};
+use educe_parser::parse_derive_input;
+use educe_token_vectors::lexed_slice;
+use educe_tokens::{EduceError, Seq};
+use educe_tree::DeriveInput;
+use std::alloc::{AllocError, Global};
+use std::fmt::Debug;
+use std::process::Abort;
+use std::test::Fail;
+
+/// What is found for a source is what is expected.
+pub(crate) fn check_equal<T: PartialEq + Debug + Copy>(
+    rt: &impl Abort,
+    source: &str,
+    found: T,
+    expected: T,
+) {
+    assert_eq!(rt; found, expected, "{source}");
+}
+
+/// What is found, where it is not refused.
+pub(crate) fn found<T: Drop>(answer: Result<T, EduceError>) -> Result<T, Fail> {
+    match answer {
+        Ok(found) => Ok(found),
+        Err(_) => Err(Fail::from("refused")),
+    }
+}
+
+/// The definition that a text is.
+pub(crate) fn definition(alloc: Global, text: &str) -> Result<DeriveInput, Fail> {
+    found(parse_derive_input(alloc, &lexed_slice(alloc, text)?))
+}
+
+/// A value of a struct whose fields have one type.
+pub(crate) fn value(alloc: Global, numbers: &[i128]) -> Result<Value, AllocError> {
+    let mut fields = Seq::new(alloc);
+    for number in numbers {
+        fields.push(FieldValue {
+            ty: 0,
+            number: *number,
+        })?;
+    }
+    Ok(Value { variant: 0, fields })
+}
+
+/// The table of these rows. Without rows, fields compare as their numbers do.
+pub(crate) fn table(alloc: Global, rows: &[Row]) -> Result<Answers, AllocError> {
+    let mut found = Seq::new(alloc);
+    for row in rows {
+        found.push(*row)?;
+    }
+    Ok(Answers {
+        rows: found,
+        by_number: rows.is_empty(),
+    })
+}
