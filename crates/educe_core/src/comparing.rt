@@ -46,10 +46,10 @@ fn reference(alloc: Global, base: &str, place: usize, field: &Field) -> Result<F
 fn compared(alloc: Global, which: Trait, place: usize, field: &Field) -> Result<Form, AllocError>
     ensures { IfOk result (spec.IsComparison which (codes "other") place field.now) }
 {
-    let path = built_in_path(alloc, &comparison(which))?;
     let mut arguments = Seq::new(alloc);
     arguments.push(reference(alloc, "self", place, field)?)?;
     arguments.push(reference(alloc, OTHER, place, field)?)?;
+    let path = built_in_path(alloc, &comparison(which))?;
     Ok(Form::Call(path, arguments))
 }
 
