@@ -1,6 +1,6 @@
 //! What the tests share.
 
-use educe_body::{Answers, FieldValue, Row, Value};
+use educe_body::{Answers, FieldValue, Row, Scope, Value};
 use educe_parser::parse_derive_input;
 use educe_token_vectors::lexed_slice;
 use educe_tokens::{EduceError, Seq};
@@ -43,6 +43,16 @@ pub(crate) fn value(alloc: Global, numbers: &[i128]) -> Result<Value, AllocError
         })?;
     }
     Ok(Value { variant: 0, fields })
+}
+
+/// A definition with the values of `self` and, where there is one, of the other parameter.
+pub(crate) fn scope<'a>(
+    ast: &'a DeriveInput,
+    this: &'a Value,
+    other: Option<&'a Value>,
+) -> Scope<'a> {
+    let this = Some(this);
+    Scope { ast, this, other }
 }
 
 /// The table of these rows. Without rows, fields compare as their numbers do.

@@ -1,8 +1,8 @@
 //! Keys of fields, and bodies that read fields by them.
 
-use crate::body::{call, list, list_of_two, pair};
-use crate::common::{check_equal, definition, table, value};
-use educe_body::{Body, Callee, Form, Outcome, Scope, eval, key_word};
+use crate::body::{call, list, list_of_two};
+use crate::common::{check_equal, definition, scope, table, value};
+use educe_body::{Body, Callee, Form, Outcome, Scope, Value, eval, key_word};
 use educe_tokens::{Seq, Word};
 use educe_tree::{DeriveInput, Field, Ident, Shape};
 use std::alloc::{AllocError, Global};
@@ -67,13 +67,16 @@ fn compared(alloc: Global, first: Word, second: Word) -> Result<Body, AllocError
     Ok(Body { params, block })
 }
 
+/// A definition with a value of `self` alone.
+fn scope_of<'a>(ast: &'a DeriveInput, this: &'a Value) -> Scope<'a> {
+    scope(ast, this, None)
+}
+
 /// What a body without parameters gives over the values 5 and 7.
 fn evaluated(alloc: Global, ast: &DeriveInput, body: &Body) -> Result<Outcome, Fail> {
     let this = value(alloc, &[5, 7])?;
     let answers = table(alloc, &[])?;
-    let this = Some(&this);
-    let other = None;
-    Ok(eval(alloc, body, &Scope { ast, this, other }, &answers)?)
+    Ok(eval(alloc, body, &scope_of(ast, &this), &answers)?)
 }
 
 /// What the comparison gives in a definition.

@@ -1,7 +1,7 @@
 //! What the functions of items evaluate to.
 
-use crate::common::{check_equal, definition, found, table, value};
-use educe_body::{Answer, Body, Callee, FieldValue, Item, Items, Outcome, Row, Scope, eval};
+use crate::common::{check_equal, definition, found, scope, table, value};
+use educe_body::{Answer, Body, Callee, FieldValue, Item, Items, Outcome, Row, eval};
 use educe_core::{Expansion, expand};
 use educe_tokens::SOURCE_LIMIT;
 use educe_tree::DeriveInput;
@@ -40,9 +40,7 @@ fn evaluated(
     let this = value(alloc, numbers.0)?;
     let other = value(alloc, numbers.1)?;
     let answers = table(alloc, rows)?;
-    let this = Some(&this);
-    let other = Some(&other);
-    Ok(eval(alloc, body, &Scope { ast, this, other }, &answers)?)
+    Ok(eval(alloc, body, &scope(ast, &this, Some(&other)), &answers)?)
 }
 
 /// A definition, the index of an item, the numbers of the fields of two values, and what the
