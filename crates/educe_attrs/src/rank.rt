@@ -1,5 +1,5 @@
 //! Ranks: integers of 64 bits.
-ghost use Rattle.std.specs.Prelude.{◌≡◌, ◌<◌, ◌^◌};
+ghost use Rattle.std.specs.Prelude.{◌≡◌, ◌<◌};
 ghost use Rattle.educe_tokens.specs.Lexes.{lexeme_of};
 ghost use Rattle.educe_attrs.specs.Rank as spec;
 

@@ -1,5 +1,5 @@
 //! What the attributes of a definition say.
-ghost use Rattle.std.specs.Prelude.{◌≡◌, IfOk, Some, []};
+ghost use Rattle.std.specs.Prelude.{◌≡◌, IfOk, Some};
 ghost use Rattle.educe_attrs.specs.Gathered.{behind};
 ghost use Rattle.educe_attrs.specs.Said as spec;
 

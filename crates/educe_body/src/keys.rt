@@ -1,6 +1,6 @@
 //! The keys of fields: what stands behind the `.` where a field is read (Rust Reference, Field
 //! access expressions; Tuple indexing expressions).
-ghost use Rattle.std.specs.Prelude.{◌≡◌, IfOk, IsTrue, IfSome, IfNone, chars};
+ghost use Rattle.std.specs.Prelude.{◌≡◌, IfOk};
 ghost use Rattle.std.specs.Fmt.{decimal};
 ghost use Rattle.std.specs.Str.{bytes_eq};
 ghost use Rattle.educe_body.specs.Keys.{key_of, IsIndexOf, begins_plain};

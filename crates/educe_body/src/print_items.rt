@@ -1,5 +1,5 @@
 //! The tokens of functions and items.
-ghost use Rattle.std.specs.Prelude.{◌≡◌, ◌++◌, IsTrue, OnOk, codes};
+ghost use Rattle.std.specs.Prelude.{◌++◌, IsTrue, OnOk, codes};
 ghost use Rattle.std.specs.List.{flat_map};
 ghost use Rattle.educe_tokens.specs.WrittenLexemes.{written_lexemes};
 ghost use Rattle.educe_tokens.specs.Quote.{is_template, quoted};

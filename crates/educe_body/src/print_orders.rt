@@ -1,5 +1,5 @@
 //! The tokens of orders, and of the arms that match on them.
-ghost use Rattle.std.specs.Prelude.{◌≡◌, OnOk};
+ghost use Rattle.std.specs.Prelude.{OnOk};
 ghost use Rattle.educe_tokens.specs.Appends.{Appends, HasPrefix};
 ghost use Rattle.educe_body.specs.Tokens.{in_curly, in_some, order_lexemes, answer_lexemes, returning_arm, none_arm, step_arms};
 

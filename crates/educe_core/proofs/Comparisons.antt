@@ -22,7 +22,7 @@ use Rattle.educe_body.specs.declared.answers.Answer.TheVariants.{Truth as Answer
 use Rattle.educe_body.specs.declared.answers.Answers.{Answers}
 use Rattle.educe_body.specs.declared.answers.Callee.{Callee}
 use Rattle.educe_body.specs.declared.body.Body.{Body}
-use Rattle.educe_body.specs.declared.form.Form.{Form, Call}
+use Rattle.educe_body.specs.declared.form.Form.{Form}
 use Rattle.educe_body.specs.declared.form.Form as form
 use Rattle.educe_body.specs.declared.evaluator.Binding.{Binding}
 use Rattle.educe_body.specs.declared.evaluator.Referent.{Referent}

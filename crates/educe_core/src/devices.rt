@@ -1,5 +1,5 @@
 //! What a run reads from and writes to.
-ghost use Rattle.std.specs.Prelude.{◌≡◌, ◌<◌, ◌≤◌, ℕ, List, Option, Bool, IsTrue, IfOk, IfSome, OnOk, OnErr, IsErrOf, length, take, []};
+ghost use Rattle.std.specs.Prelude.{◌≡◌, ◌<◌, ◌≤◌, ℕ, List, Option, Bool, IsTrue, IfOk, OnOk, OnErr, IsErrOf, length, take};
 ghost use Rattle.educe_core.specs.Devices.{Rose, ahead, behind, EndsOnNothing, TakesSome};
 
 use std::alloc::AllocError;

@@ -1,5 +1,5 @@
 //! Devices over memory, whose failures are planned.
-ghost use Rattle.std.specs.Prelude.{◌≡◌, ◌+◌, ◌-◌, ◌^◌, ◌≤◌, ◌==◌, min, [], if◌then◌else◌, vec_len, IfOk, Some, true, false};
+ghost use Rattle.std.specs.Prelude.{◌≡◌, ◌+◌, ◌-◌, ◌^◌, ◌≤◌, ◌==◌, min, [], if◌then◌else◌, vec_len, IfOk, Some, false};
 ghost use Rattle.std.specs.List.{list_any};
 
 use crate::devices::{Failed, Sink, Source, Stopped};
@@ -92,7 +92,7 @@ impl MemorySource {
 }
 
 impl Source for MemorySource {
-    ghost use Rattle.std.specs.Prelude.{◌∷◌, ◌<◌, IfSome, IsErr, IsTrue, ◌↔◌, OnOk, OnErr, drop, take, length, nat_lt};
+    ghost use Rattle.std.specs.Prelude.{◌<◌, IsErr, IsTrue, ◌↔◌, OnOk, OnErr, take, length};
     ghost use Rattle.educe_core.specs.Devices.{Rose, ahead, EndsOnNothing};
     ghost use Rattle.educe_core.specs.Memory.{source_left, source_faults, source_may_fail, source_step, source_failing, source_calls};
 
@@ -172,7 +172,7 @@ impl MemorySink {
 }
 
 impl Sink for MemorySink {
-    ghost use Rattle.std.specs.Prelude.{◌∷◌, ◌<◌, IsErrOf, IsTrue, ◌↔◌, OnOk, OnErr, take, length, nat_lt};
+    ghost use Rattle.std.specs.Prelude.{◌<◌, IsErrOf, IsTrue, ◌↔◌, OnOk, OnErr, take, length};
     ghost use Rattle.educe_core.specs.Devices.{Rose, behind, TakesSome};
     ghost use Rattle.educe_core.specs.Memory.{sink_held, sink_faults, sink_may_fail, sink_step, sink_failing, sink_calls};
 

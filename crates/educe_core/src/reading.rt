@@ -1,5 +1,5 @@
 //! The reading of the whole input.
-ghost use Rattle.std.specs.Prelude.{◌≡◌, ◌+◌, ◌<◌, ◌≤◌, ◌++◌, take, length, vec_len, IfOk, IsErrOf, OnOk, OnErr, IsTrue};
+ghost use Rattle.std.specs.Prelude.{◌≡◌, ◌+◌, ◌<◌, ◌≤◌, ◌++◌, take, length, vec_len, IfOk, IsErrOf, OnOk, IsTrue};
 ghost use Rattle.educe_core.specs.Devices.{Rose, ahead, IsAtEnd, TakesAtMost, EndsOnNothing};
 
 use crate::devices::{Source, Stopped};

@@ -1,5 +1,5 @@
 //! The writing of a text.
-ghost use Rattle.std.specs.Prelude.{◌≡◌, ◌≤◌, ℕ, take, IsErrOf, OnOk, IsTrue};
+ghost use Rattle.std.specs.Prelude.{◌≡◌, ℕ, take, IsErrOf, OnOk, IsTrue};
 ghost use Rattle.educe_core.specs.Devices.{Rose, behind, change};
 ghost use Rattle.educe_core.specs.Status.{Delivers};
 
