@@ -77,20 +77,24 @@ fn brackets_visibility_and_types_are_free(rt: HostRuntime) -> Result<(), Fail> {
     )
 }
 
-/// A struct of one field, whose type has so many `&`.
-fn nested(alloc: Global, depth: u32) -> Result<String, AllocError> {
-    let mut input = String::from_str(alloc, "#[educe(PartialEq)] struct S(")?;
+/// A definition with so many `&` between these texts.
+fn nested(alloc: Global, front: &str, depth: u32, behind: &str) -> Result<String, AllocError> {
+    let mut input = String::from_str(alloc, front)?;
     for _ in 0..depth {
         input.push_str("&")?;
     }
-    input.push_str("u8);")?;
+    input.push_str(behind)?;
     Ok(input)
 }
 
+/// Two texts, how many `&` stand between them, and the notes.
+type Nested<'a> = (&'a str, u32, &'a str, &'a str);
+
 /// The notes on so many `&`.
-fn check_nested(rt: &impl Abort, alloc: Global, cases: &[(u32, &str)]) -> Result<(), Fail> {
-    for (depth, notes) in cases {
-        check_notes(rt, alloc, nested(alloc, *depth)?.as_str(), notes)?;
+fn check_nested(rt: &impl Abort, alloc: Global, cases: &[Nested]) -> Result<(), Fail> {
+    for (front, depth, behind, notes) in cases {
+        let input = nested(alloc, front, *depth, behind)?;
+        check_notes(rt, alloc, input.as_str(), notes)?;
     }
     Ok(())
 }
@@ -100,6 +104,26 @@ fn types_nest_so_far(rt: HostRuntime) -> Result<(), Fail> {
     check_nested(
         &rt,
         rt.alloc(),
-        &[(127, ""), (128, "1:157: nested too deeply\n")],
+        &[
+            ("#[educe(PartialEq)] struct S(", 127, "u8);", ""),
+            (
+                "#[educe(PartialEq)] struct S(",
+                128,
+                "u8);",
+                "1:157: nested too deeply\n",
+            ),
+            (
+                "#[educe(Clone)] struct S { a: ",
+                127,
+                "u8 }",
+                "1:1: not built yet\n",
+            ),
+            (
+                "#[educe(Clone)] struct S { a: ",
+                128,
+                "u8 }",
+                "1:158: nested too deeply\n",
+            ),
+        ],
     )
 }
