@@ -1,7 +1,7 @@
 //! What the calls answer: trees by their text, refusals by their place and words.
 
 use super::{answer_name, kind_name};
-use crate::checks::{check, check_text, printed};
+use crate::checks::{check, check_text, copied, first, printed};
 use educe_parser::{
     parse_derive_input, parse_expr, parse_ident, parse_metas, parse_path, parse_predicates,
 };
@@ -186,6 +186,30 @@ fn definitions_are_trees(rt: HostRuntime) -> Result<(), Fail> {
     let found = read(parse_derive_input(alloc, &tokens))?;
     check_head(&rt, &found);
     check_fields(&rt, alloc, &found.shape)
+}
+
+/// The definition has the name `S` and the field `a` of the type `u8`, where they stand in a text.
+fn check_one_field(rt: &impl Abort, alloc: Global, found: &DeriveInput) -> Result<(), Fail> {
+    check(rt, found.ident.text.as_str(), "S");
+    check(rt, found.ident.span, Span { start: 27, end: 28 });
+    check(rt, found.tokens.len(), 14);
+    let Shape::Struct(shape) = &found.shape else {
+        return Err(Fail::from("no struct"));
+    };
+    let field = first(&shape.fields)?;
+    check(rt, field.name(), "a");
+    check(rt, field.span, Span { start: 31, end: 36 });
+    check_text(rt, text_of_tree(alloc, &field.ty)?, "u8");
+    Ok(())
+}
+
+#[test]
+fn copies_of_definitions_are_equal(rt: HostRuntime) -> Result<(), Fail> {
+    let alloc = rt.alloc();
+    let tokens = lexed_slice(alloc, "#[educe(PartialEq)] struct S { a: u8 }")?;
+    let found = read(parse_derive_input(alloc, &tokens))?;
+    check_one_field(&rt, alloc, &found)?;
+    check_one_field(&rt, alloc, &copied(alloc, Ok(found))?)
 }
 
 #[test]
