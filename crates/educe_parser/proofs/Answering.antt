@@ -16,7 +16,8 @@ use Rattle.educe_grammar.proofs.Opening.{is_ready}
 use Rattle.educe_grammar.proofs.ReadsAgain.{ReadsAgain}
 use Rattle.educe_grammar.proofs.Sound.{reads_sound}
 use Rattle.educe_grammar.proofs.Steps.{ok_pair}
-use Rattle.educe_parser.specs.Answers.{IsAnswer, refusal_of}
+use Rattle.educe_parser.specs.Answers.{IsAnswer, HasCause, refusal_of}
+use Rattle.educe_parser.proofs.NeedsNone.{read_needs_none}
 
 -- where nothing is left, what was read is the answer
 pub answered : {A : Type 0} (outcome : Outcome A) (rest : Tokens) (x : A) → outcome ≡ Ok (x, rest) → at_end rest ≡ true → outcome ≡ Ok (x, [])
@@ -82,3 +83,18 @@ module _ {A : Type 0} (g : Rule A) (again : ReadsAgain g) where
     answer_err tokens (Ok x) is = tt
     answer_err tokens (Err e) (inl short) = subst (IsParseCause g tokens) (sym short) IsParseCause.memory
     answer_err tokens (Err e) (inr stop) = subst (IsParseCause g tokens) (sym stop.2) (cause tokens stop.0 stop.1)
+
+    -- a list without a value has a cause, by the outcome of the program
+    caused_by : (tokens : Tokens) → HasNoReading g tokens → (outcome : Outcome A) → read depth_limit g tokens ≡ outcome → HasCause g tokens
+    caused_by tokens none (Ok (x, [])) is = absurd (none x (answer_found tokens (Ok x) is))
+    caused_by tokens none (Ok (x, t ∷ rest)) is =
+        record { error = refusal_of tokens (Syntax (length (t ∷ rest))); is_told = (λ same. cc); stands = cause tokens (Syntax (length (t ∷ rest))) (ap stop_of is) }
+    caused_by tokens none (Err Memory) is = absurd (read_needs_none depth_limit g tokens is)
+    caused_by tokens none (Err (Syntax left)) is =
+        record { error = refusal_of tokens (Syntax left); is_told = (λ same. cc); stands = cause tokens (Syntax left) (ap stop_of is) }
+    caused_by tokens none (Err (TooDeep left)) is =
+        record { error = refusal_of tokens (TooDeep left); is_told = (λ same. cc); stands = cause tokens (TooDeep left) (ap stop_of is) }
+
+    -- a list without a value has a cause, which is no want of memory
+    pub caused : (tokens : Tokens) → HasNoReading g tokens → HasCause g tokens
+    caused tokens none = caused_by tokens none (read depth_limit g tokens) refl

@@ -1,5 +1,5 @@
 -- What a call answers that runs a reading program on a whole list.
-use Rattle.std.specs.Prelude.{◌≡◌, [], Some, Result, Ok, Err, ◌⊎◌}
+use Rattle.std.specs.Prelude.{◌≡◌, ◌≢◌, [], Some, Result, Ok, Err, ◌⊎◌}
 use Rattle.educe_tokens.specs.declared.error.EduceError.{EduceError}
 use Rattle.educe_tokens.specs.declared.error.Kind.TheVariants.{Alloc}
 use Rattle.educe_tokens.specs.Refusals.{placeless, syntax_at, too_deep_at}
@@ -7,7 +7,8 @@ use Rattle.educe_grammar.specs.declared.parse_error.ParseError.{ParseError}
 use Rattle.educe_grammar.specs.declared.parse_error.ParseError.TheVariants.{Memory, Syntax, TooDeep}
 use Rattle.educe_tree.specs.declared.derive.DeriveInput.{DeriveInput}
 use Rattle.educe_grammar.specs.Naming.{Named, scopes, duplicate_of, IsRepeatedIn}
-use Rattle.educe_grammar.specs.Parsed.{place_at, stop_of}
+use Rattle.educe_grammar.specs.Parsed.{IsParseCause, place_at, stop_of}
+use Rattle.educe_grammar.specs.Rules.{Rule}
 use Rattle.educe_grammar.specs.Steps.{Tokens, Parser}
 
 -- the refusal of the tokens where a program stops so
@@ -20,6 +21,12 @@ refusal_of tokens (TooDeep left) = too_deep_at (place_at tokens left)
 abbrev pub IsAnswer : {A : Type 0} → Parser A → Tokens → Result A EduceError → Type 0
 IsAnswer program tokens (Ok x) = program tokens ≡ Ok (x, [])
 IsAnswer program tokens (Err e) = (e ≡ placeless Alloc) ⊎ ((error : ParseError) × (stop_of (program tokens) ≡ Some error) × (e ≡ refusal_of tokens error))
+
+-- there is a cause why the whole list is refused, which is no want of memory
+pub record HasCause {A : Type 0} (g : Rule A) (tokens : Tokens) : Type 0 where
+  pub error : EduceError
+  pub is_told : error.kind ≢ Alloc
+  pub stands : IsParseCause g tokens error
 
 -- A name of the definition is given twice, and this is its refusal; or the one for want of memory.
 abbrev pub IsRefusedName : DeriveInput → EduceError → Type 0
