@@ -2,7 +2,6 @@
 ghost use Rattle.std.specs.Prelude.{◌≡◌, ◌≤◌, ◌+◌, ◌==◌, ◌||◌, length};
 ghost use Rattle.std.specs.List.{list_any, prefix_len};
 ghost use Rattle.std.specs.Char.{is_ascii_digit};
-ghost use Rattle.educe_pieces.specs.Chars.{begins};
 ghost use Rattle.educe_pieces.specs.Floats.{is_decimal_part, behind_digits, is_float_type, is_float_suffix, unsigned, is_exponent_number, is_exponent, ends_float, is_fraction, is_float_tail, ends_with_dot};
 ghost use Rattle.educe_pieces.specs.Numbers.{is_exponent_mark, is_sign, end_len, fraction_len, tail_len};
 

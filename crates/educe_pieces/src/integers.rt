@@ -1,7 +1,7 @@
 //! Integers (Rust Reference, Integer literals).
-ghost use Rattle.std.specs.Prelude.{◌≡◌, ◌≤◌, ◌<◌, ◌+◌, ◌^◌, ◌==◌, ◌||◌, IsTrue, Some, [], ◌∷◌, length, chars};
+ghost use Rattle.std.specs.Prelude.{◌≡◌, ◌≤◌, ◌<◌, ◌^◌, ◌==◌, ◌||◌, IsTrue, Some, [], ◌∷◌, length, chars};
 ghost use Rattle.std.specs.Option.{SomeIff};
-ghost use Rattle.std.specs.List.{prefix_len, list_all};
+ghost use Rattle.std.specs.List.{list_all};
 ghost use Rattle.std.specs.Char.{is_ascii_digit};
 ghost use Rattle.educe_pieces.specs.Chars.{begins};
 ghost use Rattle.educe_pieces.specs.Integers.{radix, mark_length, base_behind, base_of, is_digit_or_mark, unmarked, digit_count, digits_of, suffix_of, is_integer_type, has_int_form, fits_u128, is_int, int_value_of, makes_float};
