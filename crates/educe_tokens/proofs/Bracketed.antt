@@ -43,7 +43,7 @@ meets : (text : List ℕ) (ts : List Token) (i : ℕ) (t : Token) (outer : List 
 meets text ts i t outer lexes h e opened shallow = record { lexes = subst (Lexes text) (token_split ts i t h e) lexes; opened = opened; shallow = shallow }
 
 -- why a token that a loop has is refused
-refused_token : (text : List ℕ) (before behind : List Token) (t : Token) (outer : List Bracket) (cause : BracketError) → Meets text before t behind outer → IsCauseOfKind outer t.kind cause → IsLexicalCause text (refusal_of cause t.span)
+pub refused_token : (text : List ℕ) (before behind : List Token) (t : Token) (outer : List Bracket) (cause : BracketError) → Meets text before t behind outer → IsCauseOfKind outer t.kind cause → IsLexicalCause text (refusal_of cause t.span)
 refused_token text before behind t outer WrongClose met is = IsLexicalCause.wrong_close before t behind outer met is
 refused_token text before behind t outer TooDeep met is = IsLexicalCause.too_deep before t behind outer is.0 met is.1 is.2
 refused_token text before behind t outer Alloc met is = IsLexicalCause.memory

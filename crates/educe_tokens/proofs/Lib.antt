@@ -22,3 +22,4 @@ pub mod Words
 pub mod StringValues
 pub mod Limits
 pub mod Printable
+pub mod Decided

@@ -60,6 +60,12 @@ pub data IsLexicalCause (text : List ℕ) : EduceError → Type 0 where
   -- want of memory
   memory : IsLexicalCause text (placeless Alloc)
 
+-- one of these causes stands, and it is no want of memory
+pub record HasCause (IsCause : EduceError → Type 0) : Type 0 where
+  pub error : EduceError
+  pub is_told : error.kind ≢ Alloc
+  pub stands : IsCause error
+
 -- the answer is these tokens, unless memory is short
 abbrev pub Gives : Result (List Token) EduceError → List Token → Type 0
 Gives (Ok found) tokens = found ≡ tokens
