@@ -8,13 +8,15 @@ use Rattle.educe_pieces.specs.declared.kind.TokenKind.TheVariants as kind
 use Rattle.educe_tokens.specs.declared.token.Token.{Token}
 use Rattle.educe_tokens.specs.Brackets as brackets
 use Rattle.educe_tokens.specs.Lexes.{Lexeme}
+use Rattle.educe_tree.specs.declared.expr.Expr.{Expr}
 use Rattle.educe_tree.specs.declared.ty.Ty.{Ty}
 use Rattle.educe_grammar.specs.Steps.{Tokens}
 use Rattle.educe_grammar.specs.Ahead.{is_stop, closes, sees, at_end, begins_pair, begins_lone, sees_any}
 use Rattle.educe_grammar.specs.Reading.{Parses}
 use Rattle.educe_grammar.specs.Running.{run}
 use Rattle.educe_grammar.specs.Rules.{Part, part, types, plains, exprs, trees}
-use Rattle.educe_grammar.specs.Reads.{readers_below, Reads}
+use Rattle.educe_grammar.specs.Reads.{parts_below, readers_below, Reads}
+use Rattle.educe_grammar.specs.Expressions.{expression}
 use Rattle.educe_grammar.specs.Types.{any_type, plain_type}
 use Rattle.educe_grammar.specs.Alike.{kind_aside, lexeme_aside, lexemes_aside, AreEqualAside, AlikeTypes}
 use Rattle.educe_grammar.proofs.Computed.{computed}
@@ -100,15 +102,15 @@ further_more : (t u : Token) (front rest longer : Tokens) → lexeme_aside t ≡
 further_more t u front rest longer first f =
     record { first = f.first; more = f.more; behind = f.behind; is = f.is; same = aside_more t u (front ++ f.first ∷ f.more) longer first f.same }
 
--- of two fronts one goes further, or behind both stands the same
-fronts_of : (front longer rest left : Tokens) → AreEqualAside (front ++ rest) (longer ++ left) → AreEqualAside rest left ⊎ (Further front rest longer ⊎ Further longer left front)
-fronts_of [] [] rest left same = inl same
+-- of two fronts one goes further, or they are equal and behind both stands the same
+fronts_of : (front longer rest left : Tokens) → AreEqualAside (front ++ rest) (longer ++ left) → (AreEqualAside front longer × AreEqualAside rest left) ⊎ (Further front rest longer ⊎ Further longer left front)
+fronts_of [] [] rest left same = inl (refl, same)
 fronts_of [] (u ∷ longer) rest left same = inr (inl (further_none rest u longer left same))
 fronts_of (t ∷ front) [] rest left same = inr (inr (further_none left t front rest (sym same)))
 fronts_of (t ∷ front) (u ∷ longer) rest left same =
     let first = aside_first t u (front ++ rest) (longer ++ left) same in
     elim (fronts_of front longer rest left (aside_rest t u (front ++ rest) (longer ++ left) same)) [
-      | inl e ↦ inl e
+      | inl e ↦ inl (aside_more t u front longer first e.0, e.1)
       | inr (inl f) ↦ inr (inl (further_more t u front rest longer first f))
       | inr (inr f) ↦ inr (inr (further_more u t longer left front (sym first) f))
     ]
@@ -134,7 +136,13 @@ no_further front rest longer whole all ends f =
     ∙ ap (λ k. brackets.closes [] (k ∷ kinds_of f.more)) (stop_kind stops.0 f.first.kind stops.1) in
     both_ways (brackets.closes [] (kinds_of longer)) (sym (same_closes (front ++ f.first ∷ f.more) longer f.same) ∙ open_there) (balanced_closes longer all)
 
--- Expressions in lists that are equal aside, with closing brackets behind them, end at the same place.
+-- an expression has the tokens that it was read from
+expr_tokens : (bound budget : ℕ) (ts : Tokens) (x : Expr) → parts_below bound budget exprs ts x → x.written.tokens ≡ ts
+unfolding parts_below Parses expression
+expr_tokens zero budget ts x is = absurd is
+expr_tokens (suc bound) budget ts x is = ap (λ (e : Expr). e.written.tokens) is.1 ∙ is.2.1
+
+-- Expressions in lists that are equal aside, with closing brackets behind them, have equal tokens and end at the same place.
 exprs_agree : (i j b c : ℕ) → Agree (readers_below i b exprs) (readers_below j c exprs) (ends_of exprs) (Kin exprs)
 unfolding Parses
 exprs_agree i j b c ts us rest left x y same h k s t =
@@ -143,7 +151,7 @@ exprs_agree i j b c ts us rest left x y same h k s t =
     let whole : IsBalanced v.front = balanced_below i (part exprs) b v.front x v.is_in in
     let all : IsBalanced w.front = balanced_below j (part exprs) c w.front y w.is_in in
     elim (fronts_of v.front w.front rest left (aside_as v.whole w.whole same)) [
-      | inl e ↦ (tt, e)
+      | inl e ↦ (aside_as (sym (expr_tokens i b v.front x v.is_in)) (sym (expr_tokens j c w.front y w.is_in)) e.0, e.1)
       | inr (inl f) ↦ absurd (no_further v.front rest w.front whole all s f)
       | inr (inr f) ↦ absurd (no_further w.front left v.front all whole t f)
     ]

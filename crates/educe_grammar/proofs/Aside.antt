@@ -1,5 +1,5 @@
 -- Lists of tokens that are equal aside: which tests on their first tokens answer the same.
-use Rattle.std.proofs.Common.{◌≡◌, ℕ, zero, suc, Bool, true, false, ◌&&◌, ◌||◌, List, [], ◌∷◌, map, drop, refl, ap, sym, ◌∙◌, ⊎_elim}
+use Rattle.std.proofs.Common.{◌≡◌, ℕ, zero, suc, ◌-◌, Bool, true, false, ◌&&◌, ◌||◌, List, [], ◌∷◌, length, map, take, drop, refl, ap, sym, subst, ◌∙◌, ⊎_elim}
 use Rattle.std.specs.List.{list_all, list_any}
 use Rattle.std.proofs.lemmas.Bool.{false≢true, both_ways, and_parts, and_from, or_cases, or_left, or_right}
 use Rattle.educe_pieces.specs.declared.kind.Bracket.{Bracket}
@@ -11,7 +11,7 @@ use Rattle.educe_tokens.proofs.Tokens.{cons_parts, nil_not_cons}
 use Rattle.educe_grammar.specs.declared.terminal.Terminal.{Terminal}
 use Rattle.educe_grammar.specs.declared.terminal.Terminal.TheVariants.{Sign}
 use Rattle.educe_grammar.specs.Terminals.{TokenSet, set_of, token_in, accepts}
-use Rattle.educe_grammar.specs.Steps.{Tokens}
+use Rattle.educe_grammar.specs.Steps.{Tokens, since}
 use Rattle.educe_grammar.specs.Ahead.{is_sign, is_joint, is_start, is_stop, is_doc, opens, closes, documents, begins_pair, begins_lone, sees, at_end, Ahead, one, start, stop, doc, pair, lone, finish, begins, behind, meets, Look, sees_any}
 use Rattle.educe_grammar.specs.Combining.{at_colons}
 use Rattle.educe_grammar.specs.Alike.{kind_aside, lexeme_aside, lexemes_aside, AreEqualAside}
@@ -48,6 +48,28 @@ aside_drop (suc n) [] [] same = same
 aside_drop (suc n) [] (u ∷ us) same = absurd (aside_empty u us same)
 aside_drop (suc n) (t ∷ ts) [] same = absurd (aside_empty t ts (sym same))
 aside_drop (suc n) (t ∷ ts) (u ∷ us) same = aside_drop n ts us (aside_rest t u ts us same)
+
+-- the first tokens alone
+aside_take : (n : ℕ) (ts us : Tokens) → AreEqualAside ts us → AreEqualAside (take n ts) (take n us)
+aside_take zero ts us same = refl
+aside_take (suc n) [] [] same = same
+aside_take (suc n) [] (u ∷ us) same = absurd (aside_empty u us same)
+aside_take (suc n) (t ∷ ts) [] same = absurd (aside_empty t ts (sym same))
+aside_take (suc n) (t ∷ ts) (u ∷ us) same = aside_more t u (take n ts) (take n us) (aside_first t u ts us same) (aside_take n ts us (aside_rest t u ts us same))
+
+-- they are of one length
+aside_length : (ts us : Tokens) → AreEqualAside ts us → length ts ≡ length us
+aside_length [] [] same = refl
+aside_length [] (u ∷ us) same = absurd (aside_empty u us same)
+aside_length (t ∷ ts) [] same = absurd (aside_empty t ts (sym same))
+aside_length (t ∷ ts) (u ∷ us) same = ap suc (aside_length ts us (aside_rest t u ts us same))
+
+-- what was read of them, where what is left of them is equal
+pub aside_since : (ts us rest left : Tokens) → AreEqualAside ts us → AreEqualAside rest left → AreEqualAside (since ts rest) (since us left)
+unfolding since
+aside_since ts us rest left same behind =
+    let n : length ts - length rest ≡ length us - length left = λ i. aside_length ts us same i - aside_length rest left behind i in
+    subst (λ n. AreEqualAside (take (length ts - length rest) ts) (take n us)) n (aside_take (length ts - length rest) ts us same)
 
 -- ---- single tokens
 

@@ -17,10 +17,10 @@ use Rattle.educe_grammar.specs.Depth.{pending, closed}
 use Rattle.educe_grammar.specs.Reading.{Parses}
 use Rattle.educe_grammar.specs.Running.{run, written_if}
 use Rattle.educe_grammar.specs.Rules.{Rule, written}
-use Rattle.educe_grammar.specs.Reads.{parts_below, readers_below, Reads, read}
+use Rattle.educe_grammar.specs.Reads.{parts_below, Reads, read}
 use Rattle.educe_grammar.proofs.Beginnings.{is_plain}
 use Rattle.educe_grammar.proofs.Keeping.{has_no_documentation, IsKept, OfDocumentation, parses_keeps, parts_keep, reads_keep}
-use Rattle.educe_grammar.proofs.Sound.{rule_sound, parts_sound, reads_sound}
+use Rattle.educe_grammar.proofs.Sound.{reads_sound}
 use Rattle.educe_grammar.proofs.Steps.{IsTrue-prop, since_all}
 
 -- ---- bracket pairs
@@ -234,21 +234,9 @@ pub copied_below : {A : Type 0} (n : ℕ) (g : Rule A) (budget : ℕ) (tokens : 
     → IsTrue (may_be_copied (lexemes tokens))
 copied_below n g budget tokens x no_doc is = may_copy tokens (balanced_below n g budget tokens x is) (no_doc_below n g budget tokens x no_doc is)
 
--- what its program has read may be copied, whatever the fuel of the parts
-pub copied_since_below : {A : Type 0} (n : ℕ) (g : Rule A) (budget : ℕ) (ts rest : Tokens) (x : A) → has_no_documentation g ≡ true → run (readers_below n) budget g ts ≡ Ok (x, rest)
-    → IsTrue (may_be_copied (lexemes (since ts rest)))
-copied_since_below n g budget ts rest x no_doc h =
-    let t = rule_sound (readers_below n) (parts_below n) (parts_sound n) g budget ts rest x h in
-    let e : since ts rest ≡ t.front = ap (λ us. since us rest) t.whole ∙ since_all t.front rest in
-    subst (λ us. IsTrue (may_be_copied (lexemes us))) (sym e) (copied_below n g budget t.front x no_doc t.is_in)
-
 -- what a rule allows is balanced
 pub reads_balanced : {A : Type 0} (budget : ℕ) (g : Rule A) (tokens : Tokens) (x : A) → Reads budget g tokens x → IsBalanced tokens
 reads_balanced budget g tokens x is = reads_keep IsBalanced balanced_kept g (inr balanced_documentation) budget tokens x is
-
--- what a rule allows is even
-pub reads_even : {A : Type 0} (budget : ℕ) (g : Rule A) (tokens : Tokens) (x : A) → Reads budget g tokens x → IsEven tokens
-reads_even budget g tokens x is = reads_keep IsEven even_kept g (inr documentation_even) budget tokens x is
 
 -- what a rule allows that reads no documentation has none
 pub reads_no_doc : {A : Type 0} (budget : ℕ) (g : Rule A) (tokens : Tokens) (x : A) → has_no_documentation g ≡ true → Reads budget g tokens x → HasNoDoc tokens

@@ -8,7 +8,7 @@ use Rattle.educe_grammar.specs.declared.ending.Tail.{Tail}
 use Rattle.educe_grammar.specs.declared.ending.Tail.TheVariants as tail
 use Rattle.educe_grammar.specs.Steps.{Tokens}
 use Rattle.educe_grammar.specs.Ahead.{one, start, lone, pair, Look, sees_any}
-use Rattle.educe_grammar.specs.Rules.{part, exprs, made, checked, nest, token, chain, sliced}
+use Rattle.educe_grammar.specs.Rules.{part, exprs, made, nest, token, chain}
 use Rattle.educe_grammar.specs.Rules as rule
 use Rattle.educe_grammar.specs.Reading.{Parts, Parses}
 use Rattle.educe_grammar.specs.Running.{Readers}

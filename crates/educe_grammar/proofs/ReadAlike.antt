@@ -26,7 +26,7 @@ use Rattle.educe_grammar.proofs.Fronts.{fronts, fronts_seen}
 use Rattle.educe_grammar.proofs.PartFronts.{part_fronts, parts_seen}
 use Rattle.educe_grammar.proofs.Sound.{rule_sound, parts_sound}
 use Rattle.educe_grammar.proofs.Deciding.{behind_item, behind_segment, one_seen, stop_seen, seen_at, seen_left, seen_right, pair_then}
-use Rattle.educe_grammar.proofs.Aside.{aside_first, aside_rest, aside_as, aside_drop, accepts_same, sees_same, is_steady, steady_same, apart_aside, apart_aside_sound, colons_settled, colons_settled_sound}
+use Rattle.educe_grammar.proofs.Aside.{aside_first, aside_rest, aside_as, aside_drop, aside_since, accepts_same, sees_same, is_steady, steady_same, apart_aside, apart_aside_sound, colons_settled, colons_settled_sound}
 
 -- ---- values that are read alike
 
@@ -57,7 +57,7 @@ ReadAlike Kin (many look g) xs ys = Pairwise (ReadAlike Kin g) xs ys
 ReadAlike Kin (chain look g) xs ys = Pairwise (ReadAlike Kin g) xs ys
 ReadAlike Kin (path g) xs ys = Pairwise (ReadAlike Kin g) xs ys
 ReadAlike Kin (sliced g) x y = ReadAlike Kin g x.0 y.0
-ReadAlike Kin (written g) x y = ReadAlike Kin g x.0 y.0
+ReadAlike Kin (written g) x y = ReadAlike Kin g x.0 y.0 × AreEqualAside x.1.tokens y.1.tokens
 ReadAlike Kin (part p) x y = Kin p x y
 
 -- ---- the test
@@ -442,6 +442,7 @@ module _ (Kin : (p : Part) → TreeOf p → TreeOf p → Type 0) (i j : ℕ)
       let f = written_went w.value (since us w.left) w.left (may_be_copied (lexemes (since us w.left))) refl y left w.second in
       let a = rule_agree g l settled b c ts us v.left w.left v.value w.value same v.first w.first
       (subst (λ vs. sees_any l vs ≡ true) (sym e.2) s) (subst (λ vs. sees_any l vs ≡ true) (sym f.2) t) in
-      (related_as (ReadAlike Kin g) e.0 f.0 a.0, aside_as e.2 f.2 a.1)
+      let tokens = aside_as (sym e.1) (sym f.1) (aside_since ts us v.left w.left same a.1) in
+      ((related_as (ReadAlike Kin g) e.0 f.0 a.0, tokens), aside_as e.2 f.2 a.1)
   rule_agree (part p) l settled b c ts us rest left x y same h k s t =
       known b c p ts us rest left x y same h k (all_within_sound l (ends_of p) rest settled s) (all_within_sound l (ends_of p) left settled t)

@@ -22,13 +22,6 @@ Written-path a b tokens = λ i. record {
   written = is_prop→PathP (λ j. IsTrue (may_be_copied (lexemes (tokens j)))) (λ j. IsTrue-prop _) a.written b.written i;
 }
 
--- tokens that were found are equal where the tokens are
-pub Found-path : {test : Token → Bool} (a b : Found test) → a.token ≡ b.token → a ≡ b
-Found-path {test} a b token = λ i. record {
-  token = token i;
-  passes = is_prop→PathP (λ j. IsTrue (test (token j))) (λ j. IsTrue-prop _) a.passes b.passes i;
-}
-
 -- equal outcomes have equal contents
 pub ok_same : {A : Type 0} {x y : A} → ◌≡◌ {A = Result A ParseError} (Ok x) (Ok y) → x ≡ y
 ok_same h = cc

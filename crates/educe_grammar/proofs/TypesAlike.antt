@@ -22,14 +22,14 @@ use Rattle.educe_grammar.specs.Combining.{skipping, optional, flag}
 use Rattle.educe_grammar.specs.Names.{name, segment_name, lifetime}
 use Rattle.educe_grammar.specs.Types as grammar
 use Rattle.educe_grammar.specs.Types.{constant_of, constant, binding_of, angle_arg, angle_args, ArgsRead, angle_read, returned, round_read, round_args, type_args, SegmentRead, segment_read, type_segment, type_segments, path_read, type_path, qualified_self, qualified_path, qualified_read, qualified, BoundRead, bound_path, bound, bounds, bound_paths, FormRead, round_of, round_form, never_of, reference_of, reference, pointer_of, pointer, square_of, square_form, fn_param, fn_of, fn_pointer, path_form, plain_form, bound_form, bounds_form, one_bound_form, any_bounds_form, typed_of, untyped_of, plain_type, any_type, path_of}
-use Rattle.educe_grammar.specs.Alike.{AlikeTypes, AlikeForms, AlikeOptions, AllTypesAlike, AlikePaths, AllPathsAlike, AlikeSegments, AllSegmentsAlike, AlikeArgs, AlikeAngleArgs, AllArgsAlike}
+use Rattle.educe_grammar.specs.Alike.{AreEqualAside, AlikeTypes, AlikeForms, AlikeOptions, AllTypesAlike, AlikePaths, AllPathsAlike, AlikeSegments, AllSegmentsAlike, AlikeArgs, AlikeAngleArgs, AllArgsAlike}
 use Rattle.educe_grammar.proofs.ReadAlike.{Pairwise, ReadAlike, related_as}
 
 -- how parts that are read alike are related
 abbrev pub Kin : (p : Part) → TreeOf p → TreeOf p → Type 0
 Kin types x y = AlikeTypes x y
 Kin plains x y = AlikeTypes x.0 y.0
-Kin exprs x y = Unit {0}
+Kin exprs x y = AreEqualAside x.written.tokens y.written.tokens
 Kin trees x y = Unit {0}
 
 -- What is read alike is so related.
@@ -96,10 +96,10 @@ lone_related : {A : Type 0} (c d : ℕ) (g : Rule A) (Q : A → A → Type 0) �
 unfolding ReadAlike
 lone_related c d g Q p = record { relates = p.relates }
 
--- with the tokens as they were written, which are not compared
-written_related : {A : Type 0} (g : Rule A) (Q : A → A → Type 0) → Relates g Q → Relates (written g) (λ x y. Q x.0 y.0)
+-- with the tokens as they were written, which are equal aside
+written_related : {A : Type 0} (g : Rule A) (Q : A → A → Type 0) → Relates g Q → Relates (written g) (λ x y. Q x.0 y.0 × AreEqualAside x.1.tokens y.1.tokens)
 unfolding ReadAlike
-written_related g Q p = record { relates = λ x y is. p.relates x.0 y.0 is }
+written_related g Q p = record { relates = λ x y is. (p.relates x.0 y.0 is.0, is.1) }
 
 -- a part
 part_related : (p : Part) → Relates (part p) (Kin p)
@@ -214,7 +214,7 @@ angle_arg_related : Relates angle_arg AlikeAngleArgs
 unfolding angle_arg
 angle_arg_related =
     either_related _ _ _ AlikeAngleArgs (made_related arg.Lifetime lifetime SameLifetime AlikeAngleArgs (λ x y is. AlikeAngleArgs.lifetimes x y is) lifetime_related)
-    (either_related _ _ _ AlikeAngleArgs (made_related constant_of (written constant) (λ _ _. Unit {0}) AlikeAngleArgs (λ x y is. AlikeAngleArgs.constants x.1 y.1) (any_related (written constant)))
+    (either_related _ _ _ AlikeAngleArgs (made_related constant_of (written constant) (λ x y. Unit {0} × AreEqualAside x.1.tokens y.1.tokens) AlikeAngleArgs (λ x y is. AlikeAngleArgs.constants x.1 y.1 is.1) (written_related constant (λ _ _. Unit {0}) (any_related constant)))
     (either_related _ _ _ AlikeAngleArgs
     (made_related binding_of (both name (lone 61 61 (part types))) (λ x y. SameName x.0 y.0 × AlikeTypes x.1 y.1) AlikeAngleArgs (λ x y is. AlikeAngleArgs.bindings x.0 y.0 is.0 is.1)
     (both_related name (lone 61 61 (part types)) SameName AlikeTypes name_related (lone_related 61 61 (part types) AlikeTypes (part_related types))))
@@ -381,20 +381,20 @@ pointer_related : Relates pointer FormKin
 unfolding pointer
 pointer_related = made_related pointer_of _ TypedKin FormKin (λ x y is. AlikeForms.pointers is) (under_related _ _ TypedKin (skipping_related _ (part plains) TypedKin (part_related plains)))
 
--- slices, or arrays of any length
-square_alike : (x y : Ty) (o r : Option Expr) → AlikeTypes x y → Optional (λ _ _. Unit {0}) o r → FormKin (square_of (x, o)) (square_of (y, r))
+-- slices, or arrays whose lengths have equal tokens
+square_alike : (x y : Ty) (o r : Option Expr) → AlikeTypes x y → Optional (Kin exprs) o r → FormKin (square_of (x, o)) (square_of (y, r))
 square_alike x y None None first is = AlikeForms.slices first
 square_alike x y None (Some n) first is = absurd is
 square_alike x y (Some m) None first is = absurd is
-square_alike x y (Some m) (Some n) first is = AlikeForms.arrays m.written n.written first
+square_alike x y (Some m) (Some n) first is = AlikeForms.arrays m.written n.written is first
 
 -- a slice or an array
 square_form_related : Relates square_form FormKin
 unfolding square_form
 square_form_related =
-    made_related square_of _ (λ x y. AlikeTypes x.0 y.0 × Optional (λ _ _. Unit {0}) x.1 y.1) FormKin (λ x y is. square_alike x.0 y.0 x.1 y.1 is.0 is.1)
-    (nest_related _ _ (λ x y. AlikeTypes x.0 y.0 × Optional (λ _ _. Unit {0}) x.1 y.1)
-    (both_related (part types) _ AlikeTypes (Optional (λ _ _. Unit {0})) (part_related types) (optional_related _ _ (λ _ _. Unit {0}) (any_related _))))
+    made_related square_of _ (λ x y. AlikeTypes x.0 y.0 × Optional (Kin exprs) x.1 y.1) FormKin (λ x y is. square_alike x.0 y.0 x.1 y.1 is.0 is.1)
+    (nest_related _ _ (λ x y. AlikeTypes x.0 y.0 × Optional (Kin exprs) x.1 y.1)
+    (both_related (part types) _ AlikeTypes (Optional (Kin exprs)) (part_related types) (optional_related _ _ (Kin exprs) (skipping_related _ _ (Kin exprs) (part_related exprs)))))
 
 -- a parameter of a function pointer
 fn_param_related : Relates fn_param AlikeTypes
@@ -451,13 +451,13 @@ any_bounds_form_related =
 plain_type_related : Relates plain_type TypedKin
 unfolding plain_type
 plain_type_related =
-    made_related typed_of _ (λ x y. FormKin x.0 y.0) TypedKin (λ x y is. AlikeTypes.of_forms x.1 y.1 is) (written_related one_bound_form FormKin one_bound_form_related)
+    made_related typed_of _ (λ x y. FormKin x.0 y.0 × AreEqualAside x.1.tokens y.1.tokens) TypedKin (λ x y is. AlikeTypes.of_forms x.1 y.1 is.1 is.0) (written_related one_bound_form FormKin one_bound_form_related)
 
 -- a type
 any_type_related : Relates any_type AlikeTypes
 unfolding any_type
 any_type_related =
-    made_related untyped_of _ (λ x y. FormKin x.0 y.0) AlikeTypes (λ x y is. AlikeTypes.of_forms x.1 y.1 is) (written_related any_bounds_form FormKin any_bounds_form_related)
+    made_related untyped_of _ (λ x y. FormKin x.0 y.0 × AreEqualAside x.1.tokens y.1.tokens) AlikeTypes (λ x y is. AlikeTypes.of_forms x.1 y.1 is.1 is.0) (written_related any_bounds_form FormKin any_bounds_form_related)
 
 -- Types that are read alike are alike.
 pub types_related : (x y : Ty) → ReadAlike Kin any_type x y → AlikeTypes x y

@@ -45,12 +45,13 @@ AreEqualAside ts us = lexemes_aside ts ≡ lexemes_aside us
 
 -- ---- types
 
--- Types are alike: their trees have the same form, names, arguments (lifetimes among them), leading `::` and `mut` of
--- references. The places of names, the lengths of arrays, constants and the tokens as they were written are not compared;
--- so what stands in the tokens alone is not: the lifetime of a reference, `const` or `mut` of a pointer, what stands before `fn`.
+-- Types are alike: their tokens are equal, spans and jointness aside, and so are those of each type inside of them, of the
+-- lengths of arrays and of constants; and their trees have the same form, names, arguments (lifetimes among them), leading
+-- `::` and `mut` of references. Places are not compared. What stands in the tokens alone is compared by them: the lifetime of
+-- a reference, `const` or `mut` of a pointer, what stands before `fn`.
 mutual
   pub data AlikeTypes : Ty → Ty → Type 0 where
-    of_forms : {f g : TypeForm} (v w : Written) → AlikeForms f g → AlikeTypes (type_of f v) (type_of g w)
+    of_forms : {f g : TypeForm} (v w : Written) → AreEqualAside v.tokens w.tokens → AlikeForms f g → AlikeTypes (type_of f v) (type_of g w)
 
   -- forms of types
   pub data AlikeForms : TypeForm → TypeForm → Type 0 where
@@ -60,7 +61,7 @@ mutual
     references : (mutable : Bool) {x y : Ty} → AlikeTypes x y → AlikeForms (form.Reference mutable x) (form.Reference mutable y)
     pointers : {x y : Ty} → AlikeTypes x y → AlikeForms (form.Pointer x) (form.Pointer y)
     slices : {x y : Ty} → AlikeTypes x y → AlikeForms (form.Slice x) (form.Slice y)
-    arrays : {x y : Ty} (v w : Written) → AlikeTypes x y → AlikeForms (form.Array x v) (form.Array y w)
+    arrays : {x y : Ty} (v w : Written) → AreEqualAside v.tokens w.tokens → AlikeTypes x y → AlikeForms (form.Array x v) (form.Array y w)
     paths : {s t : Option Ty} {p q : Path} → AlikeOptions s t → AlikePaths p q → AlikeForms (form.Path s p) (form.Path t q)
     functions : {xs ys : List Ty} {s t : Option Ty} → AllTypesAlike xs ys → AlikeOptions s t → AlikeForms (form.FnPtr xs s) (form.FnPtr ys t)
     objects : {ps qs : List Path} → AllPathsAlike ps qs → AlikeForms (form.TraitObject ps) (form.TraitObject qs)
@@ -104,7 +105,7 @@ mutual
     lifetimes : (l m : Lifetime) → l.text ≡ m.text → AlikeAngleArgs (arg.Lifetime l) (arg.Lifetime m)
     plain_types : {x y : Ty} → AlikeTypes x y → AlikeAngleArgs (arg.Plain x) (arg.Plain y)
     bindings : (i j : Ident) {x y : Ty} → i.text ≡ j.text → AlikeTypes x y → AlikeAngleArgs (arg.Binding i x) (arg.Binding j y)
-    constants : (v w : Written) → AlikeAngleArgs (arg.Constant v) (arg.Constant w)
+    constants : (v w : Written) → AreEqualAside v.tokens w.tokens → AlikeAngleArgs (arg.Constant v) (arg.Constant w)
 
   -- arguments in angle brackets, in their order
   pub data AllArgsAlike : List AngleArg → List AngleArg → Type 0 where

@@ -28,7 +28,7 @@ use Rattle.educe_grammar.specs.Terminals.{accepts}
 use Rattle.educe_grammar.specs.Steps.{Tokens, Found}
 use Rattle.educe_grammar.specs.Ahead.{one, start, stop, lone, pair, Look, is_sign, begins_pair}
 use Rattle.educe_grammar.specs.Rules as rule
-use Rattle.educe_grammar.specs.Rules.{Rule, token, empty, both, made, checked, either, nest, angles, binary, many, chain, sliced, written, part, types, exprs, trees}
+use Rattle.educe_grammar.specs.Rules.{Rule, token, empty, both, made, checked, either, nest, binary, many, chain, sliced, written, part, exprs, trees}
 use Rattle.educe_grammar.specs.Combining.{at, at_sign, at_word, at_colons, at_angle, unit, skipping, optional, flag, sign, word, colons, behind_colon, commas, in_round}
 use Rattle.educe_grammar.specs.Names.{segment_name}
 use Rattle.educe_grammar.specs.Types.{path_of, segment_of, angle_args, has_no_args, is_path, qualified_self, qualified_path, plain_type}

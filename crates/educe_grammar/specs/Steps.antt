@@ -82,8 +82,3 @@ Operates longest (Err e) old new = (longest ≡ None) × (e ≡ Syntax (length o
 -- A function value that reads what this program does.
 pub record ReadsAs {A : Type 0} (read : Parser A) (post : MutBor Tokens → Result A ParseError → MutBor Tokens → Type 0) : Type 0 where
   pub reads : (old new : MutBor Tokens) (r : Result A ParseError) → post old r new → Gives (read old.now) r new.now
-
--- the tree, unless memory fails
-abbrev pub IsTree : {A : Type 0} → A → Result A ParseError → Type 0
-IsTree tree (Ok found) = found ≡ tree
-IsTree tree (Err e) = e ≡ Memory

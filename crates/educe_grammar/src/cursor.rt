@@ -1,5 +1,5 @@
 //! A cursor over a list of tokens, which contracts see as the tokens that are left.
-ghost use Rattle.std.specs.Prelude.{◌≡◌, ℕ, ◌+◌, ◌-◌, ◌^◌, ◌<◌, Bool, length, drop, if◌then◌else◌, IfOk};
+ghost use Rattle.std.specs.Prelude.{◌≡◌, ◌+◌, ◌-◌, ◌^◌, ◌<◌, Bool, length, drop, if◌then◌else◌, IfOk};
 ghost use Rattle.educe_tokens.specs.declared.token.Token.{Token};
 ghost use Rattle.educe_tokens.specs.Brackets as brackets;
 ghost use Rattle.educe_grammar.specs.Ahead as ahead;

@@ -1,5 +1,5 @@
 //! The loops that rules are made of, over an item that a function value reads.
-ghost use Rattle.std.specs.Prelude.{◌≡◌, suc, [], length};
+ghost use Rattle.std.specs.Prelude.{suc, [], length};
 ghost use Rattle.educe_grammar.specs.Ahead.{Look, Decides};
 ghost use Rattle.educe_grammar.specs.Reading.{chain_limit};
 ghost use Rattle.educe_grammar.specs.Running.{items, repeat, links, segments};

@@ -1,7 +1,4 @@
 //! What was read, with its tokens.
-ghost use Rattle.std.specs.Prelude.{◌≡◌, IsTrue, IfOk};
-ghost use Rattle.educe_tokens.specs.Copied.{may_be_copied};
-ghost use Rattle.educe_tokens.specs.Lexes.{lexemes};
 ghost use Rattle.educe_grammar.specs.Running.{ReadsCopied, written_by};
 ghost use Rattle.educe_grammar.specs.Steps.{Parser, Gives, ReadsAs};
 
