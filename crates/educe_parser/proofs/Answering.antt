@@ -16,7 +16,7 @@ use Rattle.educe_grammar.proofs.Opening.{is_ready}
 use Rattle.educe_grammar.proofs.ReadsAgain.{ReadsAgain}
 use Rattle.educe_grammar.proofs.Sound.{reads_sound}
 use Rattle.educe_grammar.proofs.Steps.{ok_pair}
-use Rattle.educe_parser.specs.Answers.{IsAnswer, HasCause, refusal_of}
+use Rattle.educe_parser.specs.Answers.{IsAnswer, IsDecided, refusal_of}
 use Rattle.educe_parser.proofs.NeedsNone.{read_needs_none}
 
 -- where nothing is left, what was read is the answer
@@ -32,7 +32,7 @@ stopped outcome [] x is ended = absurd (cc)
 stopped outcome (t ∷ rest) x is ended = ap stop_of is
 
 -- where a program stops since it nests too deep, it fails so
-deep_stop : {A : Type 0} (outcome : Outcome A) (left : ℕ) → stop_of outcome ≡ Some (TooDeep left) → outcome ≡ Err (TooDeep left)
+pub deep_stop : {A : Type 0} (outcome : Outcome A) (left : ℕ) → stop_of outcome ≡ Some (TooDeep left) → outcome ≡ Err (TooDeep left)
 deep_stop (Ok (x, [])) left stop = absurd (cc)
 deep_stop (Ok (x, t ∷ rest)) left stop = absurd (cc)
 deep_stop (Err e) left stop = let same : e ≡ TooDeep left = cc in ap Err same
@@ -84,17 +84,17 @@ module _ {A : Type 0} (g : Rule A) (again : ReadsAgain g) where
     answer_err tokens (Err e) (inl short) = subst (IsParseCause g tokens) (sym short) IsParseCause.memory
     answer_err tokens (Err e) (inr stop) = subst (IsParseCause g tokens) (sym stop.2) (cause tokens stop.0 stop.1)
 
-    -- a list without a value has a cause, by the outcome of the program
-    caused_by : (tokens : Tokens) → HasNoReading g tokens → (outcome : Outcome A) → read depth_limit g tokens ≡ outcome → HasCause g tokens
-    caused_by tokens none (Ok (x, [])) is = absurd (none x (answer_found tokens (Ok x) is))
-    caused_by tokens none (Ok (x, t ∷ rest)) is =
-        record { error = refusal_of tokens (Syntax (length (t ∷ rest))); is_told = (λ same. cc); stands = cause tokens (Syntax (length (t ∷ rest))) (ap stop_of is) }
-    caused_by tokens none (Err Memory) is = absurd (read_needs_none depth_limit g tokens is)
-    caused_by tokens none (Err (Syntax left)) is =
-        record { error = refusal_of tokens (Syntax left); is_told = (λ same. cc); stands = cause tokens (Syntax left) (ap stop_of is) }
-    caused_by tokens none (Err (TooDeep left)) is =
-        record { error = refusal_of tokens (TooDeep left); is_told = (λ same. cc); stands = cause tokens (TooDeep left) (ap stop_of is) }
+    -- the whole list has a value, or a cause, by the outcome of the program
+    decided_by : (tokens : Tokens) (outcome : Outcome A) → read depth_limit g tokens ≡ outcome → IsDecided g tokens
+    decided_by tokens (Ok (x, [])) is = inl (x, answer_found tokens (Ok x) is)
+    decided_by tokens (Ok (x, t ∷ rest)) is =
+        inr (record { error = refusal_of tokens (Syntax (length (t ∷ rest))); is_told = (λ same. cc); stands = cause tokens (Syntax (length (t ∷ rest))) (ap stop_of is) })
+    decided_by tokens (Err Memory) is = absurd (read_needs_none depth_limit g tokens is)
+    decided_by tokens (Err (Syntax left)) is =
+        inr (record { error = refusal_of tokens (Syntax left); is_told = (λ same. cc); stands = cause tokens (Syntax left) (ap stop_of is) })
+    decided_by tokens (Err (TooDeep left)) is =
+        inr (record { error = refusal_of tokens (TooDeep left); is_told = (λ same. cc); stands = cause tokens (TooDeep left) (ap stop_of is) })
 
-    -- a list without a value has a cause, which is no want of memory
-    pub caused : (tokens : Tokens) → HasNoReading g tokens → HasCause g tokens
-    caused tokens none = caused_by tokens none (read depth_limit g tokens) refl
+    -- A whole list has a value, or there is a cause why it is refused, which is no want of memory.
+    pub decided : (tokens : Tokens) → IsDecided g tokens
+    decided tokens = decided_by tokens (read depth_limit g tokens) refl

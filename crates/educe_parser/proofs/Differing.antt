@@ -28,9 +28,9 @@ around xs i x within is =
     sym (take-append-drop (i + 1) xs) ∙ ap (λ front. front ++ drop (i + 1) xs) (take_more xs i x within is) ∙ append_assoc (take i xs) (x ∷ []) (drop (i + 1) xs)
 
 -- what holds of each, and of one more
-pub all_snoc : {A : Type 0} (P : A → Type 0) (xs : List A) (x : A) → AllByRecursion P xs → P x → AllByRecursion P (xs ++ x ∷ [])
-all_snoc P [] x all last = (last, tt)
-all_snoc P (y ∷ ys) x all last = (all.0, all_snoc P ys x all.1 last)
+pub all_with_last : {A : Type 0} (P : A → Type 0) (xs : List A) (x : A) → AllByRecursion P xs → P x → AllByRecursion P (xs ++ x ∷ [])
+all_with_last P [] x all last = (last, tt)
+all_with_last P (y ∷ ys) x all last = (all.0, all_with_last P ys x all.1 last)
 
 -- ---- names
 
@@ -77,9 +77,9 @@ differs (n ∷ ns) name none =
     )
 
 -- names, and one more that differs from each
-apart_snoc : (names : List Named) (name : Named) → AreApart names → AllByRecursion (λ other. bare other ≢ bare name) names → AreApart (names ++ name ∷ [])
-apart_snoc [] name apart new = (tt, tt)
-apart_snoc (n ∷ ns) name apart new = (all_snoc (λ other. bare n ≢ bare other) ns name apart.0 new.0, apart_snoc ns name apart.1 new.1)
+pub apart_with_last : (names : List Named) (name : Named) → AreApart names → AllByRecursion (λ other. bare other ≢ bare name) names → AreApart (names ++ name ∷ [])
+apart_with_last [] name apart new = (tt, tt)
+apart_with_last (n ∷ ns) name apart new = (all_with_last (λ other. bare n ≢ bare other) ns name apart.0 new.0, apart_with_last ns name apart.1 new.1)
 
 cond_or : (a b : Bool) → cond a true b ≡ (b || (a || false))
 cond_or true true = refl
@@ -101,14 +101,14 @@ seen_more seen next names name text before is_text bytes new updates =
           updates.0 other ∙ ap (λ (b : Bool). cond b true (contains text_cmp seen other)) here ∙ ap (cond (bytes_eq (bytes_of name) other.now) true) (before.has other)
           ∙ cond_or (bytes_eq (bytes_of name) other.now) (has_name names other.now)
           ∙ sym (list_any-append (λ n. bytes_eq (bytes_of n) other.now) names (name ∷ []));
-      texts = all_snoc IsText names name before.texts is_text;
-      apart = apart_snoc names name before.apart (differs names name none);
+      texts = all_with_last IsText names name before.texts is_text;
+      apart = apart_with_last names name before.apart (differs names name none);
     }
 
 -- ---- repeated names
 
 -- An earlier name of the list is the same, a leading `r#` aside.
-record Earlier (before : List Named) (name : Named) : Type 0 where
+pub record Earlier (before : List Named) (name : Named) : Type 0 where
   pub front : List Named
   pub first : Named
   pub between : List Named
@@ -125,19 +125,22 @@ earlier (n ∷ ns) name texts text found =
           record { front = n ∷ e.front; first = e.first; between = e.between; is = ap (λ ms. n ∷ ms) e.is; same = e.same })
     ]
 
--- a name that was seen is repeated, for the first time where those before are apart
+-- a name that is that of an earlier one is repeated, for the first time where those before are apart
+pub repeated_behind : (before after : List Named) (name : Named) → Earlier before name → AreApart before → IsRepeated name (before ++ name ∷ after)
+repeated_behind before after name e apart = record {
+  before = e.front;
+  first = e.first;
+  between = e.between;
+  after = after;
+  is = ap (λ ms. ms ++ name ∷ after) e.is ∙ append_assoc e.front (e.first ∷ e.between) (name ∷ after);
+  same = e.same;
+  apart = subst AreApart e.is apart;
+}
+
+-- so is a name that was seen
 pub repeated : (before after : List Named) (name : Named) → AllByRecursion IsText before → IsText name → has_name before (bytes_of name) ≡ true → AreApart before
     → IsRepeated name (before ++ name ∷ after)
-repeated before after name texts text found apart =
-    let e = earlier before name texts text found in record {
-      before = e.front;
-      first = e.first;
-      between = e.between;
-      after = after;
-      is = ap (λ ms. ms ++ name ∷ after) e.is ∙ append_assoc e.front (e.first ∷ e.between) (name ∷ after);
-      same = e.same;
-      apart = subst AreApart e.is apart;
-    }
+repeated before after name texts text found apart = repeated_behind before after name (earlier before name texts text found) apart
 
 -- the other value of a test
 pub flipped : (a b : Bool) → not a ≡ not b → a ≡ b

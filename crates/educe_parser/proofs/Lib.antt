@@ -4,3 +4,6 @@ pub mod Repeats
 pub mod NeedsNone
 pub mod Answering
 pub mod WholeRefused
+pub mod Shallow
+pub mod NamesDecided
+pub mod Decided

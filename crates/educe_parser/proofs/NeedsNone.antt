@@ -1,5 +1,5 @@
 -- The program of a rule is never in want of memory.
-use Rattle.std.proofs.Common.{◌≡◌, ℕ, zero, suc, ◌-◌, Bool, true, false, List, [], ◌∷◌, ◌++◌, length, drop, refl, ap, inl, inr, if◌then◌else◌, Option, Some, None, Ok, Err}
+use Rattle.std.proofs.Common.{◌≡◌, ℕ, zero, suc, ◌-◌, Bool, true, false, List, [], ◌∷◌, ◌++◌, length, drop, refl, inl, inr, if◌then◌else◌, Option, Some, None, Ok, Err}
 use Rattle.educe_tokens.specs.declared.token.Token.{Token}
 use Rattle.educe_tokens.specs.Copied.{may_be_copied}
 use Rattle.educe_tokens.specs.Lexes.{lexemes}

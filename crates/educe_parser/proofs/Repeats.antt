@@ -1,5 +1,5 @@
 -- The earliest of the repeated names, with one more list.
-use Rattle.std.proofs.Common.{◌≡◌, ℕ, ◌<◌, ◌≤◌, List, [], ◌∷◌, ◌++◌, map, refl, ap, sym, subst, ◌∙◌, arith, append_assoc, Option, Some, None}
+use Rattle.std.proofs.Common.{◌≡◌, ℕ, ◌<◌, ◌≤◌, List, [], ◌∷◌, ◌++◌, refl, ap, sym, subst, ◌∙◌, arith, append_assoc, Option, Some, None}
 use Rattle.std.specs.List.{AllByRecursion, filter_map}
 use Rattle.educe_tree.specs.declared.derive.DeriveInput.{DeriveInput}
 use Rattle.educe_tree.specs.declared.derive.Shape.{Shape}
@@ -7,7 +7,7 @@ use Rattle.educe_tree.specs.declared.generics.GenericParam.{GenericParam}
 use Rattle.educe_grammar.specs.Naming.{Named, lifetime_named, type_named, shape_scopes, scopes, AreApart, IsRepeated, IsRepeatedIn, AreBehind, AreNotBefore}
 use Rattle.educe_grammar.proofs.Repeated.{never_apart, one_repeated}
 use Rattle.educe_parser.specs.Earliest.{IsEarliest}
-use Rattle.educe_parser.proofs.Differing.{all_snoc}
+use Rattle.educe_parser.proofs.Differing.{all_with_last}
 
 -- ---- lists
 
@@ -20,11 +20,6 @@ all_append P (x ∷ xs) ys all more = (all.0, all_append P xs ys all.1 more)
 all_more : {A : Type 0} (P Q : A → Type 0) → ((x : A) → P x → Q x) → (xs : List A) → AllByRecursion P xs → AllByRecursion Q xs
 all_more P Q more [] all = tt
 all_more P Q more (x ∷ xs) all = (more x all.0, all_more P Q more xs all.1)
-
--- the image of two lists, one behind the other
-pub map_snoc : {A B : Type 0} (f : A → B) (xs ys : List A) → map f (xs ++ ys) ≡ map f xs ++ map f ys
-map_snoc f [] ys = refl
-map_snoc f (x ∷ xs) ys = ap (λ zs. f x ∷ zs) (map_snoc f xs ys)
 
 -- ---- one more list
 
@@ -46,7 +41,7 @@ one_more lists names known is not_before = record {
   is = ap (λ ms. ms ++ names ∷ []) is.is ∙ append_assoc is.before (is.names ∷ is.after) (names ∷ []);
   repeated = is.repeated;
   behind = is.behind;
-  not_before = all_snoc (IsNotBefore known.span.start) is.after names is.not_before not_before;
+  not_before = all_with_last (IsNotBefore known.span.start) is.after names is.not_before not_before;
 }
 
 -- no repeated name is written before the earliest
@@ -67,7 +62,7 @@ one_new lists names found repeated behind =
 
 -- no name is repeated in it
 pub none_new : (known : Option Named) (lists : List (List Named)) (names : List Named) → IsEarliest known lists → AreApart names → IsEarliest known (lists ++ names ∷ [])
-none_new None lists names known apart = all_snoc AreApart lists names known apart
+none_new None lists names known apart = all_with_last AreApart lists names known apart
 none_new (Some name) lists names known apart = one_more lists names name known (λ other was. absurd (never_apart names other was apart))
 
 -- one is repeated in it, and none before

@@ -1,5 +1,5 @@
 //! The calls of the parser: each reads a whole list of tokens.
-ghost use Rattle.std.specs.Prelude.{List, length, IfOk, IfErr, IfSome, IfNone};
+ghost use Rattle.std.specs.Prelude.{◌≢◌, List, length, IfOk, IfErr, IfSome, IfNone};
 ghost use Rattle.educe_tree.specs.declared.attr.Meta.{Meta};
 ghost use Rattle.educe_tree.specs.declared.derive.DeriveInput.{DeriveInput};
 ghost use Rattle.educe_tree.specs.declared.expr.Expr.{Expr};
@@ -21,7 +21,7 @@ use crate::knot::{definition, expr_path, expression, metas, predicates};
 use crate::naming::repeated_name;
 use crate::unions::{not_carried, union_word};
 use crate::whole::whole;
-use educe_tokens::{EduceError, TokenSlice};
+use educe_tokens::{EduceError, Kind, TokenSlice};
 use educe_tree::{DeriveInput, Expr, ExprPath, Ident, Metas, Predicates};
 use educe_types::name;
 use std::alloc::Global;
@@ -31,6 +31,8 @@ pub fn parse_ident(alloc: Global, tokens: &TokenSlice) -> Result<Ident, EduceErr
     ensures found { IfOk result (λ x. IsWhole names.name tokens.now x) }
     ensures only { (x : Ident) → IsWhole names.name tokens.now x → IsOnly x result }
     ensures err { IfErr result (IsParseCause names.name tokens.now) }
+    // One token is never too deep.
+    ensures shallow { IfErr result (λ e. e.kind ≢ Kind.TooDeep) }
 {
     whole(alloc, tokens, |cursor| name(alloc, cursor))
 }
