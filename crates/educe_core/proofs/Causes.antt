@@ -56,7 +56,7 @@ handler_reuse d e rank place is built reuses = subst (IsHandlerCause d) (sym is)
 -- ---- ranks that are apart
 
 -- elements of one rank are one where the ranks are apart
-one_of_rank : {X : Type 0} (rank : X → ℤ) (xs : List X) (x y : X) → AreRanksApart rank xs → In x xs → In y xs → rank x ≡ rank y → x ≡ y
+pub one_of_rank : {X : Type 0} (rank : X → ℤ) (xs : List X) (x y : X) → AreRanksApart rank xs → In x xs → In y xs → rank x ≡ rank y → x ≡ y
 unfolding IsDistinct
 one_of_rank rank [] x y apart has_x has_y same = absurd has_x
 one_of_rank rank (z ∷ zs) x y apart (inl here) (inl also) same = sym here ∙ also
@@ -87,6 +87,16 @@ each_filtered P p (y ∷ ys) x each (inl here) passes =
     subst P here (subst (AllByRecursion P) kept each).0
 each_filtered P p (y ∷ ys) x each (inr later) passes = each_filtered P p ys x (filtered_step P y (filter p ys) (p y) each) later passes
 
+-- what holds of one if it passes, and of all that are left behind it
+filtered_one : {X : Type 0} (P : X → Type 0) (x : X) (rest : List X) (passes : Bool) → (passes ≡ true → P x) → AllByRecursion P rest → AllByRecursion P (if passes then x ∷ rest else rest)
+filtered_one P x rest true holds each = (holds refl, each)
+filtered_one P x rest false holds each = each
+
+-- what holds of each that passes holds of all that are left
+pub filtered_all : {X : Type 0} (P : X → Type 0) (p : X → Bool) (xs : List X) → ((x : X) → In x xs → p x ≡ true → P x) → AllByRecursion P (filter p xs)
+filtered_all P p [] each = tt
+filtered_all P p (x ∷ xs) each = filtered_one P x (filter p xs) (p x) (each x (inl refl)) (filtered_all P p xs (λ y found. each y (inr found)))
+
 in_order : (which : Trait) → In which fixed_order
 in_order PartialEq = inl refl
 in_order PartialOrd = inr (inl refl)
@@ -114,7 +124,7 @@ unfolding definition Parses
 tokens_read tokens d whole = ap (λ (x : DeriveInput). x.tokens) whole.1 ∙ whole.2.1
 
 -- a text is the definition that its tokens are
-defined_by : (source : List ℕ) (tokens : List Token) (d : DeriveInput) → IsReading (chars source) tokens → IsWhole definition tokens d → AreNamesApart d → Defines (chars source) d
+pub defined_by : (source : List ℕ) (tokens : List Token) (d : DeriveInput) → IsReading (chars source) tokens → IsWhole definition tokens d → AreNamesApart d → Defines (chars source) d
 defined_by source tokens d are whole apart =
     let same = sym (tokens_read tokens d whole) in record {
       tokens_are = subst (IsReading (chars source)) same are;

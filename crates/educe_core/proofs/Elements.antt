@@ -1,5 +1,5 @@
 -- Facts of each element of a list.
-use Rattle.std.proofs.Common.{◌≡◌, ℕ, zero, suc, ◌<◌, ◌⊎◌, inl, inr, List, [], ◌∷◌, map, length, get_or, refl, ap, subst, arith}
+use Rattle.std.proofs.Common.{◌≡◌, ℕ, zero, suc, ◌<◌, ◌⊎◌, inl, inr, List, [], ◌∷◌, ◌++◌, map, length, get_or, refl, ap, subst, arith}
 use Rattle.std.specs.Prelude.{IsPermutation}
 use Rattle.std.specs.List.{Contains, AllByRecursion}
 use Rattle.std.proofs.lemmas.List.Elements.{recursion_from_All, All-from_recursion}
@@ -57,3 +57,20 @@ each_mapped P f (x ∷ xs) each = (each.0, each_mapped P f xs each.1)
 -- what holds of each element holds of each in another order
 pub each_moved : {X : Type 0} (P : X → Type 0) (xs ys : List X) → IsPermutation xs ys → AllByRecursion P xs → AllByRecursion P ys
 each_moved P xs ys moved each = recursion_from_All P ys (All-permutation P xs ys moved (All-from_recursion P xs each))
+
+-- an element of two lists is one of either
+pub in_either : {X : Type 0} (xs ys : List X) (x : X) → In x (xs ++ ys) → In x xs ⊎ In x ys
+in_either [] ys x found = inr found
+in_either (z ∷ zs) ys x (inl here) = inl (inl here)
+in_either (z ∷ zs) ys x (inr later) = elim (in_either zs ys x later) [ inl front ↦ inl (inr front) | inr behind ↦ inr behind ]
+
+-- an element of the front
+pub in_front : {X : Type 0} (xs ys : List X) (x : X) → In x xs → In x (xs ++ ys)
+in_front [] ys x found = absurd found
+in_front (z ∷ zs) ys x (inl here) = inl here
+in_front (z ∷ zs) ys x (inr later) = inr (in_front zs ys x later)
+
+-- the element itself
+pub in_middle : {X : Type 0} (xs ys : List X) (x : X) → In x (xs ++ x ∷ ys)
+in_middle [] ys x = inl refl
+in_middle (z ∷ zs) ys x = inr (in_middle zs ys x)

@@ -17,3 +17,6 @@ pub mod FieldPlaces
 pub mod Places
 pub mod Causes
 pub mod Alone
+pub mod RanksDecided
+pub mod BuiltDecided
+pub mod Decided

@@ -1,5 +1,5 @@
 -- What sorting the fields by rank gives.
-use Rattle.std.proofs.Common.{◌≡◌, ℕ, zero, suc, ◌+◌, ◌<◌, ◌≤◌, ◌<ℤ◌, pos, List, [], ◌∷◌, map, length, get_or, refl, sym, ap, ◌∙◌, subst, arith, inl, inr}
+use Rattle.std.proofs.Common.{◌≡◌, ℕ, zero, suc, ◌+◌, ◌<◌, ◌≤◌, ◌<ℤ◌, ℤ, pos, List, [], ◌∷◌, ◌++◌, map, length, get_or, refl, sym, ap, ◌∙◌, subst, arith, inl, inr}
 use Rattle.std.specs.Prelude.{IsPermutation, IsSortedByKey}
 use Rattle.std.specs.List.{Contains}
 use Rattle.std.specs.List.Sorted.{IsStableByKey}
@@ -14,7 +14,7 @@ use Rattle.educe_core.specs.Ranked.{kept_of}
 use Rattle.educe_core.specs.Ranks.{Rises, IsRepeatAt, IsEarliestRepeat}
 use Rattle.educe_core.specs.Settings.{Kept, kept_fields, rank_place, RanksDiffer, IsEarliest, ReusesARank}
 use Rattle.educe_core.specs.Blocks.{IsByRank}
-use Rattle.educe_core.proofs.Elements.{In, In-permutation, In-from_Contains, Contains-from_In, In-mapped, each_map, each_mapped}
+use Rattle.educe_core.proofs.Elements.{In, In-all, in_middle, In-permutation, In-from_Contains, Contains-from_In, In-mapped, each_map, each_mapped}
 use Rattle.educe_core.proofs.Sorting.{apart_from_Rises, rises_among_ties, second_from_sort}
 use Rattle.educe_core.proofs.Kept.{places_rise}
 use Rattle.educe_core.proofs.Earliest.{same_at}
@@ -26,6 +26,17 @@ Rises-mapped rank f (x ∷ xs) rises = (each_mapped (λ y. rank (f x) <ℤ rank 
 pub Rises-map : {X Y : Type 0} (rank : Y → _) (f : X → Y) (xs : List X) → Rises rank (map f xs) → Rises (λ x. rank (f x)) xs
 Rises-map rank f [] rises = tt
 Rises-map rank f (x ∷ xs) rises = (each_map (λ y. rank (f x) <ℤ rank y) f xs rises.0, Rises-map rank f xs rises.1)
+
+-- where a number rises, it is lower before
+pub rises_to : {X : Type 0} (number : X → ℤ) (xs ys : List X) (x y : X) → Rises number (xs ++ x ∷ ys) → In y xs → number y <ℤ number x
+rises_to number [] ys x y rises found = absurd found
+rises_to number (z ∷ zs) ys x y rises (inl here) = subst (λ w. number w <ℤ number x) here (In-all (λ w. number z <ℤ number w) (zs ++ x ∷ ys) x rises.0 (in_middle zs ys x))
+rises_to number (z ∷ zs) ys x y rises (inr later) = rises_to number zs ys x y rises.1 later
+
+-- where a number rises, it is higher behind
+pub rises_from : {X : Type 0} (number : X → ℤ) (xs ys : List X) (x y : X) → Rises number (xs ++ x ∷ ys) → In y ys → number x <ℤ number y
+rises_from number [] ys x y rises found = In-all (λ w. number x <ℤ number w) ys y rises.0 found
+rises_from number (z ∷ zs) ys x y rises found = rises_from number zs ys x y rises.1 found
 
 In-get : {X : Type 0} (xs : List X) (k : ℕ) (d : X) → k < length xs → In (get_or xs k d) xs
 In-get [] k d less = absurd (omega arith)
