@@ -1,9 +1,8 @@
 //! Tests of `educe_pieces`, `educe_scan` and `educe_tokens`: texts, and the pieces, tokens and values
-//! that they are; and what the tests of all crates share.
+//! that they are.
 #![tactic(auto)]
 
 #[cfg(test)]
-mod checks;
 mod common;
 #[cfg(test)]
 mod pieces;
@@ -11,5 +10,3 @@ mod pieces;
 mod scan;
 #[cfg(test)]
 mod tokens;
-
-pub use common::{lex_answer, lexed, lexed_slice};

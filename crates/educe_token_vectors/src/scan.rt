@@ -1,13 +1,12 @@
 //! Of `educe_scan`: the piece at the front of a text, and whether a text is one piece.
 
-use crate::checks::check;
 use crate::common::characters;
+use educe_checks::{check_answers, check_at};
 use educe_pieces::PieceKind::Token;
 use educe_pieces::TokenKind::Punct;
 use educe_pieces::{Bracket, LiteralKind, PieceKind, TokenKind, UncarriedKind};
 use educe_scan::{is_piece, piece_at};
 use std::alloc::Global;
-use std::process::Abort;
 use std::test::Fail;
 
 const BLANK: PieceKind = PieceKind::Blank;
@@ -45,8 +44,7 @@ fn found(alloc: Global, text: &str) -> Result<Option<(PieceKind, usize)>, Fail> 
 
 #[test]
 fn words(rt: HostRuntime) -> Result<(), Fail> {
-    check(
-        &rt,
+    check_answers(
         rt.alloc(),
         found,
         &[
@@ -68,8 +66,7 @@ fn words(rt: HostRuntime) -> Result<(), Fail> {
 
 #[test]
 fn lifetimes_and_characters(rt: HostRuntime) -> Result<(), Fail> {
-    check(
-        &rt,
+    check_answers(
         rt.alloc(),
         found,
         &[
@@ -90,8 +87,7 @@ fn lifetimes_and_characters(rt: HostRuntime) -> Result<(), Fail> {
 
 #[test]
 fn strings(rt: HostRuntime) -> Result<(), Fail> {
-    check(
-        &rt,
+    check_answers(
         rt.alloc(),
         found,
         &[
@@ -113,8 +109,7 @@ fn strings(rt: HostRuntime) -> Result<(), Fail> {
 
 #[test]
 fn signs(rt: HostRuntime) -> Result<(), Fail> {
-    check(
-        &rt,
+    check_answers(
         rt.alloc(),
         found,
         &[
@@ -136,8 +131,7 @@ fn signs(rt: HostRuntime) -> Result<(), Fail> {
 
 #[test]
 fn comments(rt: HostRuntime) -> Result<(), Fail> {
-    check(
-        &rt,
+    check_answers(
         rt.alloc(),
         found,
         &[
@@ -153,8 +147,7 @@ fn comments(rt: HostRuntime) -> Result<(), Fail> {
 
 #[test]
 fn numbers(rt: HostRuntime) -> Result<(), Fail> {
-    check(
-        &rt,
+    check_answers(
         rt.alloc(),
         found,
         &[
@@ -169,14 +162,10 @@ fn numbers(rt: HostRuntime) -> Result<(), Fail> {
 }
 
 /// Compares whether a text is one piece of a kind.
-fn check_whole(
-    rt: &impl Abort,
-    alloc: Global,
-    table: &[(PieceKind, &str, bool)],
-) -> Result<(), Fail> {
+fn check_whole(alloc: Global, table: &[(PieceKind, &str, bool)]) -> Result<(), Fail> {
     for (kind, text, expected) in table {
         let found = is_piece(*kind, &characters(alloc, text)?);
-        assert_eq!(rt; found, *expected, "at {text}");
+        check_at(*text, found, *expected)?;
     }
     Ok(())
 }
@@ -184,7 +173,6 @@ fn check_whole(
 #[test]
 fn texts_that_are_one_piece(rt: HostRuntime) -> Result<(), Fail> {
     check_whole(
-        &rt,
         rt.alloc(),
         &[
             (BLANK, "\t", true),
@@ -203,7 +191,6 @@ fn texts_that_are_one_piece(rt: HostRuntime) -> Result<(), Fail> {
 #[test]
 fn texts_that_are_not_one_piece(rt: HostRuntime) -> Result<(), Fail> {
     check_whole(
-        &rt,
         rt.alloc(),
         &[
             (BLANK, "  ", false),

@@ -1,7 +1,7 @@
 //! Comments and documentation.
 
-use crate::checks::check;
 use crate::common::characters;
+use educe_checks::check_answers;
 use educe_pieces::{PieceKind, TokenKind, comment_at, doc_value, ends_line_before};
 use educe_scan::is_piece;
 use std::alloc::Global;
@@ -20,8 +20,7 @@ fn found(alloc: Global, text: &str) -> Result<Option<(PieceKind, usize)>, Fail> 
 
 #[test]
 fn comments(rt: HostRuntime) -> Result<(), Fail> {
-    check(
-        &rt,
+    check_answers(
         rt.alloc(),
         found,
         &[
@@ -40,8 +39,7 @@ fn comments(rt: HostRuntime) -> Result<(), Fail> {
 
 #[test]
 fn documentation(rt: HostRuntime) -> Result<(), Fail> {
-    check(
-        &rt,
+    check_answers(
         rt.alloc(),
         found,
         &[
@@ -57,8 +55,7 @@ fn documentation(rt: HostRuntime) -> Result<(), Fail> {
 
 #[test]
 fn none_found(rt: HostRuntime) -> Result<(), Fail> {
-    check(
-        &rt,
+    check_answers(
         rt.alloc(),
         found,
         &[
@@ -86,8 +83,7 @@ fn may_stand_before(alloc: Global, (spelling, rest): (&str, &str)) -> Result<boo
 
 #[test]
 fn ends_of_lines(rt: HostRuntime) -> Result<(), Fail> {
-    check(
-        &rt,
+    check_answers(
         rt.alloc(),
         may_stand_before,
         &[
@@ -110,8 +106,7 @@ fn doc_text<'a>(alloc: Global, doc: &'a str) -> Result<&'a str, Fail> {
 
 #[test]
 fn texts(rt: HostRuntime) -> Result<(), Fail> {
-    check(
-        &rt,
+    check_answers(
         rt.alloc(),
         doc_text,
         &[

@@ -1,7 +1,7 @@
 //! Numbers, and the values of integers.
 
-use crate::checks::check;
 use crate::common::characters;
+use educe_checks::check_answers;
 use educe_pieces::{
     LiteralKind, PieceKind, TokenKind, UncarriedKind, int_value, may_follow_float, may_follow_int,
     number_at,
@@ -37,8 +37,7 @@ fn found(alloc: Global, text: &str) -> Result<Option<(PieceKind, usize)>, Fail> 
 
 #[test]
 fn integers(rt: HostRuntime) -> Result<(), Fail> {
-    check(
-        &rt,
+    check_answers(
         rt.alloc(),
         found,
         &[
@@ -72,8 +71,7 @@ fn integers(rt: HostRuntime) -> Result<(), Fail> {
 
 #[test]
 fn floats(rt: HostRuntime) -> Result<(), Fail> {
-    check(
-        &rt,
+    check_answers(
         rt.alloc(),
         found,
         &[
@@ -94,8 +92,7 @@ fn floats(rt: HostRuntime) -> Result<(), Fail> {
 
 #[test]
 fn no_numbers(rt: HostRuntime) -> Result<(), Fail> {
-    check(
-        &rt,
+    check_answers(
         rt.alloc(),
         found,
         &[
@@ -130,8 +127,7 @@ fn value(alloc: Global, integer: &str) -> Result<Option<u128>, Fail> {
 
 #[test]
 fn values_of_integers(rt: HostRuntime) -> Result<(), Fail> {
-    check(
-        &rt,
+    check_answers(
         rt.alloc(),
         value,
         &[

@@ -1,7 +1,7 @@
 //! Literals between quotes, and the values of strings.
 
-use crate::checks::{check, check_texts};
 use crate::common;
+use educe_checks::{check_answers, check_texts};
 use educe_pieces::{Quote, is_body, quote_end, str_value};
 use std::alloc::Global;
 use std::test::Fail;
@@ -28,8 +28,7 @@ fn fits(alloc: Global, literal: &str) -> Result<bool, Fail> {
 
 #[test]
 fn strings(rt: HostRuntime) -> Result<(), Fail> {
-    check(
-        &rt,
+    check_answers(
         rt.alloc(),
         fits,
         &[
@@ -53,8 +52,7 @@ fn strings(rt: HostRuntime) -> Result<(), Fail> {
 
 #[test]
 fn codes(rt: HostRuntime) -> Result<(), Fail> {
-    check(
-        &rt,
+    check_answers(
         rt.alloc(),
         fits,
         &[
@@ -78,8 +76,7 @@ fn codes(rt: HostRuntime) -> Result<(), Fail> {
 
 #[test]
 fn bytes_and_c_strings(rt: HostRuntime) -> Result<(), Fail> {
-    check(
-        &rt,
+    check_answers(
         rt.alloc(),
         fits,
         &[
@@ -105,8 +102,7 @@ fn bytes_and_c_strings(rt: HostRuntime) -> Result<(), Fail> {
 
 #[test]
 fn characters(rt: HostRuntime) -> Result<(), Fail> {
-    check(
-        &rt,
+    check_answers(
         rt.alloc(),
         fits,
         &[
@@ -137,8 +133,7 @@ fn end(alloc: Global, literal: &str) -> Result<Option<usize>, Fail> {
 
 #[test]
 fn ends(rt: HostRuntime) -> Result<(), Fail> {
-    check(
-        &rt,
+    check_answers(
         rt.alloc(),
         end,
         &[(r#""a"b""#, Some(2)), (r#""\""#, None), ("'a ", None)],
@@ -153,7 +148,6 @@ fn value(alloc: Global, literal: &str) -> Result<String, Fail> {
 #[test]
 fn values_of_strings(rt: HostRuntime) -> Result<(), Fail> {
     check_texts(
-        &rt,
         rt.alloc(),
         value,
         &[

@@ -1,7 +1,7 @@
 //! Raw strings.
 
-use crate::checks::check;
 use crate::common::characters;
+use educe_checks::check_answers;
 use educe_pieces::{LiteralKind, PieceKind, TokenKind, begins_with, raw_len, raw_value};
 use educe_scan::is_piece;
 use std::alloc::Global;
@@ -17,8 +17,7 @@ fn found(alloc: Global, text: &str) -> Result<Option<usize>, Fail> {
 
 #[test]
 fn raw_texts(rt: HostRuntime) -> Result<(), Fail> {
-    check(
-        &rt,
+    check_answers(
         rt.alloc(),
         found,
         &[
@@ -59,8 +58,7 @@ fn value<'a>(alloc: Global, literal: &'a str) -> Result<&'a str, Fail> {
 
 #[test]
 fn values(rt: HostRuntime) -> Result<(), Fail> {
-    check(
-        &rt,
+    check_answers(
         rt.alloc(),
         value,
         &[

@@ -3,8 +3,7 @@
 //! as pieces that are carried, it gives the same kinds and the same jointness, but for the differences
 //! that `docs/DECISIONS.md` names.
 
-use crate::checks::check_texts;
-use crate::common::lex_answer;
+use educe_checks::{check_texts, lex_answer};
 use educe_tokens::{Kind, LiteralKind, TokenKind, TokenStream};
 use std::alloc::Global;
 use std::test::Fail;
@@ -59,7 +58,6 @@ fn answer(alloc: Global, source: &str) -> Result<String, Fail> {
 #[test]
 fn blanks(rt: HostRuntime) -> Result<(), Fail> {
     check_texts(
-        &rt,
         rt.alloc(),
         answer,
         &[
@@ -76,7 +74,6 @@ fn blanks(rt: HostRuntime) -> Result<(), Fail> {
 #[test]
 fn comments(rt: HostRuntime) -> Result<(), Fail> {
     check_texts(
-        &rt,
         rt.alloc(),
         answer,
         &[
@@ -101,7 +98,6 @@ fn comments(rt: HostRuntime) -> Result<(), Fail> {
 #[test]
 fn documentation(rt: HostRuntime) -> Result<(), Fail> {
     check_texts(
-        &rt,
         rt.alloc(),
         answer,
         &[
@@ -119,7 +115,6 @@ fn documentation(rt: HostRuntime) -> Result<(), Fail> {
 #[test]
 fn identifiers(rt: HostRuntime) -> Result<(), Fail> {
     check_texts(
-        &rt,
         rt.alloc(),
         answer,
         &[
@@ -150,7 +145,6 @@ fn identifiers(rt: HostRuntime) -> Result<(), Fail> {
 #[test]
 fn lifetimes(rt: HostRuntime) -> Result<(), Fail> {
     check_texts(
-        &rt,
         rt.alloc(),
         answer,
         &[
@@ -168,7 +162,6 @@ fn lifetimes(rt: HostRuntime) -> Result<(), Fail> {
 #[test]
 fn integers(rt: HostRuntime) -> Result<(), Fail> {
     check_texts(
-        &rt,
         rt.alloc(),
         answer,
         &[
@@ -208,7 +201,6 @@ fn integers(rt: HostRuntime) -> Result<(), Fail> {
 #[test]
 fn floats(rt: HostRuntime) -> Result<(), Fail> {
     check_texts(
-        &rt,
         rt.alloc(),
         answer,
         &[
@@ -233,7 +225,6 @@ fn floats(rt: HostRuntime) -> Result<(), Fail> {
 #[test]
 fn characters(rt: HostRuntime) -> Result<(), Fail> {
     check_texts(
-        &rt,
         rt.alloc(),
         answer,
         &[
@@ -267,7 +258,6 @@ fn characters(rt: HostRuntime) -> Result<(), Fail> {
 #[test]
 fn bytes(rt: HostRuntime) -> Result<(), Fail> {
     check_texts(
-        &rt,
         rt.alloc(),
         answer,
         &[
@@ -286,7 +276,6 @@ fn bytes(rt: HostRuntime) -> Result<(), Fail> {
 #[test]
 fn strings(rt: HostRuntime) -> Result<(), Fail> {
     check_texts(
-        &rt,
         rt.alloc(),
         answer,
         &[
@@ -311,7 +300,6 @@ fn strings(rt: HostRuntime) -> Result<(), Fail> {
 #[test]
 fn byte_strings(rt: HostRuntime) -> Result<(), Fail> {
     check_texts(
-        &rt,
         rt.alloc(),
         answer,
         &[
@@ -327,7 +315,6 @@ fn byte_strings(rt: HostRuntime) -> Result<(), Fail> {
 #[test]
 fn raw_strings(rt: HostRuntime) -> Result<(), Fail> {
     check_texts(
-        &rt,
         rt.alloc(),
         answer,
         &[
@@ -354,7 +341,6 @@ fn raw_strings(rt: HostRuntime) -> Result<(), Fail> {
 #[test]
 fn c_strings(rt: HostRuntime) -> Result<(), Fail> {
     check_texts(
-        &rt,
         rt.alloc(),
         answer,
         &[
@@ -373,7 +359,6 @@ fn c_strings(rt: HostRuntime) -> Result<(), Fail> {
 #[test]
 fn punctuation(rt: HostRuntime) -> Result<(), Fail> {
     check_texts(
-        &rt,
         rt.alloc(),
         answer,
         &[
@@ -395,7 +380,6 @@ fn punctuation(rt: HostRuntime) -> Result<(), Fail> {
 #[test]
 fn brackets(rt: HostRuntime) -> Result<(), Fail> {
     check_texts(
-        &rt,
         rt.alloc(),
         answer,
         &[

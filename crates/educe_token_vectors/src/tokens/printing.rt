@@ -1,6 +1,6 @@
 //! The printed text of tokens.
 
-use crate::checks::{check_text, check_texts};
+use educe_checks::{check_text, check_texts};
 use educe_tokens::{SOURCE_LIMIT, Seq, have_no_doc, lex, quote, text};
 use std::alloc::Global;
 use std::test::Fail;
@@ -14,7 +14,7 @@ fn quoted(alloc: Global) -> Result<String, Fail> {
 
 #[test]
 fn one_space_between_tokens(rt: HostRuntime) -> Result<(), Fail> {
-    check_text(&rt, quoted(rt.alloc()), "# [ a :: b ]")
+    check_text(quoted(rt.alloc())?, "# [ a :: b ]")
 }
 
 /// The printed text of what was read.
@@ -34,7 +34,6 @@ fn printed(alloc: Global, source: &str) -> Result<String, Fail> {
 #[test]
 fn prints_what_was_read(rt: HostRuntime) -> Result<(), Fail> {
     check_texts(
-        &rt,
         rt.alloc(),
         printed,
         &[

@@ -1,7 +1,6 @@
 //! Where and why a text is refused, and what is said of it.
 
-use crate::checks::{check, check_texts};
-use crate::common::lex_answer;
+use educe_checks::{check_answers, check_texts, lex_answer};
 use educe_tokens::{EduceError, Kind, Span, Spelling};
 use std::alloc::Global;
 use std::test::Fail;
@@ -28,7 +27,6 @@ fn answer(alloc: Global, source: &str) -> Result<String, Fail> {
 #[test]
 fn says_where_and_why(rt: HostRuntime) -> Result<(), Fail> {
     check_texts(
-        &rt,
         rt.alloc(),
         answer,
         &[
@@ -47,7 +45,6 @@ fn says_where_and_why(rt: HostRuntime) -> Result<(), Fail> {
 #[test]
 fn closes_the_innermost(rt: HostRuntime) -> Result<(), Fail> {
     check_texts(
-        &rt,
         rt.alloc(),
         answer,
         &[
@@ -60,18 +57,12 @@ fn closes_the_innermost(rt: HostRuntime) -> Result<(), Fail> {
 
 #[test]
 fn says_what_is_not_carried(rt: HostRuntime) -> Result<(), Fail> {
-    check_texts(
-        &rt,
-        rt.alloc(),
-        answer,
-        &[("a; 1.5", "NotCarried 3..6 1.5")],
-    )
+    check_texts(rt.alloc(), answer, &[("a; 1.5", "NotCarried 3..6 1.5")])
 }
 
 #[test]
 fn words_of_what_is_not_carried(rt: HostRuntime) -> Result<(), Fail> {
     check_texts(
-        &rt,
         rt.alloc(),
         answer,
         &[
@@ -91,7 +82,6 @@ fn words_of_what_is_not_carried(rt: HostRuntime) -> Result<(), Fail> {
 #[test]
 fn nests_128_deep(rt: HostRuntime) -> Result<(), Fail> {
     check_texts(
-        &rt,
         rt.alloc(),
         answer,
         &[
@@ -122,7 +112,6 @@ fn message(alloc: Global, kind: Kind) -> Result<String, Fail> {
 #[test]
 fn says_why(rt: HostRuntime) -> Result<(), Fail> {
     check_texts(
-        &rt,
         rt.alloc(),
         message,
         &[
@@ -168,8 +157,7 @@ fn place(_alloc: Global, start: u32) -> Result<(u32, u32), Fail> {
 
 #[test]
 fn counts_lines_and_characters(rt: HostRuntime) -> Result<(), Fail> {
-    check(
-        &rt,
+    check_answers(
         rt.alloc(),
         place,
         &[

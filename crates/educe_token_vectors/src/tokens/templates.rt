@@ -1,7 +1,7 @@
 //! Tokens of templates, parts of lists, and copies.
 
-use crate::checks::{check_text, check_texts};
 use crate::tokens::described::described;
+use educe_checks::{check_text, check_texts};
 use educe_tokens::{Seq, TokenSlice, Written, append_written, quote};
 use std::alloc::{AllocError, Global};
 use std::test::Fail;
@@ -19,8 +19,7 @@ fn quoted_twice(alloc: Global) -> Result<String, Fail> {
 #[test]
 fn quotes_and_appends(rt: HostRuntime) -> Result<(), Fail> {
     check_text(
-        &rt,
-        quoted_twice(rt.alloc()),
+        quoted_twice(rt.alloc())?,
         "0..0 Ident fn\n\
          0..0 Ident f_1\n\
          0..0 Start(Round) (\n\
@@ -87,7 +86,6 @@ fn part_of_part(
 #[test]
 fn parts_share_a_list(rt: HostRuntime) -> Result<(), Fail> {
     check_texts(
-        &rt,
         rt.alloc(),
         part_of_part,
         &[
@@ -126,10 +124,6 @@ fn copy(alloc: Global) -> Result<String, Fail> {
 #[test]
 fn a_copy_ends_apart(rt: HostRuntime) -> Result<(), Fail> {
     let alloc = rt.alloc();
-    check_text(
-        &rt,
-        original(alloc),
-        "0..0 Ident a\n0..0 Punct(':', true) :\n",
-    )?;
-    check_text(&rt, copy(alloc), "0..0 Ident a\n0..0 Punct(':', false) :\n")
+    check_text(original(alloc)?, "0..0 Ident a\n0..0 Punct(':', true) :\n")?;
+    check_text(copy(alloc)?, "0..0 Ident a\n0..0 Punct(':', false) :\n")
 }

@@ -1,8 +1,7 @@
 //! Spans and values of tokens.
 
-use crate::checks::{check, check_text, check_texts};
-use crate::common::lexed;
 use crate::tokens::described::described;
+use educe_checks::{check_answers, check_text, check_texts, lexed};
 use educe_tokens::{Token, int_value, string_value};
 use std::alloc::{AllocError, Global};
 use std::test::Fail;
@@ -15,8 +14,7 @@ fn tokens(alloc: Global, source: &str) -> Result<String, Fail> {
 #[test]
 fn spans_in_bytes(rt: HostRuntime) -> Result<(), Fail> {
     check_text(
-        &rt,
-        tokens(rt.alloc(), "struct é\u{2028}{ a: u8 }"),
+        tokens(rt.alloc(), "struct é\u{2028}{ a: u8 }")?,
         "0..6 Ident struct\n\
          7..9 Ident é\n\
          12..13 Start(Curly) {\n\
@@ -43,8 +41,7 @@ fn integer(alloc: Global, source: &str) -> Result<Option<u128>, Fail> {
 
 #[test]
 fn integers(rt: HostRuntime) -> Result<(), Fail> {
-    check(
-        &rt,
+    check_answers(
         rt.alloc(),
         integer,
         &[
@@ -79,7 +76,6 @@ fn string(alloc: Global, source: &str) -> Result<String, Fail> {
 #[test]
 fn strings(rt: HostRuntime) -> Result<(), Fail> {
     check_texts(
-        &rt,
         rt.alloc(),
         string,
         &[

@@ -1,0 +1,132 @@
+//! Of `educe_core`: runs over devices in memory, and bodies tried over tables.
+ghost use Rattle.std.specs.Prelude.{◌≤◌};
+
+use educe_checks::check_at;
+use educe_core::{MemorySink, MemorySource, Sink, Source, run};
+use std::alloc::{AllocError, Global};
+use std::test::Fail;
+
+mod bodies;
+mod expansions;
+mod faults;
+mod ranks;
+mod refusals;
+
+/// What a struct of one field is expanded to.
+const ONE_FIELD: &str =
+    "# [ automatically_derived ] impl :: core :: cmp :: PartialEq for S { fn eq ( & self , other : & Self ) -> :: core :: primitive :: bool { if :: core :: cmp :: PartialEq :: ne ( & self . a , & other . a ) { return false ; } true } }\n";
+
+/// What a run answers and writes.
+#[derive(Drop)]
+struct Outcome {
+    code: u8,
+    text: MemorySink,
+    notes: MemorySink,
+}
+
+/// The text that bytes are, or `no text`.
+fn shown(bytes: &[u8]) -> &str {
+    match str::from_utf8(bytes) {
+        Ok(text) => text,
+        Err(_) => "no text",
+    }
+}
+
+/// The exit status of a run with one word.
+fn run_word<S: Source + Drop, K: Sink, E: Sink>(
+    alloc: Global,
+    word: &str,
+    source: Result<S, AllocError>,
+    sink: &mut K,
+    notes: &mut E,
+) -> Result<u8, AllocError> {
+    let mut source = source?;
+    let mut words = Vec::new(alloc);
+    words.push(String::from_str(alloc, word)?)?;
+    Ok(run(alloc, &words, &mut source, sink, notes).code())
+}
+
+/// A run with one word over devices of which the calls of these numbers fail, and what it answers.
+#[derive(Clone, Copy)]
+struct Case<'a> {
+    word: &'a str,
+    input: &'a [u8],
+    failing_reads: &'a [u32],
+    failing_writes: &'a [u32],
+    failing_notes: &'a [u32],
+    code: u8,
+    text: &'a str,
+    notes: &'a str,
+}
+
+impl<'a> Case<'a> {
+    /// The run of `expand` in which no call fails.
+    fn of(input: &'a [u8], code: u8, text: &'a str, notes: &'a str) -> Case<'a> {
+        Case {
+            word: "expand",
+            input,
+            failing_reads: &[],
+            failing_writes: &[],
+            failing_notes: &[],
+            code,
+            text,
+            notes,
+        }
+    }
+
+    /// The exit status of the run, whose reads take at most so many bytes.
+    fn exit_code(
+        &self,
+        alloc: Global,
+        step: usize,
+        text: &mut MemorySink,
+        notes: &mut MemorySink,
+    ) -> Result<u8, AllocError>
+        requires { 1 ≤ step }
+    {
+        let source = MemorySource::new(alloc, self.input, step, self.failing_reads);
+        run_word(alloc, self.word, source, text, notes)
+    }
+
+    /// The run over devices whose calls move at most so many bytes.
+    fn outcome(&self, alloc: Global, step: usize) -> Result<Outcome, AllocError>
+        requires { 1 ≤ step }
+    {
+        let mut text = MemorySink::new(alloc, step, self.failing_writes)?;
+        let mut notes = MemorySink::new(alloc, step, self.failing_notes)?;
+        let code = self.exit_code(alloc, step, &mut text, &mut notes)?;
+        Ok(Outcome { code, text, notes })
+    }
+
+    /// The run answers so where calls move at most ten bytes.
+    fn check(&self, alloc: Global) -> Result<(), Fail> {
+        let found = self.outcome(alloc, 10)?;
+        let input = shown(self.input);
+        check_at(input, found.code, self.code)?;
+        check_at(input, shown(found.text.bytes()), self.text)?;
+        check_at(input, shown(found.notes.bytes()), self.notes)
+    }
+}
+
+/// Each of the inputs is expanded to this text.
+fn check_expanded(alloc: Global, cases: &[(&str, &str)]) -> Result<(), Fail> {
+    for (input, text) in cases {
+        Case::of(input.as_bytes(), 0, text, "").check(alloc)?;
+    }
+    Ok(())
+}
+
+/// Each of the inputs is refused with these notes.
+fn check_refused(alloc: Global, cases: &[(&str, &str)]) -> Result<(), Fail> {
+    for (input, notes) in cases {
+        Case::of(input.as_bytes(), 1, "", notes).check(alloc)?;
+    }
+    Ok(())
+}
+
+/// The input has these notes, which are empty exactly where the run ends with 0.
+fn check_notes(alloc: Global, input: &str, notes: &str) -> Result<(), Fail> {
+    let found = Case::of(input.as_bytes(), 0, "", "").outcome(alloc, 4096)?;
+    check_at(input, shown(found.notes.bytes()), notes)?;
+    check_at(input, found.code == 0, notes.is_empty())
+}

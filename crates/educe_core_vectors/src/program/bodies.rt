@@ -1,0 +1,148 @@
+//! What the functions of items evaluate to.
+
+use crate::common::{definition, scope, table, value};
+use educe_body::{Answer, Body, Callee, FieldValue, Item, Items, Outcome, Row, eval};
+use educe_checks::{check_at, found};
+use educe_core::{Expansion, expand};
+use educe_tokens::SOURCE_LIMIT;
+use educe_tree::DeriveInput;
+use std::alloc::Global;
+use std::cmp::Ordering;
+use std::test::Fail;
+
+/// What a text is expanded to.
+fn expansion(alloc: Global, source: &str) -> Result<Expansion, Fail> {
+    if source.len() > SOURCE_LIMIT {
+        return Err(Fail::from("too long"));
+    }
+    found(expand(alloc, source))
+}
+
+/// The body of the function of the item at an index.
+fn body_of(items: &Items, index: usize) -> Option<&Body> {
+    match items.get(index) {
+        Some(Item::Impl(item)) => match item.functions.get(0) {
+            Some(function) => Some(&function.body),
+            None => None,
+        },
+        None => None,
+    }
+}
+
+/// What a body evaluates to over values of these numbers.
+fn evaluated(
+    alloc: Global,
+    ast: &DeriveInput,
+    body: &Body,
+    numbers: (&[i128], &[i128]),
+    rows: &[Row],
+) -> Result<Outcome, Fail> {
+    let this = value(alloc, numbers.0)?;
+    let other = value(alloc, numbers.1)?;
+    let answers = table(alloc, rows)?;
+    Ok(eval(alloc, body, &scope(ast, &this, Some(&other)), &answers)?)
+}
+
+/// A definition, the index of an item, the numbers of the fields of two values, and what the
+/// function of the item evaluates to.
+type Case<'a> = (&'a str, usize, &'a [i128], &'a [i128], Outcome);
+
+/// What the function of the item evaluates to in this expansion of this definition.
+fn outcome_in(
+    alloc: Global,
+    ast: &DeriveInput,
+    expansion: &Expansion,
+    case: &Case,
+    rows: &[Row],
+) -> Result<Outcome, Fail> {
+    let (_, index, this, other, _) = case;
+    let body = body_of(expansion.items(), *index).ok_or("no function")?;
+    evaluated(alloc, ast, body, (this, other), rows)
+}
+
+/// The same in the expansion that the definition has.
+fn outcome_of(
+    alloc: Global,
+    ast: &DeriveInput,
+    case: &Case,
+    rows: &[Row],
+) -> Result<Outcome, Fail> {
+    outcome_in(alloc, ast, &expansion(alloc, case.0)?, case, rows)
+}
+
+/// What functions evaluate to by the table of these rows.
+fn check(alloc: Global, rows: &[Row], cases: &[Case]) -> Result<(), Fail> {
+    for case in cases {
+        let found = outcome_of(alloc, &definition(alloc, case.0)?, case, rows)?;
+        check_at(case.0, found, case.4)?;
+    }
+    Ok(())
+}
+
+#[test]
+fn the_least_rank_decides(rt: HostRuntime) -> Result<(), Fail> {
+    let source =
+        "#[educe(Ord)] struct S { #[educe(Ord(rank = 1))] f1: u8, #[educe(Ord(rank = 0))] f2: u8 }";
+    let greater = Outcome::Order(Ordering::Greater);
+    check(rt.alloc(), &[], &[(source, 0, &[1, 2], &[2, 1], greater)])
+}
+
+#[test]
+fn each_order_takes_the_settings_of_the_other(rt: HostRuntime) -> Result<(), Fail> {
+    let by_cmp = "#[educe(PartialOrd, Ord)] struct S { #[educe(Ord(rank = 1))] a: u8, b: u8 }";
+    let by_partial_cmp =
+        "#[educe(PartialOrd, Ord)] struct S { #[educe(PartialOrd(ignore))] a: u8, b: u8 }";
+    let greater = Outcome::PartialOrder(Some(Ordering::Greater));
+    let equal = Outcome::Order(Ordering::Equal);
+    check(
+        rt.alloc(),
+        &[],
+        &[
+            (by_cmp, 0, &[1, 2], &[2, 1], greater),
+            (by_partial_cmp, 1, &[1, 2], &[2, 2], equal),
+        ],
+    )
+}
+
+#[test]
+fn eq_passes_over_ignored_fields(rt: HostRuntime) -> Result<(), Fail> {
+    let source = "#[educe(PartialEq)] struct S { #[educe(PartialEq(ignore))] a: u8, b: u8 }";
+    let equal = Outcome::Truth(true);
+    check(rt.alloc(), &[], &[(source, 0, &[1, 2], &[3, 2], equal)])
+}
+
+/// A struct of two bytes.
+const TWO_FIELDS: &str = "#[educe(PartialEq)] struct S { a: u8, b: u8 }";
+
+#[test]
+fn eq_compares_the_fields(rt: HostRuntime) -> Result<(), Fail> {
+    check(
+        rt.alloc(),
+        &[],
+        &[
+            (TWO_FIELDS, 0, &[1, 2], &[1, 2], Outcome::Truth(true)),
+            (TWO_FIELDS, 0, &[1, 2], &[1, 3], Outcome::Truth(false)),
+            (TWO_FIELDS, 0, &[4, 2], &[1, 2], Outcome::Truth(false)),
+            (TWO_FIELDS, 0, &[1], &[1], Outcome::Stuck),
+        ],
+    )
+}
+
+#[test]
+fn eq_asks_the_table(rt: HostRuntime) -> Result<(), Fail> {
+    let zero = Some(FieldValue { ty: 0, number: 0 });
+    let row = Row {
+        callee: Callee::Ne,
+        first: zero,
+        second: zero,
+        answer: Answer::Truth(true),
+    };
+    check(
+        rt.alloc(),
+        &[row],
+        &[
+            (TWO_FIELDS, 0, &[0, 0], &[0, 0], Outcome::Truth(false)),
+            (TWO_FIELDS, 0, &[1, 0], &[1, 0], Outcome::Stuck),
+        ],
+    )
+}

@@ -1,0 +1,75 @@
+//! Arguments that are wrong, texts that are none, and devices that fail.
+
+use super::Case;
+use std::alloc::Global;
+use std::test::Fail;
+
+/// The run over an input of so many blanks.
+fn check_blanks(alloc: Global, count: usize, code: u8, notes: &str) -> Result<(), Fail> {
+    let spaces = vec![in alloc; b' '; count]?;
+    Case::of(&spaces, code, "", notes).check(alloc)
+}
+
+#[test]
+fn blanks_alone_are_no_definition(rt: HostRuntime) -> Result<(), Fail> {
+    check_blanks(rt.alloc(), 131_072, 1, "1:1: syntax error\n")
+}
+
+#[test]
+fn unknown_words_show_the_usage(rt: HostRuntime) -> Result<(), Fail> {
+    let case = Case {
+        word: "expnd",
+        ..Case::of(b"", 2, "", "usage: educe expand\n")
+    };
+    case.check(rt.alloc())
+}
+
+#[test]
+fn a_byte_too_many_is_too_long(rt: HostRuntime) -> Result<(), Fail> {
+    check_blanks(
+        rt.alloc(),
+        131_073,
+        5,
+        "the input is longer than 131072 bytes\n",
+    )
+}
+
+#[test]
+fn a_lone_byte_ff_is_no_text(rt: HostRuntime) -> Result<(), Fail> {
+    Case::of(b"\xff", 6, "", "the input is not UTF-8\n").check(rt.alloc())
+}
+
+#[test]
+fn a_failed_read_is_no_end(rt: HostRuntime) -> Result<(), Fail> {
+    let case = Case::of(b"#[educe(PartialEq)] struct S { a: u8 }", 3, "", "");
+    let first = Case {
+        failing_reads: &[0],
+        ..case
+    };
+    let later = Case {
+        failing_reads: &[1],
+        ..case
+    };
+    first.check(rt.alloc())?;
+    later.check(rt.alloc())
+}
+
+#[test]
+fn a_failed_write_is_a_fault(rt: HostRuntime) -> Result<(), Fail> {
+    let sink = Case {
+        failing_writes: &[1],
+        ..Case::of(
+            b"#[educe(PartialEq)] struct S { a: u8 }",
+            4,
+            "# [ automa",
+            "",
+        )
+    };
+    let notes = Case {
+        word: "expnd",
+        failing_notes: &[1],
+        ..Case::of(b"", 4, "", "usage: edu")
+    };
+    sink.check(rt.alloc())?;
+    notes.check(rt.alloc())
+}
