@@ -57,9 +57,13 @@ def script_names(size):
     return filled(size // 2, "PartialEq", lambda n: f"{'ж' * 1000}{n}:u8,")
 
 def deep_type(size):
-    """A type of 126 levels around a list of as many types as fit."""
-    front, back = SMALL[:-1] + ", b: " + "Box<" * 125 + "(", ")" + ">" * 125 + "}"
+    """A type of 127 levels around a list of as many types as fit: 128 with the brace of the struct."""
+    front, back = SMALL[:-1] + ", b: " + "Box<" * 126 + "(", ")" + ">" * 126 + "}"
     return repeated(front, "u8,", back)(size)
+
+def chain(n):
+    """A variant with 128 prefixes, 128 calls and fields behind an operand, and 128 operators."""
+    return f"V{n}=" + "-" * 128 + "a" + ".b()" * 64 + "+a.b()" * 128 + ","
 
 def numbered(front, part, back):
     """As many parts as fit, each of which its number makes, between a front and a back."""
@@ -77,7 +81,7 @@ shapes = [
     ("deep_type", deep_type),
     ("generics", numbered("#[educe(PartialEq)] struct S<", lambda n: f"T{n}:A<B>+'a,", "> { a: u8 }")),
     ("predicates", numbered("#[educe(PartialEq)] struct S where ", lambda n: f"T{n}:for<'a>A<'a,B=C>,", "{ a: u8 }")),
-    ("chains", numbered("#[educe(PartialEq)] enum E {", lambda n: f"V{n}=1" + "+a.b()" * 60 + ",", "}")),
+    ("chains", numbered("#[educe(PartialEq)] enum E {", chain, "}")),
     ("attributes", repeated("", "#[a(b = c, d)] ", SMALL)),
     ("own", numbered("#[educe(PartialEq)] struct S {", lambda n: f"#[serde(rename = \"x\")]#[educe(PartialEq(ignore))]/// of x\nf{n}:Vec<u8>,", "}")),
     ("ord", ranked("Ord")),
