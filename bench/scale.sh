@@ -1,14 +1,15 @@
 #!/usr/bin/env bash
 # How the program's time and memory grow with its input.
 #
-# Usage: bench/scale.sh PROGRAM
+# Usage: bench/scale.sh PROGRAM [SHAPE..]
 #
-# Makes inputs of 16, 32, 64 and 128 KiB of each shape, runs the built program on each, and prints a
+# Makes inputs of 16, 32, 64 and 128 KiB of each shape, or of those that are named, runs the built program on each, and prints a
 # line for each: the bytes, the least seconds of five runs and the peak memory in MB, with valgrind also the
 # millions of instructions, and the ratios to the line before. A ratio of instructions above 2.2 is marked. Some
 # shapes are texts that are refused, once they have been read as tokens.
 set -eu
-program=${1:?usage: bench/scale.sh PROGRAM}
+program=${1:?usage: bench/scale.sh PROGRAM [SHAPE..]}
+shift
 folder=$(mktemp -d)
 trap 'rm -rf "$folder"' EXIT
 
@@ -109,7 +110,8 @@ ratio() {
 }
 
 printf '%-12s %7s %8s %7s %10s %7s %9s\n' shape bytes seconds ratio 'Minstr' ratio 'peak MB'
-for name in fields variants deep_type generics predicates chains attributes own ord partial_ord all long_names blanks small_tokens comment nested string raw_string brackets script; do
+[ $# -gt 0 ] || set -- fields variants deep_type generics predicates chains attributes own ord partial_ord all long_names blanks small_tokens comment nested string raw_string brackets script
+for name in "$@"; do
   seconds_before=0
   count_before=0
   for kib in 16 32 64 128; do
