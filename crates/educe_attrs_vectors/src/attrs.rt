@@ -3,8 +3,8 @@
 use educe_attrs::{
     Param, Setting, ignores, listed_by, params_of, rank_in, rank_span_in, settings_by,
 };
-use educe_checks::{check_at, check_equal, found, lexed_slice};
-use educe_parser::{parse_derive_input, parse_metas};
+use educe_checks::{check_at, check_equal, definition, found, lexed_slice};
+use educe_parser::parse_metas;
 use educe_tokens::{Seq, Span};
 use educe_traits::{Trait, all_listed, each_once};
 use educe_tree::{Attribute, Attributes, Duplicate, Meta, Metas};
@@ -267,8 +267,7 @@ fn counts(alloc: Global, attributes: &Attributes) -> Result<[usize; 3], Fail> {
 
 /// The same of the attributes of a definition.
 fn counts_of(alloc: Global, text: &str) -> Result<[usize; 3], Fail> {
-    let definition = found(parse_derive_input(alloc, &lexed_slice(alloc, text)?))?;
-    counts(alloc, &definition.attrs)
+    counts(alloc, &definition(alloc, text)?.attrs)
 }
 
 #[test]

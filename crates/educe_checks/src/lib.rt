@@ -1,10 +1,11 @@
-//! What tests compare by: values, tables of them, the text of trees, what a call answers, and the
-//! tokens of texts. An assertion needs the handle of the runtime, which a library may not take. So a
+//! What tests compare by: values, tables of them, the text of trees, what a call answers, the
+//! tokens of texts and definitions. An assertion needs the handle of the runtime, which a library may not take. So a
 //! comparison answers an `Err` where a value is not as expected; a test that lets it go does not
 //! compile.
 #![tactic(auto)]
 
 mod answers;
+mod definitions;
 mod lexing;
 mod lists;
 mod tables;
@@ -12,6 +13,7 @@ mod trees;
 mod values;
 
 pub use answers::found;
+pub use definitions::definition;
 pub use lexing::{lex_answer, lexed, lexed_slice};
 pub use lists::first;
 pub use tables::{check_answers, check_texts};

@@ -1,10 +1,5 @@
-//! Tests of `educe_body` and `educe_core`: what bodies and items are, and what runs over devices in
-//! memory write.
+//! Tests of `educe_core`: what runs over devices in memory write, and what bodies evaluate to.
 #![tactic(auto)]
 
-#[cfg(test)]
-mod body;
-#[cfg(test)]
-mod common;
 #[cfg(test)]
 mod program;

@@ -35,13 +35,3 @@ abbrev pub unraw : List ℕ → List ℕ
 unraw [] = []
 unraw (c ∷ []) = c ∷ []
 unraw (c ∷ d ∷ cs) = if (c == 114) && (d == 35) then cs else c ∷ d ∷ cs
-
--- an identifier of this name, a leading `r#` aside
-abbrev pub is_named : List ℕ → TokenKind → List ℕ → Bool
-is_named name Ident text = bytes_eq (unraw text) (unraw name)
-is_named name Lifetime text = false
-is_named name (Literal l) text = false
-is_named name (Punct c joint) text = false
-is_named name (Start b) text = false
-is_named name (Stop b) text = false
-is_named name Doc text = false

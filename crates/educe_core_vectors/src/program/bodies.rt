@@ -1,8 +1,8 @@
 //! What the functions of items evaluate to.
 
-use crate::common::{definition, scope, table, value};
 use educe_body::{Answer, Body, Callee, FieldValue, Item, Items, Outcome, Row, eval};
-use educe_checks::{check_at, found};
+use educe_body_vectors::{scope, table, value};
+use educe_checks::{check_at, definition, found};
 use educe_core::{Expansion, expand};
 use educe_tokens::SOURCE_LIMIT;
 use educe_tree::DeriveInput;

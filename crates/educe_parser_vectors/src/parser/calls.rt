@@ -1,7 +1,9 @@
 //! What the calls answer: trees by their text, refusals by their place and words.
 
 use super::answer_name;
-use educe_checks::{check_at, check_equal, check_text, first, found, lexed_slice, printed};
+use educe_checks::{
+    check_at, check_equal, check_text, definition, first, found, lexed_slice, printed,
+};
 use educe_parser::{
     parse_derive_input, parse_expr, parse_ident, parse_metas, parse_path, parse_predicates,
 };
@@ -164,8 +166,7 @@ fn check_head(definition: &DeriveInput) -> Result<(), Fail> {
 #[test]
 fn definitions_are_trees(rt: HostRuntime) -> Result<(), Fail> {
     let alloc = rt.alloc();
-    let tokens = lexed_slice(alloc, "#[x] pub struct S<T>(pub Vec<T>, A) where T: B;")?;
-    let definition = found(parse_derive_input(alloc, &tokens))?;
+    let definition = definition(alloc, "#[x] pub struct S<T>(pub Vec<T>, A) where T: B;")?;
     check_head(&definition)?;
     check_fields(alloc, &definition.shape)
 }
@@ -187,8 +188,7 @@ fn check_one_field(alloc: Global, definition: &DeriveInput) -> Result<(), Fail> 
 #[test]
 fn copies_of_definitions_are_equal(rt: HostRuntime) -> Result<(), Fail> {
     let alloc = rt.alloc();
-    let tokens = lexed_slice(alloc, "#[educe(PartialEq)] struct S { a: u8 }")?;
-    let definition = found(parse_derive_input(alloc, &tokens))?;
+    let definition = definition(alloc, "#[educe(PartialEq)] struct S { a: u8 }")?;
     check_one_field(alloc, &definition)?;
     check_one_field(alloc, &copied(alloc, definition)?)
 }

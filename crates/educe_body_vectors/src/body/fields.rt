@@ -1,9 +1,9 @@
 //! Keys of fields, and bodies that read fields by them.
 
 use crate::body::{call, list, list_of_two};
-use crate::common::{definition, scope, table, value};
+use crate::values::{scope, table, value};
 use educe_body::{Body, Callee, Form, Outcome, Scope, Value, eval, key_word};
-use educe_checks::check_at;
+use educe_checks::{check_at, definition};
 use educe_tokens::{Seq, Word};
 use educe_tree::{DeriveInput, Field, Ident, Shape};
 use std::alloc::{AllocError, Global};

@@ -1,20 +1,16 @@
-//! What the tests share.
+//! Values and tables, by what a test says of them.
+ghost use Rattle.std.specs.Prelude.{◌≡◌, IfOk, Some, map};
 
 use educe_body::{Answers, FieldValue, Row, Scope, Value};
-use educe_checks::{found, lexed_slice};
-use educe_parser::parse_derive_input;
 use educe_tokens::Seq;
 use educe_tree::DeriveInput;
 use std::alloc::{AllocError, Global};
-use std::test::Fail;
-
-/// The definition that a text is.
-pub(crate) fn definition(alloc: Global, text: &str) -> Result<DeriveInput, Fail> {
-    found(parse_derive_input(alloc, &lexed_slice(alloc, text)?))
-}
 
 /// A value of a struct whose fields have one type.
-pub(crate) fn value(alloc: Global, numbers: &[i128]) -> Result<Value, AllocError> {
+pub fn value(alloc: Global, numbers: &[i128]) -> Result<Value, AllocError>
+    ensures variant { IfOk result (λ made. made.variant ≡ 0) }
+    ensures numbers { IfOk result (λ made. map (λ field. field.number) made.fields ≡ numbers.now) }
+{
     let mut fields = Seq::new(alloc);
     for number in numbers {
         fields.push(FieldValue {
@@ -26,17 +22,18 @@ pub(crate) fn value(alloc: Global, numbers: &[i128]) -> Result<Value, AllocError
 }
 
 /// A definition with the values of `self` and, where there is one, of the other parameter.
-pub(crate) fn scope<'a>(
-    ast: &'a DeriveInput,
-    this: &'a Value,
-    other: Option<&'a Value>,
-) -> Scope<'a> {
+pub fn scope<'a>(ast: &'a DeriveInput, this: &'a Value, other: Option<&'a Value>) -> Scope<'a>
+    ensures this { result.this ≡ Some this.entry }
+    ensures other { result.other ≡ other.entry }
+{
     let this = Some(this);
     Scope { ast, this, other }
 }
 
 /// The table of these rows. Without rows, fields compare as their numbers do.
-pub(crate) fn table(alloc: Global, rows: &[Row]) -> Result<Answers, AllocError> {
+pub fn table(alloc: Global, rows: &[Row]) -> Result<Answers, AllocError>
+    ensures { IfOk result (λ made. made.rows ≡ rows.now) }
+{
     let mut found = Seq::new(alloc);
     for row in rows {
         found.push(*row)?;
