@@ -36,7 +36,7 @@ pub enum Outcome {
 }
 
 /// What a name stands for.
-#[derive(Clone, Copy, Debug, PartialEq, Eq)]
+#[derive(Clone, Copy)]
 pub enum Referent {
     /// The value of `self`.
     This,
@@ -55,7 +55,7 @@ pub struct Binding {
 pub type Bindings = Seq<Binding>;
 
 /// What a form gives.
-#[derive(Clone, Copy, Debug, PartialEq, Eq)]
+#[derive(Clone, Copy)]
 pub enum Thing {
     Nothing,
     Truth(bool),
@@ -65,7 +65,7 @@ pub enum Thing {
 }
 
 /// How the evaluation of a form ends.
-#[derive(Clone, Copy, Debug, PartialEq, Eq)]
+#[derive(Clone, Copy)]
 pub enum Flow {
     Gives(Thing),
     Returns(Thing),

@@ -1,9 +1,9 @@
 -- How the program ends.
 use Rattle.std.specs.Prelude.{◌≡◌, ℕ, List}
-use Rattle.educe_core.specs.Devices.{Change, IsUnchanged}
+use Rattle.educe_devices.specs.Devices.{Change, IsUnchanged}
 use Rattle.educe_core.specs.Run.{Answers}
-use Rattle.educe_core.specs.Status.{code_of}
-use Rattle.educe_core.specs.declared.status.Status.{Status}
+use Rattle.educe_devices.specs.Status.{code_of}
+use Rattle.educe_devices.specs.declared.status.Status.{Status}
 use Rattle.educe_cli.specs.declared.ending.TheConstants.{NO_ARGUMENTS}
 
 -- it was run over these words, and its exit status is that of the answer

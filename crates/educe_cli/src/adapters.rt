@@ -3,7 +3,7 @@ ghost use Rattle.std.specs.Prelude.{◌≡◌};
 ghost use Rattle.std.proofs.Props.{props};
 ghost use Rattle.educe_cli.specs.Adapters.{IsSteady};
 
-use educe_core::{Failed, Sink, Source, Stopped};
+use educe_devices::{Failed, Sink, Source, Stopped};
 use std::io::{Read, Write};
 
 /// A reader as a source.

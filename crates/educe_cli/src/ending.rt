@@ -2,10 +2,11 @@
 ghost use Rattle.std.specs.Prelude.{◌≡◌, map, drop, string_bytes, IfOk, MatchResult};
 ghost use Rattle.std.specs.Process.{exit_status};
 ghost use Rattle.std.specs.Vec.Iter.{into_iter_items};
-ghost use Rattle.educe_core.specs.Devices.{change};
+ghost use Rattle.educe_devices.specs.Devices.{change};
 ghost use Rattle.educe_cli.specs.Ending.{EndsAsRun, EndsUnrun};
 
-use educe_core::{Sink, Source, Status, run};
+use educe_core::run;
+use educe_devices::{Sink, Source, Status};
 use std::alloc::{AllocError, Global};
 use std::env::Args;
 use std::io;
@@ -75,7 +76,7 @@ pub fn run_program<S: Source, K: Sink, E: Sink>(
 #[cfg(test)]
 mod tests {
     use super::*;
-    use educe_core::{MemorySink, MemorySource};
+    use educe_devices::{MemorySink, MemorySource};
     use std::test::Fail;
 
     #[test]

@@ -1,6 +1,5 @@
 pub mod Lists
-pub mod Fronts
-pub mod Bytes
+pub mod Single
 pub mod Table
 pub mod Outcomes
 pub mod Elements

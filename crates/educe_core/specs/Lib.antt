@@ -8,7 +8,4 @@ pub mod Comparing
 pub mod Blocks
 pub mod Headline
 pub mod Expansion
-pub mod Devices
-pub mod Memory
-pub mod Status
 pub mod Run

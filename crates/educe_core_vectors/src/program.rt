@@ -2,7 +2,8 @@
 ghost use Rattle.std.specs.Prelude.{◌≤◌};
 
 use educe_checks::check_at;
-use educe_core::{MemorySink, MemorySource, Sink, Source, run};
+use educe_core::run;
+use educe_devices::{MemorySink, MemorySource, Sink, Source};
 use std::alloc::{AllocError, Global};
 use std::test::Fail;
 

@@ -9,9 +9,9 @@ ghost use Rattle.educe_tree.specs.declared.path.Segment.{out-Segment};
 
 use crate::looks::at_turbofish;
 use educe_grammar::{Cursor, Inside, ParseError, Parts, path, written};
+use educe_paths::{angle_args, is_scope, qualified_path, qualified_self, segment_name};
 use educe_tokens::{pair, terminated};
 use educe_tree::{Args, ExprPath, Path, Segment, Segments, Ty};
-use educe_types::{angle_args, is_scope, qualified_path, qualified_self, segment_name};
 
 /// A path, and the type that it stands behind, where there is one.
 type TypedPath = (Option<Ty>, Path);

@@ -11,9 +11,9 @@ use crate::expr_paths::expr_path;
 use crate::looks::{at_postfix, at_prefix};
 use crate::tails::{fits_tail, path_tail, tail_form};
 use educe_grammar::{Cursor, Inside, Keyword, ParseError, Parts, Terminal, chain, list};
+use educe_paths::angle_args;
 use educe_tokens::{Bracket, Token, TokenKind, pair, unit};
 use educe_tree::ExprForm;
-use educe_types::angle_args;
 
 /// Whether the token is `-`.
 fn is_minus(token: &Token) -> bool

@@ -8,9 +8,9 @@ ghost use Rattle.educe_grammar.specs.Steps.{Gives};
 use crate::expr_paths::is_mod_path;
 use crate::looks::{at_value, behind_fields};
 use educe_grammar::{Cursor, Inside, ParseError, Parts, Tail, Terminal, list};
+use educe_paths::group;
 use educe_tokens::{Bracket, TokenSlice, unit};
 use educe_tree::{ExprForm, ExprPath};
-use educe_types::group;
 use std::alloc::Global;
 
 /// Whether such a tail may stand behind the path: the path of a macro has no arguments (Rust

@@ -1,7 +1,7 @@
 //! How a type ends, which decides what may follow it.
 
 /// How a type ends (Rust Reference, Paths).
-#[derive(Clone, Copy, Debug, PartialEq, Eq)]
+#[derive(Clone, Copy)]
 pub enum Ending {
     /// With no path: nothing goes on it.
     Closed,
@@ -13,7 +13,7 @@ pub enum Ending {
 }
 
 /// A link of an expression behind its first operand (Rust Reference, Operator expressions).
-#[derive(Clone, Copy, Debug, PartialEq, Eq)]
+#[derive(Clone, Copy)]
 pub enum Link {
     /// `as` and a type that ends so.
     Cast(Ending),
@@ -22,7 +22,7 @@ pub enum Link {
 }
 
 /// What stands behind a path in an expression (Rust Reference, Path expressions).
-#[derive(Clone, Copy, Debug, PartialEq, Eq)]
+#[derive(Clone, Copy)]
 pub enum Tail {
     /// Nothing.
     Nothing,

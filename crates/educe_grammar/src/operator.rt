@@ -5,7 +5,7 @@ ghost use Rattle.educe_grammar.specs.Operators as spec;
 use educe_tokens::{Token, TokenKind};
 
 /// What the grammar tells apart of an operator with two operands.
-#[derive(Clone, Copy, Debug, PartialEq, Eq)]
+#[derive(Clone, Copy)]
 pub enum Operator {
     /// `&&` or `||`
     Joins,

@@ -2,7 +2,7 @@
 use std::alloc::AllocError;
 
 /// A refusal of the parser. A number says where: that many tokens were left to read.
-#[derive(Clone, Copy, Debug, PartialEq, Eq)]
+#[derive(Clone, Copy)]
 pub enum ParseError {
     /// Want of memory.
     Memory,

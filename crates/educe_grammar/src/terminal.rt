@@ -9,7 +9,7 @@ use educe_tokens::{LiteralKind, Spelling, Token, TokenKind};
 use educe_tree::{is_name, is_spelled};
 
 /// A word that the grammar spells out (Rust Reference, Keywords).
-#[derive(Clone, Copy, Debug, PartialEq, Eq)]
+#[derive(Clone, Copy)]
 pub enum Keyword {
     /// `as`
     As,
@@ -85,7 +85,7 @@ impl Keyword {
 }
 
 /// What a token may be asked to be. No bracket and no documentation is one of these.
-#[derive(Clone, Copy, Debug, PartialEq, Eq)]
+#[derive(Clone, Copy)]
 pub enum Terminal {
     /// An identifier that is spelled so.
     Word(Keyword),

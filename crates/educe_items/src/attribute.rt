@@ -8,9 +8,9 @@ ghost use Rattle.educe_grammar.specs.Steps.{Gives, since};
 
 use crate::looks::{at_attribute, at_group};
 use educe_grammar::{Cursor, Inside, ParseError, Parts, Terminal, list, many, written};
+use educe_paths::{group, simple_path, some_trees, tree};
 use educe_tokens::{Bracket, Span, Written, terminated};
 use educe_tree::{Attribute, Attributes, Meta, MetaPath, Metas};
-use educe_types::{group, simple_path, some_trees, tree};
 use std::alloc::Global;
 
 /// From the first token that was read since the start to the last.

@@ -13,12 +13,12 @@ use crate::attribute::{attributes, span_since};
 use crate::generics::{colon_type, generic_params, where_clause};
 use crate::looks::{at_curly_end, at_scope};
 use educe_grammar::{Cursor, Inside, Keyword, ParseError, Parts, Terminal, list};
+use educe_paths::{name, simple_path};
 use educe_tokens::{Bracket, Seq, terminated, unit};
 use educe_tree::{
     DeriveInput, Expr, Field, FieldForm, FieldShape, Generics, Ident, Params, Predicates, Shape,
     Variant, Variants,
 };
-use educe_types::{name, simple_path};
 use std::alloc::Global;
 
 /// What is defined behind the name and the parameters.

@@ -9,12 +9,12 @@ ghost use Rattle.educe_grammar.specs.Steps.{Gives};
 
 use crate::looks::behind_where;
 use educe_grammar::{Cursor, Inside, Keyword, ParseError, Parts, Terminal, list, written};
+use educe_paths::{bounds, constant, for_all, lifetime, lifetime_bounds, name};
 use educe_tokens::{Seq, Written, terminated, unit};
 use educe_tree::{
     ConstParam, GenericParam, Ident, Lifetime, LifetimeParam, Params, Predicates, Ty, TypeParam,
     WherePredicate,
 };
-use educe_types::{bounds, constant, for_all, lifetime, lifetime_bounds, name};
 use std::alloc::Global;
 
 /// A lifetime, and whether bounds stand behind it (Rust Reference, Lifetime bounds).

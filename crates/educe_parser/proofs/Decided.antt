@@ -28,7 +28,7 @@ use Rattle.educe_grammar.proofs.Steps.{ok_pair}
 use Rattle.educe_grammar.proofs.Unions.{head, union_read, union_found}
 use Rattle.educe_parser.specs.Answers.{IsDecided, IsDefinition}
 use Rattle.educe_parser.proofs.Answering.{decided}
-use Rattle.educe_parser.proofs.NamesDecided.{names_decided}
+use Rattle.educe_naming.proofs.NamesDecided.{names_decided}
 
 -- ---- the rules of the calls
 

@@ -1,9 +1,6 @@
 pub mod Heads
-pub mod Differing
-pub mod Repeats
 pub mod NeedsNone
 pub mod Answering
 pub mod WholeRefused
 pub mod Shallow
-pub mod NamesDecided
 pub mod Decided

@@ -1,3 +1,2 @@
 pub mod Nests
-pub mod Earliest
 pub mod Answers

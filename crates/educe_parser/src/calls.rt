@@ -18,12 +18,12 @@ ghost use Rattle.educe_grammar.specs.Refusal.{IsRefusalOf};
 ghost use Rattle.educe_parser.specs.Answers.{IsRefusedName};
 
 use crate::knot::{definition, expr_path, expression, metas, predicates};
-use crate::naming::repeated_name;
 use crate::unions::{not_carried, union_word};
 use crate::whole::whole;
+use educe_naming::repeated_name;
+use educe_paths::name;
 use educe_tokens::{EduceError, Kind, TokenSlice};
 use educe_tree::{DeriveInput, Expr, ExprPath, Ident, Metas, Predicates};
-use educe_types::name;
 use std::alloc::Global;
 
 /// The name that the tokens are (Rust Reference, Identifiers).

@@ -4,7 +4,6 @@
 
 mod calls;
 mod knot;
-mod naming;
 mod readers;
 mod unions;
 mod whole;
@@ -12,4 +11,3 @@ mod whole;
 pub use calls::{
     parse_derive_input, parse_expr, parse_ident, parse_metas, parse_path, parse_predicates,
 };
-pub use naming::{Name, repeated_name};

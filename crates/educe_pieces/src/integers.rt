@@ -10,7 +10,7 @@ ghost use Rattle.educe_pieces.specs.Numbers.{is_int_suffix, has_digit, with_digi
 use crate::chars::is_word_start;
 
 /// The base in which an integer is written.
-#[derive(Clone, Copy, Debug, PartialEq, Eq)]
+#[derive(Clone, Copy)]
 pub enum Base {
     Binary,
     Octal,

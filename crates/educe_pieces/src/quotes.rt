@@ -8,7 +8,7 @@ ghost use Rattle.educe_pieces.specs.Reachable.{is_reachable};
 ghost use Rattle.educe_pieces.specs.declared.quotes.Within.{Within};
 
 /// The kinds of literals between quotes.
-#[derive(Clone, Copy, Debug, PartialEq, Eq)]
+#[derive(Clone, Copy)]
 pub enum Quote {
     Str,
     ByteStr,
@@ -18,7 +18,7 @@ pub enum Quote {
 }
 
 /// Where in a literal a character stands.
-#[derive(Clone, Copy, Debug, PartialEq, Eq)]
+#[derive(Clone, Copy)]
 pub enum Within {
     /// Before a part or the mark at the end.
     Open(Quote),
@@ -41,7 +41,7 @@ pub enum Within {
 }
 
 /// What a character does.
-#[derive(Clone, Copy, Debug, PartialEq, Eq)]
+#[derive(Clone, Copy)]
 pub enum Next {
     /// The literal goes on.
     Go(Within),

@@ -6,7 +6,6 @@ ghost use Rattle.educe_tokens.specs.WrittenLexemes.{written_lexemes};
 ghost use Rattle.educe_tree.specs.Printed.{printed-well_formed, printed-ends_apart, printed-lexes_back};
 ghost use Rattle.educe_tree.specs.Words.{IsWord, IsOneWord};
 
-use crate::duplicate::{Duplicate, duplicate_both};
 use crate::expr::Expr;
 use educe_tokens::{Seq, Span, ToTokens, Token, TokenKind, TokenStream, Written, append_written};
 use std::alloc::{AllocError, Global};
@@ -78,41 +77,6 @@ pub fn path_to_string(alloc: Global, path: &MetaPath) -> Result<String, AllocErr
         text.push_str(token.spelling.as_str())?;
     }
     Ok(text)
-}
-
-impl Duplicate for Attribute {
-    fn duplicate(&self, alloc: Global) -> Result<Attribute, AllocError> {
-        let meta = self.meta.duplicate(alloc)?;
-        Ok(Attribute { meta })
-    }
-}
-
-impl Duplicate for Meta {
-    fn duplicate(&self, alloc: Global) -> Result<Meta, AllocError> {
-        match self {
-            Meta::Word(path) => path.duplicate(alloc).map(Meta::Word),
-            Meta::List(path, written, span) => {
-                let (path, written) = duplicate_both(alloc, path, written)?;
-                Ok(Meta::List(path, written, *span))
-            }
-            Meta::NameValue(path, value, span) => {
-                let (path, value) = duplicate_both(alloc, path, value)?;
-                Ok(Meta::NameValue(path, value, *span))
-            }
-            Meta::Doc(token) => token.duplicate(alloc).map(Meta::Doc),
-            Meta::Unread(path, written, span) => {
-                let (path, written) = duplicate_both(alloc, path, written)?;
-                Ok(Meta::Unread(path, written, *span))
-            }
-        }
-    }
-}
-
-impl Duplicate for MetaPath {
-    fn duplicate(&self, alloc: Global) -> Result<MetaPath, AllocError> {
-        let written = self.written.duplicate()?;
-        Ok(MetaPath { written })
-    }
 }
 
 impl ToTokens for MetaPath {

@@ -1,11 +1,9 @@
 //! The fields and variants of a definition (Rust Reference, Structs and Enumerations).
 use crate::attr::Attributes;
-use crate::duplicate::{Duplicate, duplicate_both};
 use crate::expr::Expr;
 use crate::ident::Ident;
 use crate::ty::Ty;
-use educe_tokens::{Seq, Span, pair};
-use std::alloc::{AllocError, Global};
+use educe_tokens::{Seq, Span};
 
 /// How the fields are written, and the fields (Rust Reference, Structs).
 #[derive(Drop)]
@@ -66,43 +64,5 @@ impl Field {
             Some(ident) => ident.text.as_str(),
             None => "",
         }
-    }
-}
-
-impl Duplicate for FieldShape {
-    fn duplicate(&self, alloc: Global) -> Result<FieldShape, AllocError> {
-        let fields = self.fields.duplicate(alloc)?;
-        Ok(FieldShape {
-            form: self.form,
-            fields,
-        })
-    }
-}
-
-impl Duplicate for Field {
-    fn duplicate(&self, alloc: Global) -> Result<Field, AllocError> {
-        let named = duplicate_both(alloc, &self.attrs, &self.ident)?;
-        let ((attrs, ident), ty) = pair(named, self.ty.duplicate(alloc))?;
-        Ok(Field {
-            attrs,
-            ident,
-            ty,
-            span: self.span,
-        })
-    }
-}
-
-impl Duplicate for Variant {
-    fn duplicate(&self, alloc: Global) -> Result<Variant, AllocError> {
-        let named = duplicate_both(alloc, &self.attrs, &self.ident)?;
-        let shaped = duplicate_both(alloc, &self.fields, &self.discriminant);
-        let ((attrs, ident), (fields, discriminant)) = pair(named, shaped)?;
-        Ok(Variant {
-            attrs,
-            ident,
-            fields,
-            discriminant,
-            span: self.span,
-        })
     }
 }

@@ -1,11 +1,9 @@
 //! Definitions (Rust Reference, Items).
 use crate::attr::Attributes;
 use crate::data::{FieldShape, Variants};
-use crate::duplicate::Duplicate;
 use crate::generics::Generics;
 use crate::ident::Ident;
 use educe_tokens::TokenSlice;
-use std::alloc::{AllocError, Global};
 
 /// The definition of a type, which a derive is given (Rust Reference, Derive macros).
 #[derive(Drop)]
@@ -25,30 +23,4 @@ pub enum Shape {
     Struct(FieldShape),
     /// An enum with its variants.
     Enum(Variants),
-}
-
-impl Duplicate for DeriveInput {
-    fn duplicate(&self, alloc: Global) -> Result<DeriveInput, AllocError> {
-        let attrs = self.attrs.duplicate(alloc)?;
-        let ident = self.ident.duplicate(alloc)?;
-        let generics = self.generics.duplicate(alloc)?;
-        let shape = self.shape.duplicate(alloc)?;
-        let tokens = self.tokens.duplicate()?;
-        Ok(DeriveInput {
-            attrs,
-            ident,
-            generics,
-            shape,
-            tokens,
-        })
-    }
-}
-
-impl Duplicate for Shape {
-    fn duplicate(&self, alloc: Global) -> Result<Shape, AllocError> {
-        match self {
-            Shape::Struct(shape) => Ok(Shape::Struct(shape.duplicate(alloc)?)),
-            Shape::Enum(variants) => Ok(Shape::Enum(variants.duplicate(alloc)?)),
-        }
-    }
 }

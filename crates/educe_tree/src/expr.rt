@@ -2,10 +2,9 @@
 ghost use Rattle.educe_tokens.specs.WrittenLexemes.{written_lexemes};
 ghost use Rattle.educe_tree.specs.Printed.{printed-well_formed, printed-ends_apart, printed-lexes_back};
 
-use crate::duplicate::{Duplicate, duplicate_both};
 use crate::path::Path;
 use crate::ty::Ty;
-use educe_tokens::{ToTokens, TokenStream, Written, append_written, pair};
+use educe_tokens::{ToTokens, TokenStream, Written, append_written};
 use std::alloc::{AllocError, Global};
 
 /// An expression, with its tokens as they were written (Rust Reference, Expressions).
@@ -37,28 +36,6 @@ pub struct ExprPath {
     pub self_type: Option<Ty>,
     pub path: Path,
     pub written: Written,
-}
-
-impl Duplicate for Expr {
-    fn duplicate(&self, alloc: Global) -> Result<Expr, AllocError> {
-        let written = self.written.duplicate()?;
-        Ok(Expr {
-            form: self.form,
-            written,
-        })
-    }
-}
-
-impl Duplicate for ExprPath {
-    fn duplicate(&self, alloc: Global) -> Result<ExprPath, AllocError> {
-        let types = duplicate_both(alloc, &self.self_type, &self.path)?;
-        let ((self_type, path), written) = pair(types, self.written.duplicate())?;
-        Ok(ExprPath {
-            self_type,
-            path,
-            written,
-        })
-    }
 }
 
 impl ToTokens for Expr {

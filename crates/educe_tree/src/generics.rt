@@ -2,7 +2,6 @@
 ghost use Rattle.educe_tokens.specs.WrittenLexemes.{written_lexemes};
 ghost use Rattle.educe_tree.specs.Printed.{printed-well_formed, printed-ends_apart, printed-lexes_back};
 
-use crate::duplicate::{Duplicate, duplicate_both};
 use crate::ident::Ident;
 use crate::lifetime::Lifetime;
 use educe_tokens::{Seq, ToTokens, TokenStream, Written, append_written};
@@ -61,51 +60,6 @@ pub struct WherePredicate {
 
 /// Predicates in their order.
 pub type Predicates = Seq<WherePredicate>;
-
-impl Duplicate for Generics {
-    fn duplicate(&self, alloc: Global) -> Result<Generics, AllocError> {
-        let (params, predicates) = duplicate_both(alloc, &self.params, &self.predicates)?;
-        Ok(Generics { params, predicates })
-    }
-}
-
-impl Duplicate for GenericParam {
-    fn duplicate(&self, alloc: Global) -> Result<GenericParam, AllocError> {
-        match self {
-            GenericParam::Lifetime(param) => Ok(GenericParam::Lifetime(param.duplicate(alloc)?)),
-            GenericParam::TypeParam(param) => Ok(GenericParam::TypeParam(param.duplicate(alloc)?)),
-            GenericParam::Const(param) => Ok(GenericParam::Const(param.duplicate(alloc)?)),
-        }
-    }
-}
-
-impl Duplicate for LifetimeParam {
-    fn duplicate(&self, alloc: Global) -> Result<LifetimeParam, AllocError> {
-        let (lifetime, written) = duplicate_both(alloc, &self.lifetime, &self.written)?;
-        Ok(LifetimeParam { lifetime, written })
-    }
-}
-
-impl Duplicate for TypeParam {
-    fn duplicate(&self, alloc: Global) -> Result<TypeParam, AllocError> {
-        let (ident, written) = duplicate_both(alloc, &self.ident, &self.written)?;
-        Ok(TypeParam { ident, written })
-    }
-}
-
-impl Duplicate for ConstParam {
-    fn duplicate(&self, alloc: Global) -> Result<ConstParam, AllocError> {
-        let (ident, written) = duplicate_both(alloc, &self.ident, &self.written)?;
-        Ok(ConstParam { ident, written })
-    }
-}
-
-impl Duplicate for WherePredicate {
-    fn duplicate(&self, alloc: Global) -> Result<WherePredicate, AllocError> {
-        let written = self.written.duplicate()?;
-        Ok(WherePredicate { written })
-    }
-}
 
 impl ToTokens for GenericParam {
     ghost use Rattle.educe_tree.specs.Params.{written_of};

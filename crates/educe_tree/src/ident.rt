@@ -7,7 +7,6 @@ ghost use Rattle.educe_tokens.specs.Appends.{Appends, HasPrefix};
 ghost use Rattle.educe_tokens.proofs.Printable.{printable-ident, well_formed_from, ends_apart_from, lexes_back_from};
 ghost use Rattle.educe_tree.specs.Names as names;
 
-use crate::duplicate::Duplicate;
 use crate::names::unraw;
 use educe_tokens::{Span, Spelling, ToTokens, Token, TokenKind, TokenStream};
 use std::alloc::{AllocError, Global};
@@ -40,16 +39,6 @@ impl Ident {
         ensures bytes { result.now ≡ encode_utf8_all (names.unraw self.now.text) }
     {
         unraw(&self.text)
-    }
-}
-
-impl Duplicate for Ident {
-    fn duplicate(&self, alloc: Global) -> Result<Ident, AllocError> {
-        let text = self.text.duplicate(alloc)?;
-        Ok(Ident {
-            text,
-            span: self.span,
-        })
     }
 }
 

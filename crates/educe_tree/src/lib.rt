@@ -4,7 +4,6 @@
 mod attr;
 mod data;
 mod derive;
-mod duplicate;
 mod expr;
 mod generics;
 mod ident;
@@ -16,7 +15,6 @@ mod ty;
 pub use attr::{Attribute, Attributes, Meta, MetaPath, Metas, path_to_string};
 pub use data::{Field, FieldForm, FieldShape, Fields, Variant, Variants};
 pub use derive::{DeriveInput, Shape};
-pub use duplicate::Duplicate;
 pub use expr::{Expr, ExprForm, ExprPath};
 pub use generics::{
     ConstParam, GenericParam, Generics, LifetimeParam, Params, Predicates, TypeParam,

@@ -6,7 +6,6 @@ ghost use Rattle.educe_tokens.specs.Appends.{Appends, HasPrefix};
 ghost use Rattle.educe_tokens.proofs.Printable.{well_formed_from, ends_apart_from, lexes_back_from};
 ghost use Rattle.educe_tree.specs.Printed.{printable-lifetime};
 
-use crate::duplicate::Duplicate;
 use educe_tokens::{Span, Spelling, ToTokens, Token, TokenKind, TokenStream};
 use std::alloc::{AllocError, Global};
 
@@ -17,16 +16,6 @@ pub struct Lifetime {
     pub text: Spelling,
     pub span: Span,
     pub ghost spelled: { IsTrue (spells token.Lifetime text) },
-}
-
-impl Duplicate for Lifetime {
-    fn duplicate(&self, alloc: Global) -> Result<Lifetime, AllocError> {
-        let text = self.text.duplicate(alloc)?;
-        Ok(Lifetime {
-            text,
-            span: self.span,
-        })
-    }
 }
 
 impl ToTokens for Lifetime {

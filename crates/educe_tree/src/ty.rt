@@ -1,11 +1,9 @@
 //! Types (Rust Reference, Types).
-ghost use Rattle.std.specs.Prelude.{◌≡◌, IfOk};
 ghost use Rattle.educe_tokens.specs.WrittenLexemes.{written_lexemes};
 ghost use Rattle.educe_tree.specs.Printed.{printed-well_formed, printed-ends_apart, printed-lexes_back};
 
-use crate::duplicate::Duplicate;
-use crate::path::{Path, Paths, duplicate_paths};
-use educe_tokens::{Boxed, Seq, ToTokens, TokenStream, Written, append_written, pair};
+use crate::path::{Path, Paths};
+use educe_tokens::{Boxed, Seq, ToTokens, TokenStream, Written, append_written};
 use std::alloc::{AllocError, Global};
 
 /// A type, with its tokens as they were written (Rust Reference, Types).
@@ -43,97 +41,6 @@ pub enum TypeForm {
     FnPtr(Types, Option<Boxed<Ty>>),
     /// `dyn A + B`, with the paths of the traits.
     TraitObject(Paths),
-}
-
-impl Ty {
-    /// An equal type in memory of its own.
-    #[cycle(duplicate)]
-    pub fn duplicate(&self, alloc: Global) -> Result<Ty, AllocError>
-        ensures { IfOk result (λ ty. ty ≡ self.now) }
-    {
-        let form = self.form.duplicate(alloc)?;
-        let (form, written) = pair(form, self.written.duplicate())?;
-        Ok(Ty { form, written })
-    }
-}
-
-impl TypeForm {
-    /// An equal form in memory of its own.
-    #[cycle(duplicate)]
-    pub fn duplicate(&self, alloc: Global) -> Result<TypeForm, AllocError>
-        ensures { IfOk result (λ form. form ≡ self.now) }
-    {
-        match self {
-            TypeForm::Paren(ty) => Ok(TypeForm::Paren(duplicate_boxed(alloc, ty)?)),
-            TypeForm::Tuple(types) => Ok(TypeForm::Tuple(duplicate_types(alloc, types)?)),
-            TypeForm::Never => Ok(TypeForm::Never),
-            TypeForm::Reference(mutable, ty) => {
-                Ok(TypeForm::Reference(*mutable, duplicate_boxed(alloc, ty)?))
-            }
-            TypeForm::Pointer(ty) => Ok(TypeForm::Pointer(duplicate_boxed(alloc, ty)?)),
-            TypeForm::Slice(ty) => Ok(TypeForm::Slice(duplicate_boxed(alloc, ty)?)),
-            TypeForm::Array(ty, length) => {
-                let length = length.duplicate()?;
-                Ok(TypeForm::Array(duplicate_boxed(alloc, ty)?, length))
-            }
-            TypeForm::Path(self_type, path) => {
-                let path = path.duplicate(alloc)?;
-                Ok(TypeForm::Path(duplicate_optional(alloc, self_type)?, path))
-            }
-            TypeForm::FnPtr(inputs, output) => {
-                let inputs = duplicate_types(alloc, inputs)?;
-                let output = duplicate_optional(alloc, output)?;
-                Ok(TypeForm::FnPtr(inputs, output))
-            }
-            TypeForm::TraitObject(paths) => {
-                Ok(TypeForm::TraitObject(duplicate_paths(alloc, paths)?))
-            }
-        }
-    }
-}
-
-/// Equal types in memory of their own.
-#[cycle(duplicate)]
-pub fn duplicate_types(alloc: Global, types: &Types) -> Result<Types, AllocError>
-    ensures { IfOk result (λ copies. copies ≡ types.now) }
-{
-    let mut copies = Seq::new(alloc);
-    for ty in types.as_slice() {
-        copies.push(ty.duplicate(alloc)?)?;
-    }
-    Ok(copies)
-}
-
-/// An equal type on the heap.
-#[cycle(duplicate)]
-fn duplicate_boxed(alloc: Global, ty: &Boxed<Ty>) -> Result<Boxed<Ty>, AllocError>
-    ensures { IfOk result (λ copy. copy ≡ ty.now) }
-{
-    let ty = ty.get().duplicate(alloc)?;
-    Boxed::new(alloc, ty)
-}
-
-/// An equal type on the heap, where there is one.
-#[cycle(duplicate)]
-pub fn duplicate_optional(
-    alloc: Global,
-    found: &Option<Boxed<Ty>>,
-) -> Result<Option<Boxed<Ty>>, AllocError>
-    ensures { IfOk result (λ copy. copy ≡ found.now) }
-{
-    match found {
-        Some(ty) => {
-            let ty = ty.get().duplicate(alloc)?;
-            Ok(Some(Boxed::new(alloc, ty)?))
-        }
-        None => Ok(None),
-    }
-}
-
-impl Duplicate for Ty {
-    fn duplicate(&self, alloc: Global) -> Result<Ty, AllocError> {
-        Ty::duplicate(self, alloc)
-    }
 }
 
 impl ToTokens for Ty {

@@ -1,17 +1,18 @@
-//! Of `educe_tree`: that copies and prints succeed, and that the words of the contracts mean what they
+//! Of `educe_tree` and `educe_copies`: that copies and prints succeed, and that the words of the contracts mean what they
 //! are to mean.
 ghost use Rattle.std.specs.Prelude.{IsTrue};
 ghost use Rattle.educe_tokens.specs.Quote.{is_ascii_name};
 
 use educe_checks::{check_at, check_equal, check_text, first, lexed, printed};
+use educe_copies::Duplicate;
 use educe_tokens::{
     Boxed, Seq, Span, Spelling, ToTokens, Token, TokenKind, TokenSlice, Written, text_of_tree,
 };
 use educe_tree::{
-    AngleArg, Args, Attribute, Attributes, DeriveInput, Duplicate, Expr, ExprForm, Field,
-    FieldForm, FieldShape, GenericParam, Generics, Ident, Lifetime, Meta, MetaPath, Params, Path,
-    Predicates, Segment, Shape, Ty, TypeForm, TypeParam, Types, Variant, Variants, WherePredicate,
-    is_name, path_to_string, unraw,
+    AngleArg, Args, Attribute, Attributes, DeriveInput, Expr, ExprForm, Field, FieldForm,
+    FieldShape, GenericParam, Generics, Ident, Lifetime, Meta, MetaPath, Params, Path, Predicates,
+    Segment, Shape, Ty, TypeForm, TypeParam, Types, Variant, Variants, WherePredicate, is_name,
+    path_to_string, unraw,
 };
 use std::alloc::{AllocError, Global};
 use std::test::Fail;

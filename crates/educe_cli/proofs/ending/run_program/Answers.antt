@@ -1,5 +1,5 @@
 use Rattle.std.proofs.Common.{inl, refl}
-use Rattle.educe_core.specs.declared.status.Status.TheVariants.{NoMemory}
+use Rattle.educe_devices.specs.declared.status.Status.TheVariants.{NoMemory}
 use Rattle.educe_cli.proofs.ending.run_program.Goals as goal
 
 -- memory did not suffice for the words, and no device was touched

@@ -1,6 +1,6 @@
 use Rattle.std.proofs.Common.{◌≡◌, [], ◌∷◌, map, string_bytes, codes, sym, ap, ◌∙◌, arith}
 use Rattle.std.proofs.lemmas.Slice.Eq.{bytes_eq-Decides}
-use Rattle.educe_core.proofs.Fronts.{only_one}
+use Rattle.educe_core.proofs.Single.{only_one}
 use Rattle.educe_core.proofs.program.is_expand.Goals as goal
 
 pub returns-in-len1 : goal.returns-in-len1

@@ -1,0 +1,3 @@
+pub mod Differing
+pub mod Repeats
+pub mod NamesDecided
