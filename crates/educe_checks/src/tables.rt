@@ -1,4 +1,6 @@
 //! Comparing what functions answer with what tables expect.
+ghost use Rattle.std.specs.Prelude.{◌≡◌, Ok, IfOk, IsTrue, string_bytes};
+ghost use Rattle.std.specs.List.{AllByRecursion};
 
 use crate::values::check_at;
 use std::alloc::Global;
@@ -16,6 +18,9 @@ where
     Answer: Copy + Debug + PartialEq,
     F: Fn(Global, Input) -> Result<Answer, Fail>,
     requires { F.IsAlwaysCallable answer }
+    ensures { IfOk result (λ _. AllByRecursion (λ row.
+        (found : Answer) × F.post answer alloc row.0 (Ok found) × IsTrue (Answer.eq found row.1))
+        table.now) }
 {
     for (input, expected) in table {
         let found = answer(alloc, *input)?;
@@ -30,6 +35,9 @@ where
     Input: Copy + Debug,
     F: Fn(Global, Input) -> Result<String, Fail>,
     requires { F.IsAlwaysCallable answer }
+    ensures { IfOk result (λ _. AllByRecursion (λ row.
+        (found : _) × F.post answer alloc row.0 (Ok found) × string_bytes found ≡ row.1.now)
+        table.now) }
 {
     for (input, expected) in table {
         let found = answer(alloc, *input)?;

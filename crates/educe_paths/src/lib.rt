@@ -2,19 +2,19 @@
 //! reads tokens reads one production of the grammar, or a piece of one.
 #![tactic(auto)]
 
-mod bound;
 mod looks;
 mod names;
 mod paths;
+mod trait_bounds;
 mod trees;
 
-pub use bound::{
-    BoundRead, bound, bound_paths, bounds, for_all, lifetime_bounds, optional_for_all,
-};
 pub use looks::at_round_end;
 pub use names::{lifetime, name, segment_name, simple_path, skip_lifetime};
 pub use paths::{
     angle_args, constant, is_scope, output, qualified, qualified_path, qualified_self, type_path,
     types_in_round,
+};
+pub use trait_bounds::{
+    BoundRead, bound, bound_paths, bounds, for_all, lifetime_bounds, optional_for_all,
 };
 pub use trees::{group, some_trees, tree};

@@ -1,6 +1,6 @@
 use Rattle.std.proofs.Common.{ap, sym, ◌++◌, ◌∷◌, [], ◌∙◌}
 use Rattle.educe_paths.proofs.BoundPaths.{one_more_path, no_more_path}
-use Rattle.educe_paths.proofs.bound.bound_paths.Goals as goal
+use Rattle.educe_paths.proofs.trait_bounds.bound_paths.Goals as goal
 
 pub loop-path-preserved-in-Continue-1 : goal.loop-path-preserved-in-Continue-1
 loop-path-preserved-in-Continue-1 c =
