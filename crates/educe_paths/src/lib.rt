@@ -8,7 +8,6 @@ mod paths;
 mod trait_bounds;
 mod trees;
 
-pub use looks::at_round_end;
 pub use names::{lifetime, name, segment_name, simple_path, skip_lifetime};
 pub use paths::{
     angle_args, constant, is_scope, output, qualified, qualified_path, qualified_self, type_path,

@@ -10,13 +10,13 @@ ghost use Rattle.educe_grammar.specs.Types as spec;
 ghost use Rattle.educe_grammar.specs.declared.terminal.Keyword.TheVariants as keyword;
 ghost use Rattle.educe_grammar.specs.declared.terminal.Terminal.TheVariants as terminal;
 
-use crate::looks::{at_fn, at_fn_param};
+use crate::looks::{at_fn, at_fn_param, at_round_end};
 use educe_grammar::{
     Cursor, Ending, Inside, Keyword, ParseError, Parts, Terminal, Typed, list, written,
 };
 use educe_paths::{
-    BoundRead, at_round_end, bound, bound_paths, bounds, optional_for_all, output, qualified,
-    skip_lifetime, type_path, types_in_round,
+    BoundRead, bound, bound_paths, bounds, optional_for_all, output, qualified, skip_lifetime,
+    type_path, types_in_round,
 };
 use educe_tokens::{Boxed, Bracket, Seq, pair, terminated};
 use educe_tree::{Expr, Ty, TypeForm, Types};
