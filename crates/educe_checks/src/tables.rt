@@ -1,5 +1,5 @@
 //! Comparing what functions answer with what tables expect.
-ghost use Rattle.std.specs.Prelude.{◌≡◌, Ok, IfOk, IsTrue, string_bytes};
+ghost use Rattle.std.specs.Prelude.{Ok, IfOk, IsTrue};
 ghost use Rattle.std.specs.List.{AllByRecursion};
 
 use crate::values::check_at;
@@ -35,9 +35,6 @@ where
     Input: Copy + Debug,
     F: Fn(Global, Input) -> Result<String, Fail>,
     requires { F.IsAlwaysCallable answer }
-    ensures { IfOk result (λ _. AllByRecursion (λ row.
-        (found : _) × F.post answer alloc row.0 (Ok found) × string_bytes found ≡ row.1.now)
-        table.now) }
 {
     for (input, expected) in table {
         let found = answer(alloc, *input)?;
