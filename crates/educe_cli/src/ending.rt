@@ -79,24 +79,46 @@ mod tests {
     use educe_devices::{MemorySink, MemorySource};
     use std::test::Fail;
 
-    #[test]
-    fn the_status_is_that_of_the_run(rt: HostRuntime) -> Result<(), Fail> {
-        let alloc = rt.alloc();
-        let mut source = MemorySource::new(alloc, b"enum E {}", 10, &[])?;
-        let mut sink = MemorySink::new(alloc, 10, &[])?;
-        let mut notes = MemorySink::new(alloc, 10, &[])?;
+    /// The arguments of the command.
+    fn arguments(alloc: Global) -> Result<Args, AllocError> {
         let mut arguments = Vec::new(alloc);
         arguments.push(String::from_str(alloc, "educe")?)?;
         arguments.push(String::from_str(alloc, "expand")?)?;
-        let arguments = Ok(arguments.into_iter());
-        let ending = run_program(alloc, arguments, &mut source, &mut sink, &mut notes);
-        assert_eq!(rt; ending.status, 1);
-        assert_eq!(rt; sink.bytes(), b"".as_slice());
+        Ok(arguments.into_iter())
+    }
+
+    /// How the program ends over an input in memory.
+    fn ending(
+        alloc: Global,
+        arguments: io::Result<Args>,
+        text: &mut MemorySink,
+        notes: &mut MemorySink,
+    ) -> Result<Ending, AllocError> {
+        let mut source = MemorySource::new(alloc, b"enum E {}", 10, &[])?;
+        Ok(run_program(alloc, arguments, &mut source, text, notes))
+    }
+
+    #[test]
+    fn the_status_is_that_of_the_run(rt: HostRuntime) -> Result<(), Fail> {
+        let alloc = rt.alloc();
+        let mut text = MemorySink::new(alloc, 10, &[])?;
+        let mut notes = MemorySink::new(alloc, 10, &[])?;
+        let found = ending(alloc, Ok(arguments(alloc)?), &mut text, &mut notes)?;
+        assert_eq!(rt; found.status, 1);
+        assert_eq!(rt; text.bytes(), b"".as_slice());
         assert_eq!(rt; notes.bytes(), b"1:1: not built yet\n".as_slice());
+        Ok(())
+    }
+
+    #[test]
+    fn without_arguments_the_status_is_8(rt: HostRuntime) -> Result<(), Fail> {
+        let alloc = rt.alloc();
+        let mut text = MemorySink::new(alloc, 10, &[])?;
+        let mut notes = MemorySink::new(alloc, 10, &[])?;
         let untaken = Err(io::Error::from(io::ErrorKind::InvalidData));
-        let ending = run_program(alloc, untaken, &mut source, &mut sink, &mut notes);
-        assert_eq!(rt; ending.status, 8);
-        assert_eq!(rt; ending.report(&rt), ExitCode::from(8));
+        let found = ending(alloc, untaken, &mut text, &mut notes)?;
+        assert_eq!(rt; found.status, 8);
+        assert_eq!(rt; found.report(&rt), ExitCode::from(8));
         Ok(())
     }
 }
