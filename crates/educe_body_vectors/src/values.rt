@@ -1,5 +1,6 @@
 //! Values and tables, by what a test says of them.
-ghost use Rattle.std.specs.Prelude.{◌≡◌, IfOk, Some, map};
+ghost use Rattle.std.specs.Prelude.{◌≡◌, ◌↔◌, [], IfOk, IsTrue, Some, map};
+ghost use Rattle.educe_body_vectors.specs.Values.{numbered};
 
 use educe_body::{Answers, FieldValue, Row, Scope, Value};
 use educe_tokens::Seq;
@@ -9,7 +10,7 @@ use std::alloc::{AllocError, Global};
 /// A value of a struct whose fields have one type.
 pub fn value(alloc: Global, numbers: &[i128]) -> Result<Value, AllocError>
     ensures variant { IfOk result (λ made. made.variant ≡ 0) }
-    ensures numbers { IfOk result (λ made. map (λ field. field.number) made.fields ≡ numbers.now) }
+    ensures fields { IfOk result (λ made. made.fields ≡ map numbered numbers.now) }
 {
     let mut fields = Seq::new(alloc);
     for number in numbers {
@@ -23,6 +24,7 @@ pub fn value(alloc: Global, numbers: &[i128]) -> Result<Value, AllocError>
 
 /// A definition with the values of `self` and, where there is one, of the other parameter.
 pub fn scope<'a>(ast: &'a DeriveInput, this: &'a Value, other: Option<&'a Value>) -> Scope<'a>
+    ensures ast { result.ast ≡ ast.entry }
     ensures this { result.this ≡ Some this.entry }
     ensures other { result.other ≡ other.entry }
 {
@@ -32,7 +34,8 @@ pub fn scope<'a>(ast: &'a DeriveInput, this: &'a Value, other: Option<&'a Value>
 
 /// The table of these rows. Without rows, fields compare as their numbers do.
 pub fn table(alloc: Global, rows: &[Row]) -> Result<Answers, AllocError>
-    ensures { IfOk result (λ made. made.rows ≡ rows.now) }
+    ensures rows { IfOk result (λ made. made.rows ≡ rows.now) }
+    ensures by_number { IfOk result (λ made. IsTrue made.by_number ↔ (rows.now ≡ [])) }
 {
     let mut found = Seq::new(alloc);
     for row in rows {

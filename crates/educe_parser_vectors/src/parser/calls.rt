@@ -10,7 +10,7 @@ use educe_parser::{
 };
 use educe_tokens::{EduceError, Kind, Span, ToTokens, text_of_tree};
 use educe_tree::{DeriveInput, ExprPath, Meta, Shape, WherePredicate};
-use std::alloc::{AllocError, Global};
+use std::alloc::Global;
 use std::test::Fail;
 
 /// The text of the tree that is answered.
@@ -19,11 +19,6 @@ fn read_text<T: ToTokens + Drop>(
     answer: Result<T, EduceError>,
 ) -> Result<String, Fail> {
     Ok(printed(alloc, found(answer)?)?)
-}
-
-/// The copy of a tree.
-fn copied<T: Duplicate>(alloc: Global, tree: T) -> Result<T, AllocError> {
-    tree.duplicate(alloc)
 }
 
 /// The refusal that is answered.
@@ -85,19 +80,23 @@ fn expressions_are_read(rt: HostRuntime) -> Result<(), Fail> {
     )
 }
 
-/// The path has the type of a qualified path, and two segments.
-fn check_path(path: &ExprPath) -> Result<(), Fail> {
+/// The path that a text is.
+fn expr_path(alloc: Global, text: &str) -> Result<ExprPath, Fail> {
+    found(parse_path(alloc, &lexed_slice(alloc, text)?))
+}
+
+/// The path has the type of a qualified path, two segments and this text.
+fn check_path(alloc: Global, path: &ExprPath, expected: &str) -> Result<(), Fail> {
     check_equal(path.self_type.is_some(), true)?;
-    check_equal(path.path.segments.len(), 2)
+    check_equal(path.path.segments.len(), 2)?;
+    check_text(text_of_tree(alloc, path)?, expected)
 }
 
 #[test]
 fn paths_are_read(rt: HostRuntime) -> Result<(), Fail> {
     let alloc = rt.alloc();
-    let tokens = lexed_slice(alloc, "<T as A>::b::<C>")?;
-    let path = found(parse_path(alloc, &tokens))?;
-    check_path(&path)?;
-    check_text(printed(alloc, path)?, "< T as A >:: b ::< C >")
+    let path = expr_path(alloc, "<T as A>::b::<C>")?;
+    check_path(alloc, &path, "< T as A >:: b ::< C >")
 }
 
 /// The predicates are these two.
@@ -156,20 +155,20 @@ fn check_fields(alloc: Global, shape: &Shape) -> Result<(), Fail> {
     check_text(text_of_tree(alloc, &second.ty)?, "A")
 }
 
-/// The definition has this name, and one each of attributes, parameters and predicates.
-fn check_head(definition: &DeriveInput) -> Result<(), Fail> {
+/// The definition has this name, one each of attributes, parameters and predicates, and two fields.
+fn check_definition(alloc: Global, definition: &DeriveInput) -> Result<(), Fail> {
     check_equal(definition.ident.text.as_str(), "S")?;
     check_equal(definition.attrs.len(), 1)?;
     check_equal(definition.generics.params.len(), 1)?;
-    check_equal(definition.generics.predicates.len(), 1)
+    check_equal(definition.generics.predicates.len(), 1)?;
+    check_fields(alloc, &definition.shape)
 }
 
 #[test]
 fn definitions_are_trees(rt: HostRuntime) -> Result<(), Fail> {
     let alloc = rt.alloc();
     let definition = definition(alloc, "#[x] pub struct S<T>(pub Vec<T>, A) where T: B;")?;
-    check_head(&definition)?;
-    check_fields(alloc, &definition.shape)
+    check_definition(alloc, &definition)
 }
 
 /// The definition has the name `S` and the field `a` of the type `u8`, where they stand in a text.
@@ -186,12 +185,22 @@ fn check_one_field(alloc: Global, definition: &DeriveInput) -> Result<(), Fail> 
     check_text(text_of_tree(alloc, &field.ty)?, "u8")
 }
 
+/// A definition of one field.
+const ONE_FIELD: &str = "#[educe(PartialEq)] struct S { a: u8 }";
+
+#[test]
+fn definitions_have_their_fields(rt: HostRuntime) -> Result<(), Fail> {
+    let alloc = rt.alloc();
+    let definition = definition(alloc, ONE_FIELD)?;
+    check_one_field(alloc, &definition)
+}
+
 #[test]
 fn copies_of_definitions_are_equal(rt: HostRuntime) -> Result<(), Fail> {
     let alloc = rt.alloc();
-    let definition = definition(alloc, "#[educe(PartialEq)] struct S { a: u8 }")?;
-    check_one_field(alloc, &definition)?;
-    check_one_field(alloc, &copied(alloc, definition)?)
+    let definition = definition(alloc, ONE_FIELD)?;
+    let copy = definition.duplicate(alloc)?;
+    check_one_field(alloc, &copy)
 }
 
 #[test]

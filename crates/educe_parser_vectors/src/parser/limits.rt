@@ -210,18 +210,19 @@ fn refusal_with(
     }
 }
 
-/// With the part so often in the place of `_` each text is read. With it once more it is too deep,
-/// at the character that stands so far behind the start of the last part.
+/// With the part so often in the place of `_` the call reads each text. With it once more it is too
+/// deep, at the character that stands so far behind the start of the last part.
 fn check_limits(
     alloc: Global,
-    rows: &[(Call, &str, (&str, &str, &str), usize, usize)],
+    rows: &[(Call, &str, &str, &str, &str, usize, usize)],
 ) -> Result<(), Fail> {
-    for (call, outer, part, limit, behind) in rows {
-        let found = refusal_with(alloc, *call, outer, *part, *limit)?;
-        check_at((*outer, *part), found, None)?;
-        let found = refusal_with(alloc, *call, outer, *part, limit.saturating_add(1))?;
+    for (call, outer, start, inside, stop, limit, behind) in rows {
+        let part = (*start, *inside, *stop);
+        let found = refusal_with(alloc, *call, outer, part, *limit)?;
+        check_at((*outer, part), found, None)?;
+        let found = refusal_with(alloc, *call, outer, part, limit.saturating_add(1))?;
         let place = limit.saturating_mul(part.0.len()).saturating_add(*behind);
-        check_at((*outer, *part), found, Some((Kind::TooDeep, place)))?;
+        check_at((*outer, part), found, Some((Kind::TooDeep, place)))?;
     }
     Ok(())
 }
@@ -231,31 +232,31 @@ fn openers_of_definitions_nest(rt: HostRuntime) -> Result<(), Fail> {
     check_limits(
         rt.alloc(),
         &[
-            (Derive, "struct S(_);", ("(", "A", ")"), 127, 0),
-            (Derive, "struct S(_);", ("(", "dyn A", ")"), 126, 1),
-            (Derive, "struct S(_);", ("dyn A<", "B", ">"), 63, 5),
-            (Derive, "struct S(_);", ("(", "dyn (A)", ")"), 125, 5),
-            (Derive, "struct S(_);", ("(", "dyn for<'a> A", ")"), 125, 8),
-            (Derive, "struct S(_);", ("(", "for<'a> fn()", ")"), 126, 4),
-            (Derive, "struct S(_);", ("(", "fn()", ")"), 126, 3),
-            (Derive, "struct S { a: _ }", ("(", "A", ")"), 127, 0),
-            (Derive, "struct S<T: _>;", ("A<", "B", ">"), 127, 1),
-            (Derive, "struct S<T = _>;", ("&", "A", ""), 127, 0),
-            (Derive, "struct S<const N: _>;", ("(", "A", ")"), 127, 0),
-            (Derive, "struct S<const N: A={_}>;", ("(", "1", ")"), 126, 0),
-            (Derive, "enum E { A(_) }", ("(", "A", ")"), 126, 0),
-            (Derive, "enum E { A(_) }", ("&", "A", ""), 126, 0),
-            (Derive, "enum E { A { a: _ } }", ("(", "A", ")"), 126, 0),
-            (Derive, "enum E { A { a: _ } }", ("&", "A", ""), 126, 0),
-            (Derive, "enum E { A = a::<_> }", ("A<", "B", ">"), 126, 1),
-            (Derive, "enum E { A = _ }", ("a::<{ ", "1", " }>"), 63, 4),
-            (Derive, "enum E { A = _ }", ("a.b::<{", "1", "}>()"), 63, 6),
-            (Derive, "enum E { A = _ }", ("(", "a::<B>", ")"), 126, 4),
-            (Derive, "enum E { A = _ }", ("(", "a.b::<B>()", ")"), 126, 6),
-            (Derive, "enum E { A = _ }", ("(", "1", ")"), 127, 0),
-            (Derive, "enum E { A = m!(_) }", ("(", "", ")"), 126, 0),
-            (Derive, "#[a(_)] struct S;", ("(", "", ")"), 126, 0),
-            (Derive, "#[a = _] struct S;", ("(", "", ")"), 127, 0),
+            (Derive, "struct S(_);", "(", "A", ")", 127, 0),
+            (Derive, "struct S(_);", "(", "dyn A", ")", 126, 1),
+            (Derive, "struct S(_);", "dyn A<", "B", ">", 63, 5),
+            (Derive, "struct S(_);", "(", "dyn (A)", ")", 125, 5),
+            (Derive, "struct S(_);", "(", "dyn for<'a> A", ")", 125, 8),
+            (Derive, "struct S(_);", "(", "for<'a> fn()", ")", 126, 4),
+            (Derive, "struct S(_);", "(", "fn()", ")", 126, 3),
+            (Derive, "struct S { a: _ }", "(", "A", ")", 127, 0),
+            (Derive, "struct S<T: _>;", "A<", "B", ">", 127, 1),
+            (Derive, "struct S<T = _>;", "&", "A", "", 127, 0),
+            (Derive, "struct S<const N: _>;", "(", "A", ")", 127, 0),
+            (Derive, "struct S<const N: A={_}>;", "(", "1", ")", 126, 0),
+            (Derive, "enum E { A(_) }", "(", "A", ")", 126, 0),
+            (Derive, "enum E { A(_) }", "&", "A", "", 126, 0),
+            (Derive, "enum E { A { a: _ } }", "(", "A", ")", 126, 0),
+            (Derive, "enum E { A { a: _ } }", "&", "A", "", 126, 0),
+            (Derive, "enum E { A = a::<_> }", "A<", "B", ">", 126, 1),
+            (Derive, "enum E { A = _ }", "a::<{ ", "1", " }>", 63, 4),
+            (Derive, "enum E { A = _ }", "a.b::<{", "1", "}>()", 63, 6),
+            (Derive, "enum E { A = _ }", "(", "a::<B>", ")", 126, 4),
+            (Derive, "enum E { A = _ }", "(", "a.b::<B>()", ")", 126, 6),
+            (Derive, "enum E { A = _ }", "(", "1", ")", 127, 0),
+            (Derive, "enum E { A = m!(_) }", "(", "", ")", 126, 0),
+            (Derive, "#[a(_)] struct S;", "(", "", ")", 126, 0),
+            (Derive, "#[a = _] struct S;", "(", "", ")", 127, 0),
         ],
     )
 }
@@ -265,33 +266,33 @@ fn openers_of_parts_nest(rt: HostRuntime) -> Result<(), Fail> {
     check_limits(
         rt.alloc(),
         &[
-            (Metas, "a(_)", ("(", "", ")"), 127, 0),
-            (Metas, "a[_]", ("[", "", "]"), 127, 0),
-            (Metas, "a{_}", ("{", "", "}"), 127, 0),
-            (Metas, "a, b(_)", ("[", "", "]"), 127, 0),
-            (Metas, "a = (_)", ("(", "1", ")"), 127, 0),
-            (Metas, "a = f(_)", ("g(", "1", ")"), 127, 1),
-            (Metas, "a = m!(_)", ("(", "", ")"), 127, 0),
-            (Metas, "a = <_>::b", ("A<", "B", ">"), 127, 1),
-            (Metas, "a = _", ("-", "1", ""), 128, 0),
-            (Expr, "(_)", ("(", "1", ")"), 127, 0),
-            (Expr, "f(_)", ("g(", "1", ")"), 127, 1),
-            (Expr, "a[_]", ("b[", "1", "]"), 127, 1),
-            (Expr, "A { b: _ }", ("A { b: ", "1", " }"), 127, 2),
-            (Expr, "m![_]", ("[", "", "]"), 127, 0),
-            (Expr, "a::<_>", ("A<", "B", ">"), 127, 1),
-            (Expr, "_", ("a::<{ ", "1", " }>"), 64, 3),
-            (Expr, "1 as _", ("&", "A", ""), 128, 0),
-            (Expr, "_", ("&mut ", "1", ""), 128, 0),
-            (Path, "<_>::a", ("A<", "B", ">"), 127, 1),
-            (Path, "<_>::a", ("&", "A", ""), 127, 0),
-            (Path, "a::<_>", ("A<", "B", ">"), 127, 1),
-            (Path, "a::<{ _ }>", ("(", "1", ")"), 126, 0),
-            (Predicates, "_: A", ("&", "A", ""), 128, 0),
-            (Predicates, "A: _", ("B<", "C", ">"), 128, 1),
-            (Predicates, "A: _", ("B<", "dyn for<'a> C", ">"), 126, 9),
-            (Predicates, "A: (_)", ("B<", "C", ">"), 127, 1),
-            (Predicates, "for<'a> A: _", ("B<", "C", ">"), 128, 1),
+            (Metas, "a(_)", "(", "", ")", 127, 0),
+            (Metas, "a[_]", "[", "", "]", 127, 0),
+            (Metas, "a{_}", "{", "", "}", 127, 0),
+            (Metas, "a, b(_)", "[", "", "]", 127, 0),
+            (Metas, "a = (_)", "(", "1", ")", 127, 0),
+            (Metas, "a = f(_)", "g(", "1", ")", 127, 1),
+            (Metas, "a = m!(_)", "(", "", ")", 127, 0),
+            (Metas, "a = <_>::b", "A<", "B", ">", 127, 1),
+            (Metas, "a = _", "-", "1", "", 128, 0),
+            (Expr, "(_)", "(", "1", ")", 127, 0),
+            (Expr, "f(_)", "g(", "1", ")", 127, 1),
+            (Expr, "a[_]", "b[", "1", "]", 127, 1),
+            (Expr, "A { b: _ }", "A { b: ", "1", " }", 127, 2),
+            (Expr, "m![_]", "[", "", "]", 127, 0),
+            (Expr, "a::<_>", "A<", "B", ">", 127, 1),
+            (Expr, "_", "a::<{ ", "1", " }>", 64, 3),
+            (Expr, "1 as _", "&", "A", "", 128, 0),
+            (Expr, "_", "&mut ", "1", "", 128, 0),
+            (Path, "<_>::a", "A<", "B", ">", 127, 1),
+            (Path, "<_>::a", "&", "A", "", 127, 0),
+            (Path, "a::<_>", "A<", "B", ">", 127, 1),
+            (Path, "a::<{ _ }>", "(", "1", ")", 126, 0),
+            (Predicates, "_: A", "&", "A", "", 128, 0),
+            (Predicates, "A: _", "B<", "C", ">", 128, 1),
+            (Predicates, "A: _", "B<", "dyn for<'a> C", ">", 126, 9),
+            (Predicates, "A: (_)", "B<", "C", ">", 127, 1),
+            (Predicates, "for<'a> A: _", "B<", "C", ">", 128, 1),
         ],
     )
 }
