@@ -2,13 +2,15 @@
 //! contracts mean what they are to mean.
 
 use educe_checks::{
-    check_answers, check_equal, check_text, check_texts, definition, first, lexed, printed,
+    check_answers, check_equal, check_text, check_texts, definition, first, found, lexed,
+    lexed_slice, printed,
 };
 use educe_copies::Duplicate;
+use educe_parser::{parse_metas, parse_path};
 use educe_tokens::{Span, Spelling, text_of_tree};
 use educe_tree::{
-    DeriveInput, GenericParam, Lifetime, Meta, MetaPath, Shape, Ty, TypeForm, is_name,
-    path_to_string, unraw,
+    DeriveInput, ExprPath, GenericParam, Lifetime, Meta, MetaPath, Metas, Shape, Ty, TypeForm,
+    is_name, path_to_string, unraw,
 };
 use std::alloc::Global;
 use std::test::Fail;
@@ -180,8 +182,12 @@ fn first_lifetime(definition: &DeriveInput) -> Result<&Lifetime, Fail> {
 
 /// The parameters and the predicates of a definition are printed.
 fn check_generics(alloc: Global, definition: &DeriveInput) -> Result<(), Fail> {
-    let param = first(&definition.generics.params)?;
-    check_text(text_of_tree(alloc, param)?, "'b : 'c")?;
+    let [lifetime, ty, constant] = definition.generics.params.as_slice() else {
+        return Err(Fail::from("not three"));
+    };
+    check_text(text_of_tree(alloc, lifetime)?, "'b : 'c")?;
+    check_text(text_of_tree(alloc, ty)?, "T : D")?;
+    check_text(text_of_tree(alloc, constant)?, "const N : E")?;
     let predicate = first(&definition.generics.predicates)?;
     check_text(text_of_tree(alloc, predicate)?, "T : B")?;
     let lifetime = first_lifetime(definition)?;
@@ -192,8 +198,44 @@ fn check_generics(alloc: Global, definition: &DeriveInput) -> Result<(), Fail> {
 #[test]
 fn prints_parameters(rt: HostRuntime) -> Result<(), Fail> {
     let alloc = rt.alloc();
-    let definition = definition(alloc, "struct S<'b: 'c, T> where T: B;")?;
-    check_generics(alloc, &definition)
+    let copy = copied_definition(alloc, "struct S<'b: 'c, T: D, const N: E> where T: B;")?;
+    check_generics(alloc, &copy)
+}
+
+/// The copies of the metas of a text.
+fn copied_metas(alloc: Global, text: &str) -> Result<Metas, Fail> {
+    let metas = found(parse_metas(alloc, &lexed_slice(alloc, text)?))?;
+    Ok(metas.duplicate(alloc)?)
+}
+
+/// The metas are one name with a value.
+fn check_value(alloc: Global, metas: &[Meta]) -> Result<(), Fail> {
+    let [Meta::NameValue(path, value, span)] = metas else {
+        return Err(Fail::from("no value"));
+    };
+    check_text(text_of_tree(alloc, path)?, "a")?;
+    check_text(text_of_tree(alloc, value)?, "1 + 2")?;
+    check_equal(*span, Span { start: 0, end: 9 })
+}
+
+#[test]
+fn copies_a_name_with_a_value(rt: HostRuntime) -> Result<(), Fail> {
+    let alloc = rt.alloc();
+    let copies = copied_metas(alloc, "a = 1 + 2")?;
+    check_value(alloc, copies.as_slice())
+}
+
+/// The copy of the path of a text.
+fn copied_expr_path(alloc: Global, text: &str) -> Result<ExprPath, Fail> {
+    let path = found(parse_path(alloc, &lexed_slice(alloc, text)?))?;
+    Ok(path.duplicate(alloc)?)
+}
+
+#[test]
+fn copies_a_qualified_path(rt: HostRuntime) -> Result<(), Fail> {
+    let alloc = rt.alloc();
+    let copy = copied_expr_path(alloc, "<T as A>::b")?;
+    check_text(printed(alloc, copy)?, "< T as A >:: b")
 }
 
 /// The name of the first field of the first variant.
