@@ -1,7 +1,7 @@
 //! Why a text is refused.
-ghost use Rattle.std.specs.Prelude.{◌≡◌, ◌≢◌, [], ◌∷◌, ◌++◌, codes, IfOk};
+ghost use Rattle.std.specs.Prelude.{◌≡◌, ◌≢◌, [], ◌∷◌, ◌++◌, map, encode_utf8_all, IfOk, OnOk};
 ghost use Rattle.std.specs.String.{string_bytes};
-ghost use Rattle.educe_tokens.specs.Message.{HasWords, message_of};
+ghost use Rattle.educe_tokens.specs.Message.{HasWords, incorrect_format, lines_below, message_of};
 
 use crate::seq::Seq;
 use crate::span::Span;
@@ -14,24 +14,51 @@ pub type Texts = Seq<Spelling>;
 /// The kinds of refusals.
 #[derive(Clone, Copy, Debug, PartialEq, Eq)]
 pub enum Kind {
-    /// The text is no list of tokens whose brackets close in order. The place is one token: the last
-    /// one before the characters that are no piece, or the bracket that closes wrongly. Where no
-    /// token stands before such characters, or brackets are open at the end, it is empty, at the
-    /// end of the text.
+    /// The text is no list of tokens whose brackets close in order, or has no reading by the
+    /// grammar. The place is one token, or empty at the end of the text.
     Syntax,
-    /// A bracket opens where `NESTING_LIMIT` are open. The place is that bracket.
+    /// More brackets and constructs are open at a token than the limit on nesting allows. The place
+    /// is that token.
     TooDeep,
-    /// A literal, the one word, is read and not carried.
+    /// A literal or the word `union`, the one word, is read and unsupported.
     NotCarried,
-    /// The text is not of the form that is built so far.
-    NotBuilt,
+    /// A name, the one word, is defined more than once. The place is the later one.
+    DuplicateName,
     /// No trait is listed at the type.
     DeriveAttributeNotSetUpYet,
-    /// A name, the one word, is defined more than once.
-    DuplicateName,
+    /// An `educe` attribute of the type is no list. The words are `educe` and the form that it has
+    /// to have; the place is the word `educe`.
+    EduceFormatIncorrect,
+    /// A path, the one word, is none of the nine traits.
+    UnsupportedTrait,
+    /// A trait, the one word, stands earlier at the same place.
+    ReuseATrait,
+    /// A trait, the one word, is not listed at the type.
+    TraitNotUsed,
+    /// No attribute of the trait, the one word, is allowed at this place.
+    AttributeIncorrectPlace,
+    /// The form or a parameter of an attribute is none that its place allows. The words are the
+    /// trait and the allowed forms.
+    AttributeIncorrectFormat,
+    /// A parameter, the one word, stands earlier in the same attribute.
+    ParameterReset,
+    /// The value of a parameter is missing or of another form. The one word is the whole message.
+    ExpectedValue,
     /// Two fields have one rank.
     ReuseARank { rank: i64 },
-    /// Want of memory.
+    /// `Debug` shows no name for a struct or a variant with brackets, none of whose fields it shows.
+    UnitStructNeedName,
+    /// `Debug` shows no name for a unit variant.
+    UnitVariantNeedName,
+    /// `Debug` shows no name for an enum without variants.
+    UnitEnumNeedName,
+    /// Several variants are marked as the default.
+    MultipleDefaultVariants,
+    /// No variant is marked as the default.
+    NoDefaultVariant,
+    /// The text is not of the form that is built so far.
+    NotBuilt,
+    /// Out of memory.
     Alloc,
 }
 
@@ -69,7 +96,7 @@ impl EduceError {
         Ok(EduceError { kind, span, words })
     }
 
-    /// The refusal for want of memory. It takes none itself.
+    /// The error for out of memory. It takes no memory itself.
     pub fn alloc(alloc: Global) -> EduceError
         ensures { result ≡ record { kind = Kind.Alloc; span = Span.NONE; words = [] } }
     {
@@ -82,42 +109,117 @@ impl EduceError {
         requires words { HasWords self.now.kind self.now.words }
         ensures { IfOk result (λ text. string_bytes text ≡ message_of self.now.kind self.now.words) }
     {
-        match self.kind {
-            Kind::Syntax => String::from_str(alloc, "syntax error"),
-            Kind::TooDeep => String::from_str(alloc, "nested too deeply"),
-            Kind::NotCarried => match self.words.as_slice() {
-                [word] => not_carried(alloc, word.as_str()),
-                _ => unreachable!(),
-            },
-            Kind::NotBuilt => String::from_str(alloc, "not built yet"),
-            Kind::DeriveAttributeNotSetUpYet => String::from_str(
-                alloc,
-                "you are using `Educe` in the `derive` attribute, but it has not been set up yet",
-            ),
-            Kind::DuplicateName => match self.words.as_slice() {
-                [word] => duplicate_name(alloc, word.as_str()),
-                _ => unreachable!(),
-            },
-            Kind::ReuseARank { rank } => {
-                format!(in alloc; "the rank `{rank}` is repeatedly used")
-            }
-            Kind::Alloc => unreachable!(),
+        match self.words.as_slice() {
+            [] => wordless_message(alloc, self.kind),
+            [word, lines @ ..] => worded_message(alloc, self.kind, word, lines),
         }
     }
 }
 
-/// The message for a literal that is not carried.
-fn not_carried(alloc: Global, literal: &str) -> Result<String, AllocError>
-    ensures { IfOk result (λ text. string_bytes text ≡
-        codes "`" ++ literal.now ++ codes "` is not supported") }
+/// The message of a kind that cites no word.
+fn wordless_message(alloc: Global, kind: Kind) -> Result<String, AllocError>
+    requires kind { kind ≢ Kind.Alloc }
+    requires words { HasWords kind [] }
+    ensures { IfOk result (λ text. string_bytes text ≡ message_of kind []) }
 {
-    format!(in alloc; "`{literal}` is not supported")
+    match kind {
+        Kind::Syntax => String::from_str(alloc, "syntax error"),
+        Kind::TooDeep => String::from_str(alloc, "nested too deeply"),
+        Kind::NotBuilt => String::from_str(alloc, "not built yet"),
+        Kind::DeriveAttributeNotSetUpYet => String::from_str(
+            alloc,
+            "you are using `Educe` in the `derive` attribute, but it has not been set up yet",
+        ),
+        Kind::ReuseARank { rank } => format!(in alloc; "the rank `{rank}` is repeatedly used"),
+        Kind::UnitStructNeedName => {
+            String::from_str(alloc, "a unit struct needs to have a name")
+        }
+        Kind::UnitVariantNeedName => String::from_str(
+            alloc,
+            "a unit variant which doesn't use an enum name needs to have a name",
+        ),
+        Kind::UnitEnumNeedName => String::from_str(alloc, "a unit enum needs to have a name"),
+        Kind::MultipleDefaultVariants => {
+            String::from_str(alloc, "multiple default variants are set")
+        }
+        Kind::NoDefaultVariant => String::from_str(alloc, "there is no variant set as default"),
+        _ => unreachable!(),
+    }
 }
 
-/// The message for a name that is given more than once.
-fn duplicate_name(alloc: Global, name: &str) -> Result<String, AllocError>
-    ensures { IfOk result (λ text. string_bytes text ≡
-        codes "the name `" ++ name.now ++ codes "` is defined more than once") }
+/// The message of a kind that cites a word and maybe lines below it.
+fn worded_message(
+    alloc: Global,
+    kind: Kind,
+    word: &Spelling,
+    lines: &[Spelling],
+) -> Result<String, AllocError>
+    requires kind { kind ≢ Kind.Alloc }
+    requires words { HasWords kind (word.now ∷ lines.now) }
+    ensures { IfOk result (λ text. string_bytes text ≡ message_of kind (word.now ∷ lines.now)) }
 {
-    format!(in alloc; "the name `{name}` is defined more than once")
+    let word = word.as_str();
+    match kind {
+        Kind::NotCarried => around(alloc, "`", word, "` is not supported"),
+        Kind::DuplicateName => around(alloc, "the name `", word, "` is defined more than once"),
+        Kind::EduceFormatIncorrect => incorrect_format(alloc, word, lines),
+        Kind::UnsupportedTrait => around(alloc, "unsupported trait `", word, AVAILABLE_TRAITS),
+        Kind::ReuseATrait => around(alloc, "the trait `", word, "` is used repeatedly"),
+        Kind::TraitNotUsed => around(alloc, "the trait `", word, "` is not used"),
+        Kind::AttributeIncorrectPlace => {
+            around(alloc, "the `", word, "` attribute cannot be placed here")
+        }
+        Kind::AttributeIncorrectFormat => incorrect_format(alloc, word, lines),
+        Kind::ParameterReset => {
+            around(alloc, "you are trying to reset the `", word, "` parameter")
+        }
+        Kind::ExpectedValue => String::from_str(alloc, word),
+        _ => unreachable!(),
+    }
+}
+
+/// What follows the path in the message for an unsupported trait.
+const AVAILABLE_TRAITS: &str = "`, available traits:
+    Debug
+    Clone
+    Copy
+    PartialEq
+    Eq
+    PartialOrd
+    Ord
+    Hash
+    Default";
+
+/// A word between two texts.
+fn around(alloc: Global, before: &str, word: &str, behind: &str) -> Result<String, AllocError>
+    ensures { IfOk result (λ text. string_bytes text ≡ before.now ++ (word.now ++ behind.now)) }
+{
+    format!(in alloc; "{before}{word}{behind}")
+}
+
+/// The message that names the allowed forms, each on a line of its own.
+fn incorrect_format(alloc: Global, word: &str, lines: &[Spelling]) -> Result<String, AllocError>
+    ensures { IfOk result (λ text. string_bytes text ≡ incorrect_format word.now lines.now) }
+{
+    let mut text = around(
+        alloc,
+        "you are using an incorrect format of the `",
+        word,
+        "` attribute, which should be reformatted as follows:",
+    )?;
+    push_lines(&mut text, lines)?;
+    Ok(text)
+}
+
+/// Adds each text on an indented line of its own.
+fn push_lines(text: &mut String, lines: &[Spelling]) -> Result<(), AllocError>
+    ensures { OnOk result (string_bytes text.new ≡ string_bytes text.old ++ lines_below (map encode_utf8_all lines.now)) }
+{
+    let mut rest = lines;
+    while let [first, behind @ ..] = rest {
+        text.push_str("\n    ")?;
+        text.push_str(first.as_str())?;
+        rest = behind;
+    }
+    Ok(())
 }
