@@ -128,7 +128,8 @@ impl<R: Inside> Production<Parts<R>> for RoundInside {
 
     ghost ready = { λ parts budget. R.nests parts.inside (budget + 1) };
 
-    ghost reads = { λ budget. read budget (either (at (stop Round)) (empty (form.Tuple [], Closed)) (made spec.round_of (both (part types) (optional (at_sign 44) (skipping (sign 44) (commas (at (stop Round)) (part types))))))) };
+    ghost reads = { λ budget. read budget (either (at (stop Round)) (empty (form.Tuple [], Closed))
+        (made spec.round_of (both (part types) (optional (at_sign 44) (skipping (sign 44) (commas (at (stop Round)) (part types))))))) };
 
     #[tactic(auto, unfolding(educe_grammar::proofs::Opened::rules))]
     fn parse(
