@@ -4,14 +4,15 @@ ghost use Rattle.educe_grammar.specs.Expressions as spec;
 ghost use Rattle.educe_grammar.specs.Reads.{read};
 ghost use Rattle.educe_grammar.specs.Rules as rule;
 ghost use Rattle.educe_grammar.specs.Steps.{Gives};
-ghost use Rattle.educe_grammar.specs.Types.{has_no_args};
+ghost use Rattle.educe_grammar.specs.Combining.{colons, optional, skipping};
+ghost use Rattle.educe_grammar.specs.Types.{angle_args, has_no_args};
 ghost use Rattle.educe_tree.specs.declared.path.Segment.{out-Segment};
 
-use crate::looks::at_turbofish;
-use educe_grammar::{Cursor, Inside, ParseError, Parts, path, written};
+use crate::lookahead::at_turbofish;
+use educe_grammar::{Cursor, Inside, ParseError, Parts, Production, path, written};
 use educe_paths::{angle_args, is_scope, qualified_path, qualified_self, segment_name};
 use educe_tokens::{pair, terminated};
-use educe_tree::{Args, ExprPath, Path, Segment, Segments, Ty};
+use educe_tree::{AngleArgs, Args, ExprPath, Path, Segment, Segments, Ty};
 
 /// A path, and the type that it stands behind, where there is one.
 type TypedPath = (Option<Ty>, Path);
@@ -37,24 +38,43 @@ pub fn is_mod_path(path: &ExprPath) -> bool
     path.self_type.is_none() && no_segment_args(path.path.segments.as_slice())
 }
 
-/// A segment, which has its arguments behind `::` (Rust Reference, Paths in expressions).
-#[tactic(auto, unfolding(educe_grammar::proofs::Opened::rules, educe_grammar::specs::Expressions::expr_segment))]
-fn expr_segment<R: Inside>(
+/// The arguments of a segment, which stand behind `::` (Rust Reference, Paths in expressions).
+#[tactic(auto, unfolding(educe_grammar::proofs::Opened::rules))]
+fn turbofish<R: Inside>(
     parts: &Parts<R>,
     cursor: &mut Cursor<'_>,
     budget: u8,
-) -> Result<Segment, ParseError>
+) -> Result<Option<AngleArgs>, ParseError>
     requires { R.nests parts.now.inside budget }
-    ensures { Gives (read budget spec.expr_segment cursor.old) result cursor.new }
+    ensures { Gives (read budget (optional spec.at_turbofish (skipping colons angle_args)) cursor.old) result cursor.new }
 {
-    let ident = segment_name(parts.alloc, cursor)?;
     if !at_turbofish(cursor) {
-        let args = Args::None;
-        return Ok(Segment { ident, args });
+        return Ok(None);
     }
     cursor.skip_pair(':', ':')?;
-    let args = Args::Angle(angle_args(parts, cursor, budget)?);
-    Ok(Segment { ident, args })
+    Ok(Some(angle_args(parts, cursor, budget)?))
+}
+
+/// A segment, with its arguments (Rust Reference, Paths in expressions).
+struct ExprSegment;
+
+impl<R: Inside> Production<Parts<R>> for ExprSegment {
+    type Tree = Segment;
+
+    ghost ready = { λ parts budget. R.nests parts.inside budget };
+
+    ghost reads = { λ budget. read budget spec.expr_segment };
+
+    #[tactic(auto, unfolding(educe_grammar::proofs::Opened::rules, educe_grammar::specs::Expressions::expr_segment))]
+    fn parse(parts: &Parts<R>, cursor: &mut Cursor<'_>, budget: u8) -> Result<Segment, ParseError> {
+        let ident = segment_name(parts.alloc, cursor)?;
+        let (ident, found) = pair(ident, turbofish(parts, cursor, budget))?;
+        let args = match found {
+            None => Args::None,
+            Some(found) => Args::Angle(found),
+        };
+        Ok(Segment { ident, args })
+    }
 }
 
 /// The segments of a path (Rust Reference, Paths in expressions).
@@ -67,11 +87,7 @@ fn expr_segments<R: Inside>(
     requires { R.nests parts.now.inside budget }
     ensures { Gives (read budget (rule.path spec.expr_segment) cursor.old) result cursor.new }
 {
-    path(
-        parts.alloc,
-        cursor,
-        |cursor| expr_segment(parts, cursor, budget),
-    )
+    path::<Parts<R>, ExprSegment>(parts, cursor, budget)
 }
 
 /// A path behind its type, as in `<T as A>::b` (Rust Reference, Qualified paths).
@@ -110,19 +126,26 @@ fn local_expr_path<R: Inside>(
 }
 
 /// A path with or without its type (Rust Reference, Path expressions).
-#[tactic(auto, unfolding(educe_grammar::proofs::Opened::rules, educe_grammar::specs::Expressions::any_expr_path))]
-fn any_expr_path<R: Inside>(
-    parts: &Parts<R>,
-    cursor: &mut Cursor<'_>,
-    budget: u8,
-) -> Result<TypedPath, ParseError>
-    requires { R.nests parts.now.inside budget }
-    ensures { Gives (read budget spec.any_expr_path cursor.old) result cursor.new }
-{
-    if cursor.begins_lone('<', '=') {
-        return qualified_expr_path(parts, cursor, budget);
+struct AnyExprPath;
+
+impl<R: Inside> Production<Parts<R>> for AnyExprPath {
+    type Tree = TypedPath;
+
+    ghost ready = { λ parts budget. R.nests parts.inside budget };
+
+    ghost reads = { λ budget. read budget spec.any_expr_path };
+
+    #[tactic(auto, unfolding(educe_grammar::proofs::Opened::rules, educe_grammar::specs::Expressions::any_expr_path))]
+    fn parse(
+        parts: &Parts<R>,
+        cursor: &mut Cursor<'_>,
+        budget: u8,
+    ) -> Result<TypedPath, ParseError> {
+        if cursor.begins_lone('<', '=') {
+            return qualified_expr_path(parts, cursor, budget);
+        }
+        local_expr_path(parts, cursor, budget)
     }
-    local_expr_path(parts, cursor, budget)
 }
 
 /// A path in an expression, with its tokens (Rust Reference, Path expressions).
@@ -135,11 +158,10 @@ pub fn expr_path<R: Inside>(
     requires { R.nests parts.now.inside budget }
     ensures { Gives (read budget spec.expr_path cursor.old) result cursor.new }
 {
-    let (found, tokens) = written(cursor, |cursor| any_expr_path(parts, cursor, budget))?;
-    let (self_type, path) = found;
+    let ((self_type, path), written) = written::<Parts<R>, AnyExprPath>(parts, cursor, budget)?;
     Ok(ExprPath {
         self_type,
         path,
-        written: tokens,
+        written,
     })
 }

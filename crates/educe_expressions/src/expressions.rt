@@ -4,54 +4,61 @@ ghost use Rattle.educe_grammar.specs.Reads.{read};
 ghost use Rattle.educe_grammar.specs.Steps.{Gives};
 
 use crate::links::{linked_form, links_fit};
-use crate::looks::at_link;
+use crate::lookahead::AtLink;
 use crate::operands::unary;
-use educe_grammar::{Cursor, Inside, Keyword, Link, ParseError, Parts, Terminal, chain, written};
+use educe_grammar::{
+    Cursor, Inside, Keyword, Link, ParseError, Parts, Production, Terminal, chain, written,
+};
 use educe_tree::{Expr, ExprForm};
 use educe_types::plain_type;
 
 /// `as` and a type, or an operator and its second operand (Rust Reference, Type cast
 /// expressions; Arithmetic and logical binary operators).
-#[tactic(auto, unfolding(educe_grammar::proofs::Opened::rules, educe_grammar::specs::Expressions::link))]
-fn link<R: Inside>(
-    parts: &Parts<R>,
-    cursor: &mut Cursor<'_>,
-    budget: u8,
-) -> Result<Link, ParseError>
-    requires { R.nests parts.now.inside budget }
-    ensures { Gives (read budget spec.link cursor.old) result cursor.new }
-{
-    if cursor.eat(Terminal::Word(Keyword::As)) {
-        let (ty, ending) = plain_type(parts, cursor, budget)?;
-        drop(ty);
-        return Ok(Link::Cast(ending));
+struct OperatorLink;
+
+impl<R: Inside> Production<Parts<R>> for OperatorLink {
+    type Tree = Link;
+
+    ghost ready = { λ parts budget. R.nests parts.inside budget };
+
+    ghost reads = { λ budget. read budget spec.link };
+
+    #[tactic(auto, unfolding(educe_grammar::proofs::Opened::rules, educe_grammar::specs::Expressions::link))]
+    fn parse(parts: &Parts<R>, cursor: &mut Cursor<'_>, budget: u8) -> Result<Link, ParseError> {
+        if cursor.eat(Terminal::Word(Keyword::As)) {
+            let (ty, ending) = plain_type(parts, cursor, budget)?;
+            drop(ty);
+            return Ok(Link::Cast(ending));
+        }
+        let operator = cursor.operator()?;
+        unary(parts, cursor, budget)?;
+        Ok(Link::Binary(operator))
     }
-    let operator = cursor.operator()?;
-    unary(parts, cursor, budget)?;
-    Ok(Link::Binary(operator))
 }
 
 /// Operands with links between (Rust Reference, Operator expressions).
-#[tactic(auto, unfolding(educe_grammar::proofs::Opened::rules, educe_grammar::specs::Expressions::operation))]
-fn operation<R: Inside>(
-    parts: &Parts<R>,
-    cursor: &mut Cursor<'_>,
-    budget: u8,
-) -> Result<ExprForm, ParseError>
-    requires { R.nests parts.now.inside budget }
-    ensures { Gives (read budget spec.operation cursor.old) result cursor.new }
-{
-    let operand = unary(parts, cursor, budget)?;
-    let links = chain(
-        parts.alloc,
-        cursor,
-        at_link,
-        |cursor| link(parts, cursor, budget),
-    )?;
-    if !links_fit(links.as_slice()) {
-        return Err(cursor.refuse());
+struct Operation;
+
+impl<R: Inside> Production<Parts<R>> for Operation {
+    type Tree = ExprForm;
+
+    ghost ready = { λ parts budget. R.nests parts.inside budget };
+
+    ghost reads = { λ budget. read budget spec.operation };
+
+    #[tactic(auto, unfolding(educe_grammar::proofs::Opened::rules, educe_grammar::specs::Expressions::operation))]
+    fn parse(
+        parts: &Parts<R>,
+        cursor: &mut Cursor<'_>,
+        budget: u8,
+    ) -> Result<ExprForm, ParseError> {
+        let operand = unary(parts, cursor, budget)?;
+        let links = chain::<Parts<R>, OperatorLink, AtLink>(parts, cursor, budget)?;
+        if !links_fit(links.as_slice()) {
+            return Err(cursor.refuse());
+        }
+        Ok(linked_form(operand, links.as_slice()))
     }
-    Ok(linked_form(operand, links.as_slice()))
 }
 
 /// An expression, with its tokens (Rust Reference, Expressions).
@@ -64,9 +71,6 @@ pub fn expression<R: Inside>(
     requires { R.nests parts.now.inside budget }
     ensures { Gives (read budget spec.expression cursor.old) result cursor.new }
 {
-    let (form, tokens) = written(cursor, |cursor| operation(parts, cursor, budget))?;
-    Ok(Expr {
-        form,
-        written: tokens,
-    })
+    let (form, written) = written::<Parts<R>, Operation>(parts, cursor, budget)?;
+    Ok(Expr { form, written })
 }

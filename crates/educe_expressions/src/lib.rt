@@ -5,7 +5,7 @@
 mod expr_paths;
 mod expressions;
 mod links;
-mod looks;
+mod lookahead;
 mod operands;
 mod tails;
 

@@ -1,5 +1,5 @@
 //! The operands of an expression (Rust Reference, Expressions).
-ghost use Rattle.std.specs.Prelude.{◌≡◌, ℕ};
+ghost use Rattle.std.specs.Prelude.{◌≡◌, ⊤};
 ghost use Rattle.educe_grammar.specs.Ahead.{is_sign};
 ghost use Rattle.educe_grammar.specs.Combining.{in_round, unit};
 ghost use Rattle.educe_grammar.specs.Expressions as spec;
@@ -8,12 +8,16 @@ ghost use Rattle.educe_grammar.specs.Rules.{exprs, part};
 ghost use Rattle.educe_grammar.specs.Steps.{Gives};
 
 use crate::expr_paths::expr_path;
-use crate::looks::{at_postfix, at_prefix};
+use crate::lookahead::{AtPostfix, AtPrefix};
 use crate::tails::{fits_tail, path_tail, tail_form};
-use educe_grammar::{Cursor, Inside, Keyword, ParseError, Parts, Terminal, chain, list};
+use educe_grammar::{
+    Cursor, ExprInside, Inside, Keyword, ParseError, Parts, Production, Terminal, chain, in_round,
+    nested,
+};
 use educe_paths::angle_args;
 use educe_tokens::{Bracket, Token, TokenKind, pair, unit};
 use educe_tree::ExprForm;
+use std::alloc::Global;
 
 /// Whether the token is `-`.
 fn is_minus(token: &Token) -> bool
@@ -27,16 +31,24 @@ fn is_minus(token: &Token) -> bool
 
 /// A prefix, and whether it is `-` (Rust Reference, Borrow operators; Negation operators; The
 /// dereference operator).
-#[tactic(auto, unfolding(educe_grammar::proofs::Opened::rules, educe_grammar::specs::Expressions::prefix))]
-fn prefix(cursor: &mut Cursor<'_>) -> Result<bool, ParseError>
-    ensures { (budget : ℕ) → Gives (read budget spec.prefix cursor.old) result cursor.new }
-{
-    if cursor.eat(Terminal::Sign('&')) {
-        cursor.eat(Terminal::Word(Keyword::Mut));
-        return Ok(false);
+struct Prefix;
+
+impl Production<Global> for Prefix {
+    type Tree = bool;
+
+    ghost ready = { λ _ _. ⊤ };
+
+    ghost reads = { λ budget. read budget spec.prefix };
+
+    #[tactic(auto, unfolding(educe_grammar::proofs::Opened::rules, educe_grammar::specs::Expressions::prefix))]
+    fn parse(_alloc: &Global, cursor: &mut Cursor<'_>, _budget: u8) -> Result<bool, ParseError> {
+        if cursor.eat(Terminal::Sign('&')) {
+            cursor.eat(Terminal::Word(Keyword::Mut));
+            return Ok(false);
+        }
+        let token = cursor.expect(Terminal::PrefixSign)?;
+        Ok(is_minus(token))
     }
-    let token = cursor.expect(Terminal::PrefixSign)?;
-    Ok(is_minus(token))
 }
 
 /// The form of an operand behind one prefix.
@@ -49,7 +61,7 @@ fn negated_form(minus: bool, operand: ExprForm) -> ExprForm
     }
 }
 
-/// The form of an operand with its prefixes and with what goes on it.
+/// The form of an operand with its prefixes and postfixes.
 fn unary_form(prefixes: &[bool], operand: ExprForm, postfixes: &[()]) -> ExprForm
     ensures { result ≡ spec.unary_form prefixes.now operand postfixes.now }
 {
@@ -70,15 +82,7 @@ fn round_exprs<R: Inside>(
     requires { R.nests parts.now.inside budget }
     ensures { Gives (read budget (unit (in_round (part exprs))) cursor.old) result cursor.new }
 {
-    let below = cursor.open(budget, Bracket::Round)?;
-    list(
-        parts.alloc,
-        cursor,
-        Terminal::Sign(','),
-        |cursor| cursor.closes(Bracket::Round),
-        |cursor| parts.expr(cursor, below),
-    )?;
-    unit(cursor.expect_close(Bracket::Round))
+    unit(in_round::<Parts<R>, ExprInside>(parts, cursor, budget))
 }
 
 /// A field or a method behind `.` (Rust Reference, Field access expressions; Method-call
@@ -101,30 +105,31 @@ fn member<R: Inside>(
     unit(angle_args(parts, cursor, budget))
 }
 
-/// What goes on an operand (Rust Reference, Call expressions; Array and slice indexing
+/// A postfix of an operand (Rust Reference, Call expressions; Array and slice indexing
 /// expressions; Field access expressions).
-#[tactic(auto, unfolding(educe_grammar::proofs::Opened::rules, educe_grammar::specs::Expressions::postfix))]
-fn postfix<R: Inside>(
-    parts: &Parts<R>,
-    cursor: &mut Cursor<'_>,
-    budget: u8,
-) -> Result<(), ParseError>
-    requires { R.nests parts.now.inside budget }
-    ensures { Gives (read budget spec.postfix cursor.old) result cursor.new }
-{
-    if cursor.opens(Bracket::Round) {
-        return round_exprs(parts, cursor, budget);
+struct Postfix;
+
+impl<R: Inside> Production<Parts<R>> for Postfix {
+    type Tree = ();
+
+    ghost ready = { λ parts budget. R.nests parts.inside budget };
+
+    ghost reads = { λ budget. read budget spec.postfix };
+
+    #[tactic(auto, unfolding(educe_grammar::proofs::Opened::rules, educe_grammar::specs::Expressions::postfix))]
+    fn parse(parts: &Parts<R>, cursor: &mut Cursor<'_>, budget: u8) -> Result<(), ParseError> {
+        if cursor.opens(Bracket::Round) {
+            return round_exprs(parts, cursor, budget);
+        }
+        if cursor.opens(Bracket::Square) {
+            return unit(nested::<Parts<R>, ExprInside>(parts, cursor, budget, Bracket::Square));
+        }
+        cursor.skip_lone('.', '.')?;
+        member(parts, cursor, budget)
     }
-    if cursor.opens(Bracket::Square) {
-        let below = cursor.open(budget, Bracket::Square)?;
-        unit(parts.expr(cursor, below))?;
-        return unit(cursor.expect_close(Bracket::Square));
-    }
-    cursor.skip_lone('.', '.')?;
-    member(parts, cursor, budget)
 }
 
-/// An operand with nothing before and behind it (Rust Reference, Literal expressions; Path
+/// An operand with no prefix and no postfix (Rust Reference, Literal expressions; Path
 /// expressions; Grouped expressions; Tuple expressions).
 #[tactic(auto, unfolding(educe_grammar::proofs::Opened::rules, educe_grammar::specs::Expressions::primary))]
 fn primary<R: Inside>(
@@ -155,8 +160,7 @@ fn primary<R: Inside>(
     Ok(tail_form(tail))
 }
 
-/// An operand with its prefixes, and with what goes on it (Rust Reference, Operator
-/// expressions).
+/// An operand with its prefixes and postfixes (Rust Reference, Operator expressions).
 #[tactic(auto, unfolding(educe_grammar::proofs::Opened::rules, educe_grammar::specs::Expressions::unary))]
 pub fn unary<R: Inside>(
     parts: &Parts<R>,
@@ -166,13 +170,8 @@ pub fn unary<R: Inside>(
     requires { R.nests parts.now.inside budget }
     ensures { Gives (read budget spec.unary cursor.old) result cursor.new }
 {
-    let prefixes = chain(parts.alloc, cursor, at_prefix, prefix)?;
+    let prefixes = chain::<Global, Prefix, AtPrefix>(&parts.alloc, cursor, budget)?;
     let operand = primary(parts, cursor, budget)?;
-    let postfixes = chain(
-        parts.alloc,
-        cursor,
-        at_postfix,
-        |cursor| postfix(parts, cursor, budget),
-    )?;
+    let postfixes = chain::<Parts<R>, Postfix, AtPostfix>(parts, cursor, budget)?;
     Ok(unary_form(prefixes.as_slice(), operand, postfixes.as_slice()))
 }

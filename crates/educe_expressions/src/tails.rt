@@ -6,8 +6,8 @@ ghost use Rattle.educe_grammar.specs.Reads.{read};
 ghost use Rattle.educe_grammar.specs.Steps.{Gives};
 
 use crate::expr_paths::is_mod_path;
-use crate::looks::{at_value, behind_fields};
-use educe_grammar::{Cursor, Inside, ParseError, Parts, Tail, Terminal, list};
+use crate::lookahead::{BehindFields, at_value};
+use educe_grammar::{Cursor, Inside, ParseError, Parts, Production, Tail, Terminal, list, nested};
 use educe_paths::group;
 use educe_tokens::{Bracket, TokenSlice, unit};
 use educe_tree::{ExprForm, ExprPath};
@@ -65,40 +65,46 @@ fn macro_group(alloc: Global, cursor: &mut Cursor<'_>, budget: u8) -> Result<(),
 }
 
 /// The value of a field, or its name alone (Rust Reference, Field struct expression).
-#[tactic(auto, unfolding(educe_grammar::proofs::Opened::rules, educe_grammar::specs::Expressions::init))]
-fn init<R: Inside>(parts: &Parts<R>, cursor: &mut Cursor<'_>, budget: u8) -> Result<(), ParseError>
-    requires { R.nests parts.now.inside (budget + 1) }
-    ensures { Gives (read budget spec.init cursor.old) result cursor.new }
-{
-    if !at_value(cursor) {
-        cursor.expect(Terminal::Name)?;
-        return Ok(());
+struct FieldInit;
+
+impl<R: Inside> Production<Parts<R>> for FieldInit {
+    type Tree = ();
+
+    ghost ready = { λ parts budget. R.nests parts.inside (budget + 1) };
+
+    ghost reads = { λ budget. read budget spec.init };
+
+    #[tactic(auto, unfolding(educe_grammar::proofs::Opened::rules, educe_grammar::specs::Expressions::init))]
+    fn parse(parts: &Parts<R>, cursor: &mut Cursor<'_>, budget: u8) -> Result<(), ParseError> {
+        if !at_value(cursor) {
+            return unit(cursor.expect(Terminal::Name));
+        }
+        cursor.expect(Terminal::NameOrIndex)?;
+        cursor.skip_lone(':', ':')?;
+        unit(parts.expr(cursor, budget))
     }
-    cursor.expect(Terminal::NameOrIndex)?;
-    cursor.skip_lone(':', ':')?;
-    parts.expr(cursor, budget)?;
-    Ok(())
 }
 
 /// The fields of a struct, and what the others are taken from (Rust Reference, Functional update
 /// syntax).
-#[tactic(auto, unfolding(educe_grammar::proofs::Opened::rules, educe_grammar::specs::Expressions::inits))]
-fn inits<R: Inside>(parts: &Parts<R>, cursor: &mut Cursor<'_>, budget: u8) -> Result<(), ParseError>
-    requires { R.nests parts.now.inside (budget + 1) }
-    ensures { Gives (read budget spec.inits cursor.old) result cursor.new }
-{
-    let comma = Terminal::Sign(',');
-    list(
-        parts.alloc,
-        cursor,
-        comma,
-        behind_fields,
-        |cursor| init(parts, cursor, budget),
-    )?;
-    if !cursor.eat_pair('.', '.') {
-        return Ok(());
+struct FieldInits;
+
+impl<R: Inside> Production<Parts<R>> for FieldInits {
+    type Tree = ();
+
+    ghost ready = { λ parts budget. R.nests parts.inside (budget + 1) };
+
+    ghost reads = { λ budget. read budget spec.inits };
+
+    #[tactic(auto, unfolding(educe_grammar::proofs::Opened::rules, educe_grammar::specs::Expressions::inits))]
+    fn parse(parts: &Parts<R>, cursor: &mut Cursor<'_>, budget: u8) -> Result<(), ParseError> {
+        let comma = Terminal::Sign(',');
+        unit(list::<Parts<R>, FieldInit, BehindFields>(parts, cursor, budget, comma))?;
+        if !cursor.eat_pair('.', '.') {
+            return Ok(());
+        }
+        unit(parts.expr(cursor, budget))
     }
-    unit(parts.expr(cursor, budget))
 }
 
 /// Nothing, the fields of a struct, or the call of a macro (Rust Reference, Struct expressions;
@@ -113,15 +119,12 @@ pub fn path_tail<R: Inside>(
     ensures { Gives (read budget spec.path_tail cursor.old) result cursor.new }
 {
     if cursor.opens(Bracket::Curly) {
-        let below = cursor.open(budget, Bracket::Curly)?;
-        inits(parts, cursor, below)?;
-        cursor.expect_close(Bracket::Curly)?;
+        nested::<Parts<R>, FieldInits>(parts, cursor, budget, Bracket::Curly)?;
         return Ok(Tail::Fields);
     }
-    if !cursor.begins_lone('!', '=') {
+    if !cursor.eat_lone('!', '=') {
         return Ok(Tail::Nothing);
     }
-    cursor.skip_lone('!', '=')?;
     macro_group(parts.alloc, cursor, budget)?;
     Ok(Tail::Call)
 }

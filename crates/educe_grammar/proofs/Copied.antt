@@ -1,10 +1,6 @@
 -- What these rules read may be copied, since none of it is documentation.
-use Rattle.std.proofs.Common.{◌≡◌, ℕ, refl, Result, Ok, IsTrue}
-use denote.Ref.{MutBor}
-use Rattle.educe_grammar.specs.declared.parse_error.ParseError.{ParseError}
-use Rattle.educe_grammar.specs.Running.{ReadsCopied}
-use Rattle.educe_tokens.specs.Copied.{may_be_copied}
-use Rattle.educe_tokens.specs.Lexes.{lexemes}
+use Rattle.std.proofs.Common.{ℕ, refl}
+use Rattle.educe_grammar.specs.Running.{IsCopied}
 use Rattle.educe_grammar.specs.Expressions.{any_expr_path, operation}
 use Rattle.educe_grammar.specs.Reads.{read}
 use Rattle.educe_grammar.specs.declared.terminal.Terminal.TheVariants as terminal
@@ -13,7 +9,6 @@ use Rattle.educe_grammar.specs.Expressions.{group}
 use Rattle.educe_grammar.specs.Generics.{bounded_lifetime, bounded_name, typed_const, any_predicate}
 use Rattle.educe_grammar.specs.Attributes.{unread_value}
 use Rattle.educe_grammar.specs.Rules.{Rule}
-use Rattle.educe_grammar.specs.Steps.{Tokens, ReadsAs, since}
 use Rattle.educe_grammar.specs.Types.{constant, one_bound_form, any_bounds_form}
 use Rattle.educe_grammar.proofs.Balanced.{copied_since}
 use Rattle.educe_grammar.proofs.Keeping.{has_no_documentation}
@@ -21,11 +16,7 @@ use Rattle.educe_grammar.proofs.Productions.{productions}
 
 -- what the rule reads may be copied
 abbrev pub MayBeCopied : {A : Type 0} → Rule A → Type 0
-MayBeCopied {A} g = (budget : ℕ) (ts rest : Tokens) (x : A) → read budget g ts ≡ Ok (x, rest) → IsTrue (may_be_copied (lexemes (since ts rest)))
-
--- so what a function value reads by the rule
-pub copied_by : {A : Type 0} {post : MutBor Tokens → Result A ParseError → MutBor Tokens → Type 0} (budget : ℕ) (g : Rule A) → MayBeCopied g → ReadsAs (read budget g) post → ReadsCopied post
-copied_by budget g copied reads = record { copied = λ old new x p. copied budget old.now new.now x (reads.reads old new (Ok x) p) }
+MayBeCopied g = (budget : ℕ) → IsCopied (read budget g)
 
 -- of `constant`
 pub constant_copied : MayBeCopied constant

@@ -3,6 +3,7 @@ pub mod Steps
 pub mod Ahead
 pub mod Operators
 pub mod Rules
+pub mod Bracketed
 pub mod Combining
 pub mod Names
 pub mod Types

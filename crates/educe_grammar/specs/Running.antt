@@ -62,9 +62,9 @@ written_if x tokens rest false stands = Err (Syntax (length rest))
 abbrev pub written_by : {A : Type 0} → Parser A → Parser (A × Written)
 written_by read ts = and_then (read ts) (λ x rest. written_if x (since ts rest) rest (may_be_copied (lexemes (since ts rest))) refl)
 
--- A function value after which what was read may be copied.
-pub record ReadsCopied {A : Type 0} (post : MutBor Tokens → Result A ParseError → MutBor Tokens → Type 0) : Type 0 where
-  pub copied : (old new : MutBor Tokens) (x : A) → post old (Ok x) new → IsTrue (may_be_copied (lexemes (since old.now new.now)))
+-- what the program reads may be copied
+abbrev pub IsCopied : {A : Type 0} → Parser A → Type 0
+IsCopied {A} read = (ts rest : Tokens) (x : A) → read ts ≡ Ok (x, rest) → IsTrue (may_be_copied (lexemes (since ts rest)))
 
 -- With a budget, where these programs read the parts: what stands at the front of a list.
 unfoldable pub run : Readers → ℕ → {A : Type 0} → Rule A → Parser A

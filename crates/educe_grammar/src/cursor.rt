@@ -1,5 +1,5 @@
 //! A cursor over a list of tokens, which contracts see as the tokens that are left.
-ghost use Rattle.std.specs.Prelude.{◌≡◌, ◌+◌, ◌-◌, ◌^◌, ◌<◌, Bool, length, drop, if◌then◌else◌, IfOk};
+ghost use Rattle.std.specs.Prelude.{◌≡◌, ◌+◌, ◌-◌, ◌^◌, ◌<◌, Bool, length, drop, if◌then◌else◌, IfOk, OnErr};
 ghost use Rattle.educe_tokens.specs.declared.token.Token.{Token};
 ghost use Rattle.educe_tokens.specs.Brackets as brackets;
 ghost use Rattle.educe_grammar.specs.Ahead as ahead;
@@ -233,7 +233,8 @@ impl<'a> Cursor<'a> {
     /// Takes the next token, where it was seen to be what is asked for.
     #[tactic(auto, unfolding(crate::specs::Ahead::sees, crate::specs::Steps::expect))]
     fn take_if(&mut self, seen: bool) -> Result<&'a Token, ParseError>
-        ensures { (test : Token → Bool) → seen ≡ ahead.sees test self.old → Lends (spec.expect test self.old) result self.new }
+        ensures taken { (test : Token → Bool) → seen ≡ ahead.sees test self.old → Lends (spec.expect test self.old) result self.new }
+        ensures stays { OnErr result (self.new ≡ self.old) }
     {
         match self.rest {
             [first, ..] if seen => {
@@ -246,35 +247,40 @@ impl<'a> Cursor<'a> {
 
     /// Takes such a token, and refuses any other.
     pub fn expect(&mut self, asked: Terminal) -> Result<&'a Token, ParseError>
-        ensures { Lends (spec.expect (accepts asked) self.old) result self.new }
+        ensures taken { Lends (spec.expect (accepts asked) self.old) result self.new }
+        ensures stays { OnErr result (self.new ≡ self.old) }
     {
         self.take_if(self.sees(asked))
     }
 
     /// Takes such an opening bracket, and refuses any other token.
     pub fn expect_open(&mut self, bracket: Bracket) -> Result<&'a Token, ParseError>
-        ensures { Lends (spec.expect (ahead.opens bracket) self.old) result self.new }
+        ensures taken { Lends (spec.expect (ahead.opens bracket) self.old) result self.new }
+        ensures stays { OnErr result (self.new ≡ self.old) }
     {
         self.take_if(self.opens(bracket))
     }
 
     /// Takes such a closing bracket, and refuses any other token.
     pub fn expect_close(&mut self, bracket: Bracket) -> Result<&'a Token, ParseError>
-        ensures { Lends (spec.expect (ahead.closes bracket) self.old) result self.new }
+        ensures taken { Lends (spec.expect (ahead.closes bracket) self.old) result self.new }
+        ensures stays { OnErr result (self.new ≡ self.old) }
     {
         self.take_if(self.closes(bracket))
     }
 
     /// Takes a comment of documentation, and refuses any other token.
     pub fn expect_doc(&mut self) -> Result<&'a Token, ParseError>
-        ensures { Lends (spec.expect ahead.documents self.old) result self.new }
+        ensures taken { Lends (spec.expect ahead.documents self.old) result self.new }
+        ensures stays { OnErr result (self.new ≡ self.old) }
     {
         self.take_if(self.documents())
     }
 
     /// Takes the operator of these two puncts, and refuses any other token.
     pub fn skip_pair(&mut self, c: char, d: char) -> Result<(), ParseError>
-        ensures { Passes (skip_if (ahead.begins_pair c d self.old) 2 self.old) result self.new }
+        ensures taken { Passes (skip_if (ahead.begins_pair c d self.old) 2 self.old) result self.new }
+        ensures stays { OnErr result (self.new ≡ self.old) }
     {
         if !self.begins_pair(c, d) {
             return Err(self.refuse());
@@ -286,7 +292,8 @@ impl<'a> Cursor<'a> {
     /// Takes the punct `c`, where it is not the first half of the operator of both, and refuses any
     /// other token.
     pub fn skip_lone(&mut self, c: char, d: char) -> Result<(), ParseError>
-        ensures { Passes (skip_if (ahead.begins_lone c d self.old) 1 self.old) result self.new }
+        ensures taken { Passes (skip_if (ahead.begins_lone c d self.old) 1 self.old) result self.new }
+        ensures stays { OnErr result (self.new ≡ self.old) }
     {
         if !self.begins_lone(c, d) {
             return Err(self.refuse());
@@ -320,10 +327,23 @@ impl<'a> Cursor<'a> {
         seen
     }
 
+    /// Takes the punct `c`, if it comes next and is not the first half of the operator of both.
+    pub fn eat_lone(&mut self, c: char, d: char) -> bool
+        ensures seen { result ≡ ahead.begins_lone c d self.old }
+        ensures rest { self.new ≡ (if result then drop 1 self.old else self.old) }
+    {
+        let seen = self.begins_lone(c, d);
+        if seen {
+            self.skip(1);
+        }
+        seen
+    }
+
     /// Takes the longest operator with two operands that comes next (Rust Reference, Operator
     /// expressions).
     pub fn operator(&mut self) -> Result<Operator, ParseError>
-        ensures { Operates (operator_at self.old) result self.old self.new }
+        ensures taken { Operates (operator_at self.old) result self.old self.new }
+        ensures stays { OnErr result (self.new ≡ self.old) }
     {
         match operator_at(self.rest) {
             Some((operator, count)) => {

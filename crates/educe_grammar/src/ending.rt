@@ -3,11 +3,11 @@
 /// How a type ends (Rust Reference, Paths).
 #[derive(Clone, Copy)]
 pub enum Ending {
-    /// With no path: nothing goes on it.
+    /// With no path: nothing continues it.
     Closed,
-    /// With the arguments of a path: `::` goes on it.
+    /// With the arguments of a path: `::` continues it.
     Arguments,
-    /// With a name: `::`, `<` and `(` go on it. The arguments of a lone `Self` count as a name,
+    /// With a name: `::`, `<` and `(` continue it. The arguments of a lone `Self` count as a name,
     /// since they fall away where another type takes its place.
     Name,
 }

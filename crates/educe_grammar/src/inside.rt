@@ -7,6 +7,7 @@ ghost use Rattle.educe_grammar.specs.Steps.{Gives};
 use crate::cursor::Cursor;
 use crate::ending::Ending;
 use crate::parse_error::ParseError;
+use crate::production::Production;
 use educe_tree::{Expr, Ty};
 use std::alloc::Global;
 
@@ -67,5 +68,35 @@ impl<R: Inside> Parts<R> {
         ensures { Gives (readers budget exprs cursor.old) result cursor.new }
     {
         self.inside.expr(self.alloc, cursor, budget)
+    }
+}
+
+/// A type inside, as an item of lists.
+pub struct TypeInside;
+
+impl<R: Inside> Production<Parts<R>> for TypeInside {
+    type Tree = Ty;
+
+    ghost ready = { λ parts budget. R.nests parts.inside (budget + 1) };
+
+    ghost reads = { λ budget. readers budget types };
+
+    fn parse(parts: &Parts<R>, cursor: &mut Cursor<'_>, budget: u8) -> Result<Ty, ParseError> {
+        parts.ty(cursor, budget)
+    }
+}
+
+/// An expression inside, as an item of lists.
+pub struct ExprInside;
+
+impl<R: Inside> Production<Parts<R>> for ExprInside {
+    type Tree = Expr;
+
+    ghost ready = { λ parts budget. R.nests parts.inside (budget + 1) };
+
+    ghost reads = { λ budget. readers budget exprs };
+
+    fn parse(parts: &Parts<R>, cursor: &mut Cursor<'_>, budget: u8) -> Result<Expr, ParseError> {
+        parts.expr(cursor, budget)
     }
 }

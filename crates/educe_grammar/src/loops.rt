@@ -1,6 +1,7 @@
-//! The loops that rules are made of, over an item that a function value reads.
-ghost use Rattle.std.specs.Prelude.{suc, [], length};
+//! The loops that rules are made of.
+ghost use Rattle.std.specs.Prelude.{◌≡◌, suc, [], length};
 ghost use Rattle.educe_grammar.specs.Ahead.{Look, Decides};
+ghost use Rattle.educe_grammar.specs.Parsed.{depth_limit};
 ghost use Rattle.educe_grammar.specs.Reading.{chain_limit};
 ghost use Rattle.educe_grammar.specs.Running.{items, repeat, links, segments};
 ghost use Rattle.educe_grammar.specs.Steps.{Parser, Gives, ReadsAs};
@@ -8,6 +9,7 @@ ghost use Rattle.educe_grammar.specs.Terminals.{accepts};
 
 use crate::cursor::Cursor;
 use crate::parse_error::ParseError;
+use crate::production::{Context, Lookahead, Production};
 use crate::terminal::Terminal;
 use educe_tokens::Seq;
 use std::alloc::Global;
@@ -15,25 +17,28 @@ use std::alloc::Global;
 /// How many links a chain has at most.
 const CHAIN_LIMIT: u8 = 128;
 
-/// Items with separators between, and maybe one behind the last, up to where the tokens begin so.
-pub fn list<T: Drop, S: Fn(&Cursor<'_>) -> bool, F: Fn(&mut Cursor<'_>) -> Result<T, ParseError>>(
-    alloc: Global,
+/// The limits as numbers: how many brackets and the like nest, and how many links a chain has.
+pub fn limits()
+    ensures nesting { depth_limit ≡ 128 }
+    ensures chain { chain_limit ≡ 128 }
+{}
+
+/// Items with separators between and maybe a trailing one, up to where the tokens begin so.
+pub fn list<C: Context, P: Production<C>, S: Lookahead>(
+    context: &C,
     cursor: &mut Cursor<'_>,
+    budget: u8,
     separator: Terminal,
-    stops: S,
-    item: F,
-) -> Result<Seq<T>, ParseError>
-    requires stops { S.IsAlwaysCallable stops }
-    requires item { F.IsAlwaysCallable item }
-    ensures { (stop : Look) (read : Parser T) → Decides stop (S.post stops) → ReadsAs read (F.post item)
-        → Gives (items (accepts separator) stop read (suc (length cursor.old)) [] cursor.old) result cursor.new }
+) -> Result<Seq<P::Tree>, ParseError>
+    requires { P.ready context.now budget }
+    ensures { Gives (items (accepts separator) S.look (P.reads budget) (suc (length cursor.old)) [] cursor.old) result cursor.new }
 {
-    let mut found = Seq::new(alloc);
+    let mut found = Seq::new(context.alloc());
     for _turn in 0..cursor.left() + 1 {
-        if stops(cursor) {
+        if S::is_next(cursor) {
             return Ok(found);
         }
-        found.push(item(cursor)?)?;
+        found.push(P::parse(context, cursor, budget)?)?;
         if !cursor.eat(separator) {
             return Ok(found);
         }
@@ -63,43 +68,40 @@ pub fn many<T: Drop, S: Fn(&Cursor<'_>) -> bool, F: Fn(&mut Cursor<'_>) -> Resul
     Err(cursor.refuse())
 }
 
-/// The same, where more than 128 items are too deep.
-pub fn chain<T: Drop, S: Fn(&Cursor<'_>) -> bool, F: Fn(&mut Cursor<'_>) -> Result<T, ParseError>>(
-    alloc: Global,
+/// Items one behind the other, as long as the tokens begin so, where more than 128 are too deep.
+pub fn chain<C: Context, P: Production<C>, S: Lookahead>(
+    context: &C,
     cursor: &mut Cursor<'_>,
-    begins: S,
-    item: F,
-) -> Result<Seq<T>, ParseError>
-    requires begins { S.IsAlwaysCallable begins }
-    requires item { F.IsAlwaysCallable item }
-    ensures { (look : Look) (read : Parser T) → Decides look (S.post begins) → ReadsAs read (F.post item)
-        → Gives (links look read chain_limit [] cursor.old) result cursor.new }
+    budget: u8,
+) -> Result<Seq<P::Tree>, ParseError>
+    requires { P.ready context.now budget }
+    ensures { Gives (links S.look (P.reads budget) chain_limit [] cursor.old) result cursor.new }
 {
-    let mut found = Seq::new(alloc);
+    let mut found = Seq::new(context.alloc());
     for _link in 0..CHAIN_LIMIT {
-        if !begins(cursor) {
+        if !S::is_next(cursor) {
             return Ok(found);
         }
-        found.push(item(cursor)?)?;
+        found.push(P::parse(context, cursor, budget)?)?;
     }
-    if begins(cursor) {
+    if S::is_next(cursor) {
         return Err(ParseError::TooDeep(cursor.left()));
     }
     Ok(found)
 }
 
 /// At least one item, with `::` between (Rust Reference, Paths).
-pub fn path<T: Drop, F: Fn(&mut Cursor<'_>) -> Result<T, ParseError>>(
-    alloc: Global,
+pub fn path<C: Context, P: Production<C>>(
+    context: &C,
     cursor: &mut Cursor<'_>,
-    item: F,
-) -> Result<Seq<T>, ParseError>
-    requires { F.IsAlwaysCallable item }
-    ensures { (read : Parser T) → ReadsAs read (F.post item) → Gives (segments read (suc (length cursor.old)) [] cursor.old) result cursor.new }
+    budget: u8,
+) -> Result<Seq<P::Tree>, ParseError>
+    requires { P.ready context.now budget }
+    ensures { Gives (segments (P.reads budget) (suc (length cursor.old)) [] cursor.old) result cursor.new }
 {
-    let mut found = Seq::new(alloc);
+    let mut found = Seq::new(context.alloc());
     for _turn in 0..cursor.left() + 1 {
-        found.push(item(cursor)?)?;
+        found.push(P::parse(context, cursor, budget)?)?;
         if !cursor.eat_pair(':', ':') {
             return Ok(found);
         }

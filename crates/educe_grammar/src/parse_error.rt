@@ -4,11 +4,11 @@ use std::alloc::AllocError;
 /// A refusal of the parser. A number says where: that many tokens were left to read.
 #[derive(Clone, Copy)]
 pub enum ParseError {
-    /// Want of memory.
+    /// Out of memory.
     Memory,
     /// The tokens that are left can't go on.
     Syntax(usize),
-    /// More nests in one another, or is chained, than the limit allows.
+    /// The nesting, or a chain, exceeds its limit.
     TooDeep(usize),
 }
 

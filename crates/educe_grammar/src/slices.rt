@@ -1,22 +1,24 @@
 //! What was read, with its tokens.
-ghost use Rattle.educe_grammar.specs.Running.{ReadsCopied, written_by};
-ghost use Rattle.educe_grammar.specs.Steps.{Parser, Gives, ReadsAs};
+ghost use Rattle.educe_grammar.specs.Running.{IsCopied, written_by};
+ghost use Rattle.educe_grammar.specs.Steps.{Gives};
 
 use crate::cursor::Cursor;
 use crate::parse_error::ParseError;
+use crate::production::Production;
 use educe_tokens::Written;
 
 /// What is read, and its tokens as they were written.
-pub fn written<T: Drop, F: Fn(&mut Cursor<'_>) -> Result<T, ParseError>>(
+pub fn written<C, P: Production<C>>(
+    context: &C,
     cursor: &mut Cursor<'_>,
-    item: F,
-) -> Result<(T, Written), ParseError>
-    requires item { F.IsAlwaysCallable item }
-    requires copied { ReadsCopied (F.post item) }
-    ensures { (read : Parser T) → ReadsAs read (F.post item) → Gives (written_by read cursor.old) result cursor.new }
+    budget: u8,
+) -> Result<(P::Tree, Written), ParseError>
+    requires ready { P.ready context.now budget }
+    requires copied { IsCopied (P.reads budget) }
+    ensures { Gives (written_by (P.reads budget) cursor.old) result cursor.new }
 {
     let start = cursor.mark();
-    let found = item(cursor)?;
+    let found = P::parse(context, cursor, budget)?;
     let tokens = cursor.since(&start)?;
     Ok((found, Written::new(tokens)))
 }

@@ -1,23 +1,30 @@
 //! Definitions of structs and enums (Rust Reference, Structs; Enumerations).
-ghost use Rattle.std.specs.Prelude.{◌≡◌, ◌+◌, ℕ};
-ghost use Rattle.educe_grammar.specs.Combining.{at, at_sign, at_word, skipping, optional, sign, in_curly};
+ghost use Rattle.std.specs.Prelude.{◌≡◌, ◌+◌, ⊤};
+ghost use Rattle.educe_grammar.specs.Combining.{at, at_sign, at_word, behind_colon, leaving, skipping, optional, sign, in_curly};
 ghost use Rattle.educe_pieces.specs.declared.kind.Bracket.TheVariants.{Curly};
 ghost use Rattle.educe_grammar.specs.Ahead.{start};
 ghost use Rattle.educe_grammar.specs.declared.terminal.Keyword.TheVariants as keyword;
 ghost use Rattle.educe_grammar.specs.Definitions as spec;
+ghost use Rattle.educe_grammar.specs.Generics.{generic_params, where_clause};
+ghost use Rattle.educe_grammar.specs.Names as names;
+ghost use Rattle.educe_grammar.specs.Names.{mere_token};
 ghost use Rattle.educe_grammar.specs.Reads.{read};
-ghost use Rattle.educe_grammar.specs.Rules.{either, made, part, exprs};
+ghost use Rattle.educe_grammar.specs.Rules.{both, either, made, part, exprs, types};
 ghost use Rattle.educe_grammar.specs.Steps.{Gives};
+ghost use Rattle.educe_grammar.specs.declared.terminal.Terminal.TheVariants as terminal;
 
 use crate::attribute::{attributes, span_since};
 use crate::generics::{colon_type, generic_params, where_clause};
-use crate::looks::{at_curly_end, at_scope};
-use educe_grammar::{Cursor, Inside, Keyword, ParseError, Parts, Terminal, list};
-use educe_paths::{name, simple_path};
-use educe_tokens::{Bracket, Seq, terminated, unit};
+use crate::lookahead::at_scope;
+use educe_grammar::{
+    Cursor, ExprInside, Inside, Keyword, ParseError, Parts, Production, Terminal, in_curly,
+    in_round, nested, optional_behind, path,
+};
+use educe_paths::name;
+use educe_tokens::{Bracket, Seq, pair, terminated, unit};
 use educe_tree::{
     DeriveInput, Expr, Field, FieldForm, FieldShape, Generics, Ident, Params, Predicates, Shape,
-    Variant, Variants,
+    Ty, Variant, Variants,
 };
 use std::alloc::Global;
 
@@ -27,26 +34,48 @@ type Body = (Shape, Predicates);
 /// A name, parameters and what is defined.
 type Item = (Ident, (Params, Body));
 
+/// A segment of a path of names alone, of which nothing is kept (Rust Reference, Simple paths).
+struct NameSegment;
+
+impl Production<Global> for NameSegment {
+    type Tree = ();
+
+    ghost ready = { λ _ _. ⊤ };
+
+    ghost reads = { λ budget. read budget (mere_token terminal.PathSegment) };
+
+    #[tactic(auto, unfolding(educe_grammar::proofs::Opened::rules, educe_grammar::specs::Names::mere_token))]
+    fn parse(_alloc: &Global, cursor: &mut Cursor<'_>, _budget: u8) -> Result<(), ParseError> {
+        unit(cursor.expect(Terminal::PathSegment))
+    }
+}
+
 /// A path of names alone (Rust Reference, Simple paths).
-#[tactic(auto, unfolding(educe_grammar::proofs::Opened::rules, educe_grammar::specs::Definitions::mod_path))]
-fn mod_path(alloc: Global, cursor: &mut Cursor<'_>) -> Result<(), ParseError>
-    ensures { (budget : ℕ) → Gives (read budget spec.mod_path cursor.old) result cursor.new }
+#[tactic(auto, unfolding(educe_grammar::proofs::Opened::rules, educe_grammar::specs::Definitions::mod_path, educe_grammar::specs::Names::simple_path))]
+fn mod_path(alloc: Global, cursor: &mut Cursor<'_>, budget: u8) -> Result<(), ParseError>
+    ensures { Gives (read budget spec.mod_path cursor.old) result cursor.new }
 {
-    simple_path(alloc, cursor, Terminal::PathSegment)?;
-    Ok(())
+    cursor.eat_pair(':', ':');
+    unit(path::<Global, NameSegment>(&alloc, cursor, budget))
 }
 
 /// `crate`, `self`, `super` or `in` and a path (Rust Reference, Visibility and privacy).
-#[tactic(auto, unfolding(educe_grammar::proofs::Opened::rules, educe_grammar::specs::Definitions::scope))]
-fn scope(alloc: Global, cursor: &mut Cursor<'_>) -> Result<(), ParseError>
-    ensures { (budget : ℕ) → Gives (read budget spec.scope cursor.old) result cursor.new }
-{
-    if cursor.eat(Terminal::Word(Keyword::In)) {
-        mod_path(alloc, cursor)?;
-        return Ok(());
+struct Scope;
+
+impl Production<Global> for Scope {
+    type Tree = ();
+
+    ghost ready = { λ _ _. ⊤ };
+
+    ghost reads = { λ budget. read budget spec.scope };
+
+    #[tactic(auto, unfolding(educe_grammar::proofs::Opened::rules, educe_grammar::specs::Definitions::scope))]
+    fn parse(alloc: &Global, cursor: &mut Cursor<'_>, budget: u8) -> Result<(), ParseError> {
+        if cursor.eat(Terminal::Word(Keyword::In)) {
+            return mod_path(*alloc, cursor, budget);
+        }
+        unit(cursor.expect(Terminal::Scope))
     }
-    cursor.expect(Terminal::Scope)?;
-    Ok(())
 }
 
 /// A visibility, if there is one (Rust Reference, Visibility and privacy).
@@ -60,9 +89,7 @@ pub fn visibility(alloc: Global, cursor: &mut Cursor<'_>, budget: u8) -> Result<
     if !at_scope(cursor) {
         return Ok(());
     }
-    cursor.open(budget, Bracket::Round)?;
-    scope(alloc, cursor)?;
-    unit(cursor.expect_close(Bracket::Round))
+    nested::<Global, Scope>(&alloc, cursor, budget, Bracket::Round)
 }
 
 /// No fields (Rust Reference, Unit-like structs).
@@ -75,51 +102,83 @@ fn no_fields(alloc: Global) -> FieldShape
     }
 }
 
-/// A field with a name (Rust Reference, Structs).
-#[tactic(auto, unfolding(educe_grammar::proofs::Opened::rules, educe_grammar::specs::Definitions::named_field))]
-fn named_field<R: Inside>(
+/// A visibility, a name, a colon and a type (Rust Reference, Structs).
+#[tactic(auto, unfolding(educe_grammar::proofs::Opened::rules))]
+fn named_type<R: Inside>(
     parts: &Parts<R>,
     cursor: &mut Cursor<'_>,
     budget: u8,
-) -> Result<Field, ParseError>
+) -> Result<(Ident, Ty), ParseError>
     requires { R.nests parts.now.inside (budget + 1) }
-    ensures { Gives (read budget spec.named_field cursor.old) result cursor.new }
+    ensures { Gives (read budget (skipping spec.visibility (both names.name (behind_colon (part types)))) cursor.old) result cursor.new }
 {
-    let start = cursor.mark();
-    let attrs = attributes(parts.alloc, cursor, budget)?;
     visibility(parts.alloc, cursor, budget)?;
-    let ident = Some(name(parts.alloc, cursor)?);
-    let ty = colon_type(parts, cursor, budget)?;
-    let span = span_since(&start, cursor);
-    Ok(Field {
-        attrs,
-        ident,
-        ty,
-        span,
-    })
+    let ident = name(parts.alloc, cursor)?;
+    pair(ident, colon_type(parts, cursor, budget))
+}
+
+/// A field with a name (Rust Reference, Structs).
+struct NamedField;
+
+impl<R: Inside> Production<Parts<R>> for NamedField {
+    type Tree = Field;
+
+    ghost ready = { λ parts budget. R.nests parts.inside (budget + 1) };
+
+    ghost reads = { λ budget. read budget spec.named_field };
+
+    #[tactic(auto, unfolding(educe_grammar::proofs::Opened::rules, educe_grammar::specs::Definitions::named_field))]
+    fn parse(parts: &Parts<R>, cursor: &mut Cursor<'_>, budget: u8) -> Result<Field, ParseError> {
+        let start = cursor.mark();
+        let attrs = attributes(parts.alloc, cursor, budget)?;
+        let (attrs, (ident, ty)) = pair(attrs, named_type(parts, cursor, budget))?;
+        let span = span_since(&start, cursor);
+        Ok(Field {
+            attrs,
+            ident: Some(ident),
+            ty,
+            span,
+        })
+    }
+}
+
+/// A visibility and a type (Rust Reference, Tuple structs).
+#[tactic(auto, unfolding(educe_grammar::proofs::Opened::rules))]
+fn visible_type<R: Inside>(
+    parts: &Parts<R>,
+    cursor: &mut Cursor<'_>,
+    budget: u8,
+) -> Result<Ty, ParseError>
+    requires { R.nests parts.now.inside (budget + 1) }
+    ensures { Gives (read budget (skipping spec.visibility (part types)) cursor.old) result cursor.new }
+{
+    visibility(parts.alloc, cursor, budget)?;
+    parts.ty(cursor, budget)
 }
 
 /// A field without a name (Rust Reference, Tuple structs).
-#[tactic(auto, unfolding(educe_grammar::proofs::Opened::rules, educe_grammar::specs::Definitions::tuple_field))]
-fn tuple_field<R: Inside>(
-    parts: &Parts<R>,
-    cursor: &mut Cursor<'_>,
-    budget: u8,
-) -> Result<Field, ParseError>
-    requires { R.nests parts.now.inside (budget + 1) }
-    ensures { Gives (read budget spec.tuple_field cursor.old) result cursor.new }
-{
-    let start = cursor.mark();
-    let attrs = attributes(parts.alloc, cursor, budget)?;
-    visibility(parts.alloc, cursor, budget)?;
-    let ty = parts.ty(cursor, budget)?;
-    let span = span_since(&start, cursor);
-    Ok(Field {
-        attrs,
-        ident: None,
-        ty,
-        span,
-    })
+struct TupleField;
+
+impl<R: Inside> Production<Parts<R>> for TupleField {
+    type Tree = Field;
+
+    ghost ready = { λ parts budget. R.nests parts.inside (budget + 1) };
+
+    ghost reads = { λ budget. read budget spec.tuple_field };
+
+    #[tactic(auto, unfolding(educe_grammar::proofs::Opened::rules, educe_grammar::specs::Definitions::tuple_field))]
+    fn parse(parts: &Parts<R>, cursor: &mut Cursor<'_>, budget: u8) -> Result<Field, ParseError> {
+        let start = cursor.mark();
+        let attrs = attributes(parts.alloc, cursor, budget)?;
+        let (attrs, ty) = pair(attrs, visible_type(parts, cursor, budget))?;
+        let span = span_since(&start, cursor);
+        Ok(Field {
+            attrs,
+            ident: None,
+            ty,
+            span,
+        })
+    }
 }
 
 /// Fields in curly brackets (Rust Reference, Structs).
@@ -132,15 +191,7 @@ fn named_fields<R: Inside>(
     requires { R.nests parts.now.inside budget }
     ensures { Gives (read budget spec.named_fields cursor.old) result cursor.new }
 {
-    let below = cursor.open(budget, Bracket::Curly)?;
-    let fields = list(
-        parts.alloc,
-        cursor,
-        Terminal::Sign(','),
-        at_curly_end,
-        |cursor| named_field(parts, cursor, below),
-    )?;
-    cursor.expect_close(Bracket::Curly)?;
+    let fields = in_curly::<Parts<R>, NamedField>(parts, cursor, budget)?;
     let form = FieldForm::Named;
     Ok(FieldShape { form, fields })
 }
@@ -155,15 +206,7 @@ fn tuple_fields<R: Inside>(
     requires { R.nests parts.now.inside budget }
     ensures { Gives (read budget spec.tuple_fields cursor.old) result cursor.new }
 {
-    let below = cursor.open(budget, Bracket::Round)?;
-    let fields = list(
-        parts.alloc,
-        cursor,
-        Terminal::Sign(','),
-        |cursor| cursor.closes(Bracket::Round),
-        |cursor| tuple_field(parts, cursor, below),
-    )?;
-    cursor.expect_close(Bracket::Round)?;
+    let fields = in_round::<Parts<R>, TupleField>(parts, cursor, budget)?;
     let form = FieldForm::Unnamed;
     Ok(FieldShape { form, fields })
 }
@@ -187,45 +230,65 @@ fn variant_fields<R: Inside>(
     Ok(no_fields(parts.alloc))
 }
 
-/// `=` and a value, if they stand here (Rust Reference, Enumerations: discriminants).
+/// The fields of a variant and its discriminant (Rust Reference, Enumerations).
 #[tactic(auto, unfolding(educe_grammar::proofs::Opened::rules))]
-fn discriminant<R: Inside>(
+fn variant_rest<R: Inside>(
     parts: &Parts<R>,
     cursor: &mut Cursor<'_>,
     budget: u8,
-) -> Result<Option<Expr>, ParseError>
+) -> Result<(FieldShape, Option<Expr>), ParseError>
     requires { R.nests parts.now.inside (budget + 1) }
-    ensures { Gives (read budget (optional (at_sign 61) (skipping (sign 61) (part exprs))) cursor.old) result cursor.new }
+    ensures { Gives (read budget (both spec.variant_fields (optional (at_sign 61) (skipping (sign 61) (part exprs)))) cursor.old) result cursor.new }
 {
-    if !cursor.eat(Terminal::Sign('=')) {
-        return Ok(None);
-    }
-    Ok(Some(parts.expr(cursor, budget)?))
+    let fields = variant_fields(parts, cursor, budget)?;
+    let equals = Terminal::Sign('=');
+    pair(
+        fields,
+        optional_behind::<Parts<R>, ExprInside>(parts, cursor, budget, equals),
+    )
+}
+
+/// A variant without its attributes (Rust Reference, Enumerations).
+#[tactic(auto, unfolding(educe_grammar::proofs::Opened::rules))]
+fn bare_variant<R: Inside>(
+    parts: &Parts<R>,
+    cursor: &mut Cursor<'_>,
+    budget: u8,
+) -> Result<(Ident, (FieldShape, Option<Expr>)), ParseError>
+    requires { R.nests parts.now.inside (budget + 1) }
+    ensures { Gives (read budget (both names.name (both spec.variant_fields (optional (at_sign 61) (skipping (sign 61) (part exprs))))) cursor.old) result cursor.new }
+{
+    let ident = name(parts.alloc, cursor)?;
+    pair(ident, variant_rest(parts, cursor, budget))
 }
 
 /// A variant (Rust Reference, Enumerations).
-#[tactic(auto, unfolding(educe_grammar::proofs::Opened::rules, educe_grammar::specs::Definitions::variant))]
-fn variant<R: Inside>(
-    parts: &Parts<R>,
-    cursor: &mut Cursor<'_>,
-    budget: u8,
-) -> Result<Variant, ParseError>
-    requires { R.nests parts.now.inside (budget + 1) }
-    ensures { Gives (read budget spec.variant cursor.old) result cursor.new }
-{
-    let start = cursor.mark();
-    let attrs = attributes(parts.alloc, cursor, budget)?;
-    let ident = name(parts.alloc, cursor)?;
-    let fields = variant_fields(parts, cursor, budget)?;
-    let discriminant = discriminant(parts, cursor, budget)?;
-    let span = span_since(&start, cursor);
-    Ok(Variant {
-        attrs,
-        ident,
-        fields,
-        discriminant,
-        span,
-    })
+struct VariantItem;
+
+impl<R: Inside> Production<Parts<R>> for VariantItem {
+    type Tree = Variant;
+
+    ghost ready = { λ parts budget. R.nests parts.inside (budget + 1) };
+
+    ghost reads = { λ budget. read budget spec.variant };
+
+    #[tactic(auto, unfolding(educe_grammar::proofs::Opened::rules, educe_grammar::specs::Definitions::variant))]
+    fn parse(parts: &Parts<R>, cursor: &mut Cursor<'_>, budget: u8) -> Result<Variant, ParseError> {
+        let start = cursor.mark();
+        let attrs = attributes(parts.alloc, cursor, budget)?;
+        let (attrs, (ident, (fields, discriminant))) = pair(
+            attrs,
+            bare_variant(parts, cursor, budget),
+        )?;
+        let span = span_since(&start, cursor);
+        Ok(Variant {
+            attrs,
+            ident,
+            fields,
+            discriminant,
+            span,
+        })
+    }
 }
 
 /// Fields in curly brackets, or `;` (Rust Reference, Structs).
@@ -245,6 +308,21 @@ fn last_fields<R: Inside>(
     Ok(no_fields(parts.alloc))
 }
 
+/// Fields in round brackets, a where clause and `;` (Rust Reference, Tuple structs).
+#[tactic(auto, unfolding(educe_grammar::proofs::Opened::rules))]
+fn tuple_body<R: Inside>(
+    parts: &Parts<R>,
+    cursor: &mut Cursor<'_>,
+    budget: u8,
+) -> Result<(FieldShape, Predicates), ParseError>
+    requires { R.nests parts.now.inside (budget + 1) }
+    ensures { Gives (read budget (leaving (both spec.tuple_fields where_clause) (sign 59)) cursor.old) result cursor.new }
+{
+    let fields = tuple_fields(parts, cursor, budget)?;
+    let found = pair(fields, where_clause(parts, cursor, budget))?;
+    terminated(found, cursor.expect(Terminal::Sign(';')))
+}
+
 /// The body of a struct (Rust Reference, Structs).
 #[tactic(auto, unfolding(educe_grammar::proofs::Opened::rules, educe_grammar::specs::Definitions::struct_body))]
 fn struct_body<R: Inside>(
@@ -256,13 +334,11 @@ fn struct_body<R: Inside>(
     ensures { Gives (read budget spec.struct_body cursor.old) result cursor.new }
 {
     if cursor.opens(Bracket::Round) {
-        let fields = tuple_fields(parts, cursor, budget)?;
-        let predicates = where_clause(parts, cursor, budget)?;
-        cursor.expect(Terminal::Sign(';'))?;
+        let (fields, predicates) = tuple_body(parts, cursor, budget)?;
         return Ok((Shape::Struct(fields), predicates));
     }
     let predicates = where_clause(parts, cursor, budget)?;
-    let fields = last_fields(parts, cursor, budget)?;
+    let (predicates, fields) = pair(predicates, last_fields(parts, cursor, budget))?;
     Ok((Shape::Struct(fields), predicates))
 }
 
@@ -276,15 +352,7 @@ fn variants<R: Inside>(
     requires { R.nests parts.now.inside budget }
     ensures { Gives (read budget (in_curly spec.variant) cursor.old) result cursor.new }
 {
-    let below = cursor.open(budget, Bracket::Curly)?;
-    let variants = list(
-        parts.alloc,
-        cursor,
-        Terminal::Sign(','),
-        at_curly_end,
-        |cursor| variant(parts, cursor, below),
-    )?;
-    terminated(variants, cursor.expect_close(Bracket::Curly))
+    in_curly::<Parts<R>, VariantItem>(parts, cursor, budget)
 }
 
 /// The body of an enum (Rust Reference, Enumerations).
@@ -298,8 +366,22 @@ fn enum_body<R: Inside>(
     ensures { Gives (read budget spec.enum_body cursor.old) result cursor.new }
 {
     let predicates = where_clause(parts, cursor, budget)?;
-    let variants = variants(parts, cursor, budget)?;
+    let (predicates, variants) = pair(predicates, variants(parts, cursor, budget))?;
     Ok((Shape::Enum(variants), predicates))
+}
+
+/// A struct without its name (Rust Reference, Structs).
+#[tactic(auto, unfolding(educe_grammar::proofs::Opened::rules))]
+fn bare_struct<R: Inside>(
+    parts: &Parts<R>,
+    cursor: &mut Cursor<'_>,
+    budget: u8,
+) -> Result<(Params, Body), ParseError>
+    requires { R.nests parts.now.inside (budget + 1) }
+    ensures { Gives (read budget (both generic_params spec.struct_body) cursor.old) result cursor.new }
+{
+    let params = generic_params(parts, cursor, budget)?;
+    pair(params, struct_body(parts, cursor, budget))
 }
 
 /// A struct without its attributes and visibility (Rust Reference, Structs).
@@ -314,9 +396,21 @@ fn struct_item<R: Inside>(
 {
     cursor.expect(Terminal::Word(Keyword::Struct))?;
     let ident = name(parts.alloc, cursor)?;
+    pair(ident, bare_struct(parts, cursor, budget))
+}
+
+/// An enum without its name (Rust Reference, Enumerations).
+#[tactic(auto, unfolding(educe_grammar::proofs::Opened::rules))]
+fn bare_enum<R: Inside>(
+    parts: &Parts<R>,
+    cursor: &mut Cursor<'_>,
+    budget: u8,
+) -> Result<(Params, Body), ParseError>
+    requires { R.nests parts.now.inside (budget + 1) }
+    ensures { Gives (read budget (both generic_params spec.enum_body) cursor.old) result cursor.new }
+{
     let params = generic_params(parts, cursor, budget)?;
-    let body = struct_body(parts, cursor, budget)?;
-    Ok((ident, (params, body)))
+    pair(params, enum_body(parts, cursor, budget))
 }
 
 /// An enum without its attributes and visibility (Rust Reference, Enumerations).
@@ -331,9 +425,7 @@ fn enum_item<R: Inside>(
 {
     cursor.expect(Terminal::Word(Keyword::Enum))?;
     let ident = name(parts.alloc, cursor)?;
-    let params = generic_params(parts, cursor, budget)?;
-    let body = enum_body(parts, cursor, budget)?;
-    Ok((ident, (params, body)))
+    pair(ident, bare_enum(parts, cursor, budget))
 }
 
 /// A struct or an enum, without its attributes and visibility (Rust Reference, Items).
@@ -352,6 +444,20 @@ fn item<R: Inside>(
     struct_item(parts, cursor, budget)
 }
 
+/// A visibility, and a struct or an enum (Rust Reference, Items).
+#[tactic(auto, unfolding(educe_grammar::proofs::Opened::rules))]
+fn visible_item<R: Inside>(
+    parts: &Parts<R>,
+    cursor: &mut Cursor<'_>,
+    budget: u8,
+) -> Result<Item, ParseError>
+    requires { R.nests parts.now.inside (budget + 1) }
+    ensures { Gives (read budget (skipping spec.visibility (either (at_word keyword.Enum) spec.enum_item spec.struct_item)) cursor.old) result cursor.new }
+{
+    visibility(parts.alloc, cursor, budget)?;
+    item(parts, cursor, budget)
+}
+
 /// A definition (Rust Reference, Items).
 #[tactic(auto, unfolding(educe_grammar::proofs::Opened::rules, educe_grammar::specs::Definitions::definition))]
 pub fn definition<R: Inside>(
@@ -364,9 +470,9 @@ pub fn definition<R: Inside>(
 {
     let start = cursor.mark();
     let attrs = attributes(parts.alloc, cursor, budget)?;
-    visibility(parts.alloc, cursor, budget)?;
-    let (ident, (params, (shape, predicates))) = item(parts, cursor, budget)?;
-    let tokens = cursor.since(&start)?;
+    let found = pair(attrs, visible_item(parts, cursor, budget))?;
+    let (found, tokens) = pair(found, cursor.since(&start))?;
+    let (attrs, (ident, (params, (shape, predicates)))) = found;
     Ok(DeriveInput {
         attrs,
         ident,

@@ -5,7 +5,7 @@
 mod attribute;
 mod definitions;
 mod generics;
-mod looks;
+mod lookahead;
 
 pub use attribute::{attributes, metas};
 pub use definitions::{definition, visibility};

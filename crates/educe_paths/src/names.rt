@@ -1,4 +1,4 @@
-//! Names and lifetimes (Rust Reference, Identifiers; Lifetimes and loop labels; Simple paths).
+//! Names and lifetimes (Rust Reference, Identifiers; Lifetimes and loop labels).
 ghost use Rattle.std.specs.Prelude.{◌≡◌, ℕ, IfOk};
 ghost use Rattle.educe_pieces.specs.declared.kind.TokenKind.TheVariants as kind;
 ghost use Rattle.educe_grammar.specs.Ahead.{one};
@@ -8,8 +8,8 @@ ghost use Rattle.educe_grammar.specs.Names as spec;
 ghost use Rattle.educe_grammar.specs.Reads.{read};
 ghost use Rattle.educe_grammar.specs.Steps.{Gives};
 
-use educe_grammar::{Cursor, ParseError, Terminal, path};
-use educe_tokens::{Seq, Token};
+use educe_grammar::{Cursor, ParseError, Terminal};
+use educe_tokens::Token;
 use educe_tree::{Ident, Lifetime};
 use std::alloc::{AllocError, Global};
 
@@ -74,27 +74,4 @@ pub fn skip_lifetime(cursor: &mut Cursor<'_>) -> bool
     ensures { (budget : ℕ) → read budget (flag (at (one terminal.Lifetime)) spec.lifetime) cursor.old ≡ Ok (result, cursor.new) }
 {
     cursor.eat(Terminal::Lifetime)
-}
-
-/// A token, of which nothing is kept.
-#[tactic(auto, unfolding(educe_grammar::proofs::Opened::rules, educe_grammar::specs::Names::mere_token))]
-fn mere_token(cursor: &mut Cursor<'_>, asked: Terminal) -> Result<(), ParseError>
-    ensures { (budget : ℕ) → Gives (read budget (spec.mere_token asked) cursor.old) result cursor.new }
-{
-    cursor.expect(asked)?;
-    Ok(())
-}
-
-/// Such tokens with `::` between, and maybe before the first (Rust Reference, Simple paths).
-#[tactic(auto, unfolding(educe_grammar::proofs::Opened::rules, educe_grammar::specs::Names::simple_path))]
-pub fn simple_path(
-    alloc: Global,
-    cursor: &mut Cursor<'_>,
-    asked: Terminal,
-) -> Result<(bool, Seq<()>), ParseError>
-    ensures { (budget : ℕ) → Gives (read budget (spec.simple_path asked) cursor.old) result cursor.new }
-{
-    let leading = cursor.eat_pair(':', ':');
-    let segments = path(alloc, cursor, |cursor| mere_token(cursor, asked))?;
-    Ok((leading, segments))
 }

@@ -1,18 +1,18 @@
 //! Paths in types and their arguments (Rust Reference, Paths).
 ghost use Rattle.std.specs.Prelude.{◌≡◌, ◌+◌, IfOk, map, not};
-ghost use Rattle.educe_pieces.specs.declared.kind.Bracket.TheVariants.{Round};
-ghost use Rattle.educe_grammar.specs.Ahead.{stop};
-ghost use Rattle.educe_grammar.specs.Combining.{optional, skipping, commas, word, at, at_arrow, at_word};
+ghost use Rattle.educe_grammar.specs.Combining.{optional, skipping, word, at_arrow, at_word};
 ghost use Rattle.educe_grammar.specs.declared.terminal.Keyword.TheVariants as keyword;
+ghost use Rattle.educe_grammar.specs.Names as names;
 ghost use Rattle.educe_grammar.specs.Reads.{read};
-ghost use Rattle.educe_grammar.specs.Rules.{types, plains, both, arrow, part};
+ghost use Rattle.educe_grammar.specs.Rules.{types, plains, both, made, lone, arrow, part};
 ghost use Rattle.educe_grammar.specs.Steps.{Gives};
 ghost use Rattle.educe_grammar.specs.Types as spec;
 
-use crate::looks::{at_angle_args, at_angle_end, at_binding, at_constant, at_round_end};
+use crate::lookahead::{at_angle_args, at_binding, at_constant};
 use crate::names::{lifetime, name, segment_name};
 use educe_grammar::{
-    Cursor, Ending, Inside, Keyword, ParseError, Parts, Terminal, Typed, list, path, written,
+    Cursor, Ending, ExprInside, Inside, Keyword, ParseError, Parts, Production, Terminal,
+    TypeInside, Typed, angled, in_angles, in_round, nested, optional_behind, path, written,
 };
 use educe_tokens::{Boxed, Bracket, Seq, pair, terminated, unit};
 use educe_tree::{AngleArg, AngleArgs, Args, Path, Segment, Segments, Ty, TypeForm, Types};
@@ -27,7 +27,7 @@ type SegmentRead = (Segment, Ending, bool);
 /// The trait of a qualified path with its ending, where there is one.
 type SelfTrait = Option<(Path, Ending)>;
 
-/// The arguments in round brackets. Behind a type that ends with a path `::` goes on that path.
+/// The arguments in round brackets. Behind a type that ends with a path, `::` continues that path.
 fn round_read(alloc: Global, inputs: Types, output: Option<Typed>) -> Result<ArgsRead, AllocError>
     ensures { IfOk result (λ read. read ≡ spec.round_read (inputs, output)) }
 {
@@ -171,53 +171,74 @@ fn qualified_read(
 }
 
 /// A constant that is no name (Rust Reference, Const generics).
-#[tactic(auto, unfolding(educe_grammar::proofs::Opened::rules, educe_grammar::specs::Types::constant))]
-pub fn constant<R: Inside>(
-    parts: &Parts<R>,
-    cursor: &mut Cursor<'_>,
-    budget: u8,
-) -> Result<(), ParseError>
-    requires { R.nests parts.now.inside budget }
-    ensures { Gives (read budget spec.constant cursor.old) result cursor.new }
-{
-    if cursor.eat(Terminal::Literal) {
-        return Ok(());
+pub struct Constant;
+
+impl<R: Inside> Production<Parts<R>> for Constant {
+    type Tree = ();
+
+    ghost ready = { λ parts budget. R.nests parts.inside budget };
+
+    ghost reads = { λ budget. read budget spec.constant };
+
+    #[tactic(auto, unfolding(educe_grammar::proofs::Opened::rules, educe_grammar::specs::Types::constant))]
+    fn parse(parts: &Parts<R>, cursor: &mut Cursor<'_>, budget: u8) -> Result<(), ParseError> {
+        if cursor.eat(Terminal::Literal) {
+            return Ok(());
+        }
+        if cursor.eat(Terminal::Sign('-')) {
+            return unit(cursor.expect(Terminal::Int));
+        }
+        if cursor.eat(Terminal::Truth) {
+            return Ok(());
+        }
+        unit(nested::<Parts<R>, ExprInside>(parts, cursor, budget, Bracket::Curly))
     }
-    if cursor.eat(Terminal::Sign('-')) {
-        cursor.expect(Terminal::Int)?;
-        return Ok(());
-    }
-    if cursor.eat(Terminal::Truth) {
-        return Ok(());
-    }
-    let below = cursor.open(budget, Bracket::Curly)?;
-    unit(parts.expr(cursor, below))?;
-    unit(cursor.expect_close(Bracket::Curly))
 }
 
-/// An argument in angle brackets (Rust Reference, Generic arguments).
-#[tactic(auto, using(educe_grammar::proofs::Copied::constant_copied), unfolding(educe_grammar::proofs::Opened::rules, educe_grammar::specs::Types::angle_arg))]
-fn angle_arg<R: Inside>(
+/// A name, `=` and a type (Rust Reference, Generic arguments).
+#[tactic(auto, unfolding(educe_grammar::proofs::Opened::rules))]
+fn binding<R: Inside>(
     parts: &Parts<R>,
     cursor: &mut Cursor<'_>,
     budget: u8,
 ) -> Result<AngleArg, ParseError>
     requires { R.nests parts.now.inside (budget + 1) }
-    ensures { Gives (read budget spec.angle_arg cursor.old) result cursor.new }
+    ensures { Gives (read budget (made spec.binding_of (both names.name (lone 61 61 (part types)))) cursor.old) result cursor.new }
 {
-    if cursor.sees(Terminal::Lifetime) {
-        return Ok(AngleArg::Lifetime(lifetime(parts.alloc, cursor)?));
+    let name = name(parts.alloc, cursor)?;
+    let name = terminated(name, cursor.skip_lone('=', '='))?;
+    let (name, ty) = pair(name, parts.ty(cursor, budget))?;
+    Ok(AngleArg::Binding(name, ty))
+}
+
+/// An argument in angle brackets (Rust Reference, Generic arguments).
+struct GenericArg;
+
+impl<R: Inside> Production<Parts<R>> for GenericArg {
+    type Tree = AngleArg;
+
+    ghost ready = { λ parts budget. R.nests parts.inside (budget + 1) };
+
+    ghost reads = { λ budget. read budget spec.angle_arg };
+
+    #[tactic(auto, using(educe_grammar::proofs::Copied::constant_copied), unfolding(educe_grammar::proofs::Opened::rules, educe_grammar::specs::Types::angle_arg))]
+    fn parse(
+        parts: &Parts<R>,
+        cursor: &mut Cursor<'_>,
+        budget: u8,
+    ) -> Result<AngleArg, ParseError> {
+        if cursor.sees(Terminal::Lifetime) {
+            return Ok(AngleArg::Lifetime(lifetime(parts.alloc, cursor)?));
+        }
+        if at_constant(cursor) {
+            let (_, tokens) = written::<Parts<R>, Constant>(parts, cursor, budget)?;
+            return Ok(AngleArg::Constant(tokens));
+        }
+        if at_binding(cursor) {
+            return binding(parts, cursor, budget);
+        }
+        Ok(AngleArg::Plain(parts.ty(cursor, budget)?))
     }
-    if at_constant(cursor) {
-        let (_, tokens) = written(cursor, |cursor| constant(parts, cursor, budget))?;
-        return Ok(AngleArg::Constant(tokens));
-    }
-    if at_binding(cursor) {
-        let name = name(parts.alloc, cursor)?;
-        cursor.skip_lone('=', '=')?;
-        return Ok(AngleArg::Binding(name, parts.ty(cursor, budget)?));
-    }
-    Ok(AngleArg::Plain(parts.ty(cursor, budget)?))
 }
 
 /// Arguments in angle brackets (Rust Reference, Generic arguments).
@@ -230,15 +251,7 @@ pub fn angle_args<R: Inside>(
     requires { R.nests parts.now.inside budget }
     ensures { Gives (read budget spec.angle_args cursor.old) result cursor.new }
 {
-    let below = cursor.open_angle(budget)?;
-    let found = list(
-        parts.alloc,
-        cursor,
-        Terminal::Sign(','),
-        at_angle_end,
-        |cursor| angle_arg(parts, cursor, below),
-    )?;
-    terminated(found, cursor.expect(Terminal::Sign('>')))
+    in_angles::<Parts<R>, GenericArg>(parts, cursor, budget)
 }
 
 /// The type behind `->`, where there is one (Rust Reference, Function pointer types).
@@ -258,25 +271,6 @@ pub fn output<R: Inside>(
     Ok(Some(parts.plain(cursor, below)?))
 }
 
-/// Types up to the end of round brackets (Rust Reference, Paths in types; Tuple types).
-#[tactic(auto, unfolding(educe_grammar::proofs::Opened::rules))]
-pub fn types_in_round<R: Inside>(
-    parts: &Parts<R>,
-    cursor: &mut Cursor<'_>,
-    budget: u8,
-) -> Result<Types, ParseError>
-    requires { R.nests parts.now.inside (budget + 1) }
-    ensures { Gives (read budget (commas (at (stop Round)) (part types)) cursor.old) result cursor.new }
-{
-    list(
-        parts.alloc,
-        cursor,
-        Terminal::Sign(','),
-        at_round_end,
-        |cursor| parts.ty(cursor, budget),
-    )
-}
-
 /// `(A, B) -> C`
 #[tactic(auto, unfolding(educe_grammar::proofs::Opened::rules, educe_grammar::specs::Types::round_args))]
 fn round_args<R: Inside>(
@@ -287,9 +281,7 @@ fn round_args<R: Inside>(
     requires { R.nests parts.now.inside budget }
     ensures { Gives (read budget spec.round_args cursor.old) result cursor.new }
 {
-    let below = cursor.open(budget, Bracket::Round)?;
-    let inputs = types_in_round(parts, cursor, below)?;
-    let inputs = terminated(inputs, cursor.expect_close(Bracket::Round))?;
+    let inputs = in_round::<Parts<R>, TypeInside>(parts, cursor, budget)?;
     pair(inputs, output(parts, cursor, budget))
 }
 
@@ -316,18 +308,25 @@ fn type_args<R: Inside>(
 }
 
 /// A segment of a path in a type (Rust Reference, Paths in types).
-#[tactic(auto, unfolding(educe_grammar::proofs::Opened::rules, educe_grammar::specs::Types::type_segment))]
-fn type_segment<R: Inside>(
-    parts: &Parts<R>,
-    cursor: &mut Cursor<'_>,
-    budget: u8,
-) -> Result<SegmentRead, ParseError>
-    requires { R.nests parts.now.inside budget }
-    ensures { Gives (read budget spec.type_segment cursor.old) result cursor.new }
-{
-    let ident = segment_name(parts.alloc, cursor)?;
-    let (ident, (args, ending, may_follow)) = pair(ident, type_args(parts, cursor, budget))?;
-    Ok((Segment { ident, args }, ending, may_follow))
+struct TypeSegment;
+
+impl<R: Inside> Production<Parts<R>> for TypeSegment {
+    type Tree = SegmentRead;
+
+    ghost ready = { λ parts budget. R.nests parts.inside budget };
+
+    ghost reads = { λ budget. read budget spec.type_segment };
+
+    #[tactic(auto, unfolding(educe_grammar::proofs::Opened::rules, educe_grammar::specs::Types::type_segment))]
+    fn parse(
+        parts: &Parts<R>,
+        cursor: &mut Cursor<'_>,
+        budget: u8,
+    ) -> Result<SegmentRead, ParseError> {
+        let ident = segment_name(parts.alloc, cursor)?;
+        let (ident, (args, ending, may_follow)) = pair(ident, type_args(parts, cursor, budget))?;
+        Ok((Segment { ident, args }, ending, may_follow))
+    }
 }
 
 /// The segments of a path in a type (Rust Reference, Paths in types).
@@ -340,11 +339,7 @@ fn type_segments<R: Inside>(
     requires { R.nests parts.now.inside budget }
     ensures { Gives (read budget spec.type_segments cursor.old) result cursor.new }
 {
-    let found = path(
-        parts.alloc,
-        cursor,
-        |cursor| type_segment(parts, cursor, budget),
-    )?;
+    let found = path::<Parts<R>, TypeSegment>(parts, cursor, budget)?;
     if !may_follow(found.as_slice()) {
         return Err(cursor.refuse());
     }
@@ -370,34 +365,48 @@ pub fn type_path<R: Inside>(
     Ok((path, ending))
 }
 
-/// `as` and a trait, where there is one (Rust Reference, Qualified paths).
-#[tactic(auto, unfolding(educe_grammar::proofs::Opened::rules))]
-fn self_trait<R: Inside>(
-    parts: &Parts<R>,
-    cursor: &mut Cursor<'_>,
-    budget: u8,
-) -> Result<SelfTrait, ParseError>
-    requires { R.nests parts.now.inside budget }
-    ensures { Gives (read budget (optional (at_word keyword.As) (skipping (word keyword.As) spec.type_path)) cursor.old) result cursor.new }
-{
-    if !cursor.eat(Terminal::Word(Keyword::As)) {
-        return Ok(None);
+/// The trait of a qualified path (Rust Reference, Qualified paths).
+struct TraitPath;
+
+impl<R: Inside> Production<Parts<R>> for TraitPath {
+    type Tree = (Path, Ending);
+
+    ghost ready = { λ parts budget. R.nests parts.inside budget };
+
+    ghost reads = { λ budget. read budget spec.type_path };
+
+    fn parse(
+        parts: &Parts<R>,
+        cursor: &mut Cursor<'_>,
+        budget: u8,
+    ) -> Result<(Path, Ending), ParseError> {
+        type_path(parts, cursor, budget)
     }
-    Ok(Some(type_path(parts, cursor, budget)?))
 }
 
 /// A type, and the trait behind `as` (Rust Reference, Qualified paths).
-#[tactic(auto, unfolding(educe_grammar::proofs::Opened::rules))]
-fn self_and_trait<R: Inside>(
-    parts: &Parts<R>,
-    cursor: &mut Cursor<'_>,
-    budget: u8,
-) -> Result<(Ty, SelfTrait), ParseError>
-    requires { R.nests parts.now.inside (budget + 1) }
-    ensures { Gives (read budget (both (part types) (optional (at_word keyword.As) (skipping (word keyword.As) spec.type_path))) cursor.old) result cursor.new }
-{
-    let self_type = parts.ty(cursor, budget)?;
-    pair(self_type, self_trait(parts, cursor, budget))
+struct SelfAndTrait;
+
+impl<R: Inside> Production<Parts<R>> for SelfAndTrait {
+    type Tree = (Ty, SelfTrait);
+
+    ghost ready = { λ parts budget. R.nests parts.inside (budget + 1) };
+
+    ghost reads = { λ budget. read budget (both (part types) (optional (at_word keyword.As) (skipping (word keyword.As) spec.type_path))) };
+
+    #[tactic(auto, unfolding(educe_grammar::proofs::Opened::rules))]
+    fn parse(
+        parts: &Parts<R>,
+        cursor: &mut Cursor<'_>,
+        budget: u8,
+    ) -> Result<(Ty, SelfTrait), ParseError> {
+        let self_type = parts.ty(cursor, budget)?;
+        let word = Terminal::Word(Keyword::As);
+        pair(
+            self_type,
+            optional_behind::<Parts<R>, TraitPath>(parts, cursor, budget, word),
+        )
+    }
 }
 
 /// The type of a qualified path, and its trait (Rust Reference, Qualified paths).
@@ -410,9 +419,7 @@ pub fn qualified_self<R: Inside>(
     requires { R.nests parts.now.inside budget }
     ensures { Gives (read budget spec.qualified_self cursor.old) result cursor.new }
 {
-    let below = cursor.open_angle(budget)?;
-    let found = self_and_trait(parts, cursor, below)?;
-    terminated(found, cursor.expect(Terminal::Sign('>')))
+    angled::<Parts<R>, SelfAndTrait>(parts, cursor, budget)
 }
 
 /// A qualified path (Rust Reference, Qualified paths).

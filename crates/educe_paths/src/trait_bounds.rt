@@ -1,49 +1,68 @@
 //! Bounds (Rust Reference, Trait and lifetime bounds).
-ghost use Rattle.std.specs.Prelude.{◌≡◌, ℕ, IfOk};
+ghost use Rattle.std.specs.Prelude.{◌≡◌, IfOk, ⊤};
 ghost use Rattle.educe_grammar.specs.Combining.{flag, at_word};
 ghost use Rattle.educe_grammar.specs.declared.terminal.Keyword.TheVariants as keyword;
+ghost use Rattle.educe_grammar.specs.Names as names;
 ghost use Rattle.educe_grammar.specs.Reads.{read};
 ghost use Rattle.educe_grammar.specs.Steps.{Gives};
 ghost use Rattle.educe_grammar.specs.Types as spec;
 
-use crate::looks::{at_angle_end, behind_type};
+use crate::lookahead::BehindType;
 use crate::names::lifetime;
 use crate::paths::type_path;
-use educe_grammar::{Cursor, Ending, Inside, Keyword, ParseError, Parts, Terminal, list};
-use educe_tokens::{Bracket, Seq, terminated};
-use educe_tree::{Path, Paths};
+use educe_grammar::{
+    Cursor, Ending, Inside, Keyword, ParseError, Parts, Production, Terminal, in_angles, list,
+    nested,
+};
+use educe_tokens::{Bracket, Seq, unit};
+use educe_tree::{Lifetime, Path, Paths};
 use std::alloc::{AllocError, Global};
 
 /// The path of a bound, where it is no lifetime, and how the bound ends.
 pub type BoundRead = (Option<Path>, Ending);
 
-/// Lifetimes with `+` between (Rust Reference, Lifetime bounds).
-#[tactic(auto, unfolding(educe_grammar::proofs::Opened::rules, educe_grammar::specs::Types::lifetime_bounds))]
-pub fn lifetime_bounds(alloc: Global, cursor: &mut Cursor<'_>) -> Result<(), ParseError>
-    ensures { (budget : ℕ) → Gives (read budget spec.lifetime_bounds cursor.old) result cursor.new }
-{
-    let plus = Terminal::Sign('+');
-    list(
-        alloc,
-        cursor,
-        plus,
-        behind_type,
-        |cursor| lifetime(alloc, cursor),
-    )?;
-    Ok(())
+/// A bound of a lifetime (Rust Reference, Lifetime bounds).
+struct LifetimeBound;
+
+impl Production<Global> for LifetimeBound {
+    type Tree = Lifetime;
+
+    ghost ready = { λ _ _. ⊤ };
+
+    ghost reads = { λ budget. read budget names.lifetime };
+
+    fn parse(alloc: &Global, cursor: &mut Cursor<'_>, _budget: u8) -> Result<Lifetime, ParseError> {
+        lifetime(*alloc, cursor)
+    }
 }
 
-/// A lifetime with its bounds, in `for<'a>`.
-#[tactic(auto, unfolding(educe_grammar::proofs::Opened::rules, educe_grammar::specs::Types::for_lifetime))]
-fn for_lifetime(alloc: Global, cursor: &mut Cursor<'_>) -> Result<(), ParseError>
-    ensures { (budget : ℕ) → Gives (read budget spec.for_lifetime cursor.old) result cursor.new }
+/// Lifetimes with `+` between (Rust Reference, Lifetime bounds).
+#[tactic(auto, unfolding(educe_grammar::proofs::Opened::rules, educe_grammar::specs::Types::lifetime_bounds))]
+pub fn lifetime_bounds(alloc: Global, cursor: &mut Cursor<'_>, budget: u8) -> Result<(), ParseError>
+    ensures { Gives (read budget spec.lifetime_bounds cursor.old) result cursor.new }
 {
-    lifetime(alloc, cursor)?;
-    if cursor.begins_lone(':', ':') {
-        cursor.skip_lone(':', ':')?;
-        lifetime_bounds(alloc, cursor)?;
+    let plus = Terminal::Sign('+');
+    unit(list::<Global, LifetimeBound, BehindType>(&alloc, cursor, budget, plus))
+}
+
+/// A lifetime with its bounds, in `for<'a>` (Rust Reference, Higher-ranked trait bounds).
+struct ForLifetime;
+
+impl Production<Global> for ForLifetime {
+    type Tree = ();
+
+    ghost ready = { λ _ _. ⊤ };
+
+    ghost reads = { λ budget. read budget spec.for_lifetime };
+
+    #[tactic(auto, unfolding(educe_grammar::proofs::Opened::rules, educe_grammar::specs::Types::for_lifetime))]
+    fn parse(alloc: &Global, cursor: &mut Cursor<'_>, budget: u8) -> Result<(), ParseError> {
+        lifetime(*alloc, cursor)?;
+        if !cursor.eat_lone(':', ':') {
+            return Ok(());
+        }
+        lifetime_bounds(*alloc, cursor, budget)
     }
-    Ok(())
 }
 
 /// `for<'a>` (Rust Reference, Higher-ranked trait bounds).
@@ -51,18 +70,8 @@ fn for_lifetime(alloc: Global, cursor: &mut Cursor<'_>) -> Result<(), ParseError
 pub fn for_all(alloc: Global, cursor: &mut Cursor<'_>, budget: u8) -> Result<(), ParseError>
     ensures { Gives (read budget spec.for_all cursor.old) result cursor.new }
 {
-    cursor.expect(Terminal::Word(Keyword::For))?;
-    cursor.open_angle(budget)?;
-    let comma = Terminal::Sign(',');
-    list(
-        alloc,
-        cursor,
-        comma,
-        at_angle_end,
-        |cursor| for_lifetime(alloc, cursor),
-    )?;
-    cursor.expect(Terminal::Sign('>'))?;
-    Ok(())
+    unit(cursor.expect(Terminal::Word(Keyword::For)))?;
+    unit(in_angles::<Global, ForLifetime>(&alloc, cursor, budget))
 }
 
 /// `for<'a>`, where it comes next.
@@ -95,41 +104,53 @@ pub fn bound_paths(alloc: Global, found: Seq<BoundRead>) -> Result<Paths, AllocE
 }
 
 /// `?`, `for<'a>` and a path (Rust Reference, Trait and lifetime bounds).
-#[tactic(auto, unfolding(educe_grammar::proofs::Opened::rules, educe_grammar::specs::Types::bound_path))]
-fn bound_path<R: Inside>(
-    parts: &Parts<R>,
-    cursor: &mut Cursor<'_>,
-    budget: u8,
-) -> Result<(Path, Ending), ParseError>
-    requires { R.nests parts.now.inside budget }
-    ensures { Gives (read budget spec.bound_path cursor.old) result cursor.new }
-{
-    cursor.eat(Terminal::Sign('?'));
-    optional_for_all(parts.alloc, cursor, budget)?;
-    type_path(parts, cursor, budget)
+struct BoundPath;
+
+impl<R: Inside> Production<Parts<R>> for BoundPath {
+    type Tree = (Path, Ending);
+
+    ghost ready = { λ parts budget. R.nests parts.inside budget };
+
+    ghost reads = { λ budget. read budget spec.bound_path };
+
+    #[tactic(auto, unfolding(educe_grammar::proofs::Opened::rules, educe_grammar::specs::Types::bound_path))]
+    fn parse(
+        parts: &Parts<R>,
+        cursor: &mut Cursor<'_>,
+        budget: u8,
+    ) -> Result<(Path, Ending), ParseError> {
+        cursor.eat(Terminal::Sign('?'));
+        optional_for_all(parts.alloc, cursor, budget)?;
+        type_path(parts, cursor, budget)
+    }
 }
 
 /// A bound (Rust Reference, Trait and lifetime bounds).
-#[tactic(auto, unfolding(educe_grammar::proofs::Opened::rules, educe_grammar::specs::Types::bound, educe_grammar::specs::Names::lifetime))]
-pub fn bound<R: Inside>(
-    parts: &Parts<R>,
-    cursor: &mut Cursor<'_>,
-    budget: u8,
-) -> Result<BoundRead, ParseError>
-    requires { R.nests parts.now.inside budget }
-    ensures { Gives (read budget spec.bound cursor.old) result cursor.new }
-{
-    if cursor.eat(Terminal::Lifetime) {
-        return Ok((None, Ending::Closed));
+pub struct Bound;
+
+impl<R: Inside> Production<Parts<R>> for Bound {
+    type Tree = BoundRead;
+
+    ghost ready = { λ parts budget. R.nests parts.inside budget };
+
+    ghost reads = { λ budget. read budget spec.bound };
+
+    #[tactic(auto, unfolding(educe_grammar::proofs::Opened::rules, educe_grammar::specs::Types::bound, educe_grammar::specs::Names::lifetime))]
+    fn parse(
+        parts: &Parts<R>,
+        cursor: &mut Cursor<'_>,
+        budget: u8,
+    ) -> Result<BoundRead, ParseError> {
+        if cursor.eat(Terminal::Lifetime) {
+            return Ok((None, Ending::Closed));
+        }
+        if cursor.opens(Bracket::Round) {
+            let (path, _) = nested::<Parts<R>, BoundPath>(parts, cursor, budget, Bracket::Round)?;
+            return Ok((Some(path), Ending::Closed));
+        }
+        let (path, ending) = BoundPath::parse(parts, cursor, budget)?;
+        Ok((Some(path), ending))
     }
-    if cursor.opens(Bracket::Round) {
-        let below = cursor.open(budget, Bracket::Round)?;
-        let found = bound_path(parts, cursor, below)?;
-        let (path, _) = terminated(found, cursor.expect_close(Bracket::Round))?;
-        return Ok((Some(path), Ending::Closed));
-    }
-    let (path, ending) = bound_path(parts, cursor, budget)?;
-    Ok((Some(path), ending))
 }
 
 /// Bounds with `+` between, or nothing (Rust Reference, Trait and lifetime bounds).
@@ -142,11 +163,5 @@ pub fn bounds<R: Inside>(
     requires { R.nests parts.now.inside budget }
     ensures { Gives (read budget spec.bounds cursor.old) result cursor.new }
 {
-    list(
-        parts.alloc,
-        cursor,
-        Terminal::Sign('+'),
-        behind_type,
-        |cursor| bound(parts, cursor, budget),
-    )
+    list::<Parts<R>, Bound, BehindType>(parts, cursor, budget, Terminal::Sign('+'))
 }

@@ -4,7 +4,7 @@ ghost use Rattle.educe_grammar.specs.Reads.{read, readers};
 ghost use Rattle.educe_grammar.specs.Rules.{nest, trees};
 ghost use Rattle.educe_grammar.specs.Steps.{Gives};
 
-use crate::looks::at_tree;
+use crate::lookahead::at_tree;
 use educe_grammar::{Cursor, ParseError, Terminal, many};
 use educe_tokens::Bracket;
 use std::alloc::Global;

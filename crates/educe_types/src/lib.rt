@@ -2,7 +2,7 @@
 //! piece of one.
 #![tactic(auto)]
 
-mod looks;
+mod lookahead;
 mod types;
 
 pub use types::{any_type, plain_type};

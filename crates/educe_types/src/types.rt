@@ -1,24 +1,27 @@
 //! Types (Rust Reference, Types).
-ghost use Rattle.std.specs.Prelude.{◌≡◌, ℕ, ◌+◌, IfOk};
+ghost use Rattle.std.specs.Prelude.{◌≡◌, ℕ, ◌+◌, [], IfOk};
+ghost use Rattle.educe_tree.specs.declared.ty.TypeForm.TheVariants as form;
+ghost use Rattle.educe_grammar.specs.declared.ending.Ending.TheVariants.{Closed};
 ghost use Rattle.educe_pieces.specs.declared.kind.Bracket.TheVariants.{Round};
 ghost use Rattle.educe_grammar.specs.Ahead.{one, stop};
 ghost use Rattle.educe_grammar.specs.Combining.{optional, skipping, flag, commas, sign, word, at, at_angle, at_sign, at_word};
 ghost use Rattle.educe_grammar.specs.Reads.{read};
-ghost use Rattle.educe_grammar.specs.Rules.{types, exprs, token, both, either, made, part};
+ghost use Rattle.educe_grammar.specs.Rules.{types, exprs, token, empty, both, either, made, part};
 ghost use Rattle.educe_grammar.specs.Steps.{Gives};
 ghost use Rattle.educe_grammar.specs.Types as spec;
 ghost use Rattle.educe_grammar.specs.declared.terminal.Keyword.TheVariants as keyword;
 ghost use Rattle.educe_grammar.specs.declared.terminal.Terminal.TheVariants as terminal;
 
-use crate::looks::{at_fn, at_fn_param, at_round_end};
+use crate::lookahead::{at_fn, at_fn_param};
 use educe_grammar::{
-    Cursor, Ending, Inside, Keyword, ParseError, Parts, Terminal, Typed, list, written,
+    Cursor, Ending, ExprInside, Inside, Keyword, ParseError, Parts, Production, RoundEnd, Terminal,
+    TypeInside, Typed, in_round, list, nested, optional_behind, written,
 };
 use educe_paths::{
-    BoundRead, bound, bound_paths, bounds, optional_for_all, output, qualified, skip_lifetime,
-    type_path, types_in_round,
+    Bound, BoundRead, bound_paths, bounds, optional_for_all, output, qualified, skip_lifetime,
+    type_path,
 };
-use educe_tokens::{Boxed, Bracket, Seq, pair, terminated};
+use educe_tokens::{Boxed, Bracket, Seq, pair};
 use educe_tree::{Expr, Ty, TypeForm, Types};
 use std::alloc::{AllocError, Global};
 
@@ -82,20 +85,20 @@ fn fn_qualifiers(alloc: Global, cursor: &mut Cursor<'_>, budget: u8) -> Result<(
     Ok(())
 }
 
-/// A comma and the types behind it, where one comes next (Rust Reference, Tuple types).
-#[tactic(auto, unfolding(educe_grammar::proofs::Opened::rules))]
-fn more_types<R: Inside>(
-    parts: &Parts<R>,
-    cursor: &mut Cursor<'_>,
-    budget: u8,
-) -> Result<Option<Types>, ParseError>
-    requires { R.nests parts.now.inside (budget + 1) }
-    ensures { Gives (read budget (optional (at_sign 44) (skipping (sign 44) (commas (at (stop Round)) (part types)))) cursor.old) result cursor.new }
-{
-    if !cursor.eat(Terminal::Sign(',')) {
-        return Ok(None);
+/// Types up to the end of round brackets (Rust Reference, Tuple types).
+struct CommaTypes;
+
+impl<R: Inside> Production<Parts<R>> for CommaTypes {
+    type Tree = Types;
+
+    ghost ready = { λ parts budget. R.nests parts.inside (budget + 1) };
+
+    ghost reads = { λ budget. read budget (commas (at (stop Round)) (part types)) };
+
+    #[tactic(auto, unfolding(educe_grammar::proofs::Opened::rules))]
+    fn parse(parts: &Parts<R>, cursor: &mut Cursor<'_>, budget: u8) -> Result<Types, ParseError> {
+        list::<Parts<R>, TypeInside, RoundEnd>(parts, cursor, budget, Terminal::Sign(','))
     }
-    Ok(Some(types_in_round(parts, cursor, budget)?))
 }
 
 /// A type, and those behind a comma (Rust Reference, Tuple types).
@@ -109,7 +112,37 @@ fn some_types<R: Inside>(
     ensures { Gives (read budget (both (part types) (optional (at_sign 44) (skipping (sign 44) (commas (at (stop Round)) (part types))))) cursor.old) result cursor.new }
 {
     let first = parts.ty(cursor, budget)?;
-    pair(first, more_types(parts, cursor, budget))
+    let comma = Terminal::Sign(',');
+    pair(
+        first,
+        optional_behind::<Parts<R>, CommaTypes>(parts, cursor, budget, comma),
+    )
+}
+
+/// What stands in the brackets of a parenthesis or a tuple (Rust Reference, Parenthesized types;
+/// Tuple types).
+struct RoundInside;
+
+impl<R: Inside> Production<Parts<R>> for RoundInside {
+    type Tree = FormRead;
+
+    ghost ready = { λ parts budget. R.nests parts.inside (budget + 1) };
+
+    ghost reads = { λ budget. read budget (either (at (stop Round)) (empty (form.Tuple [], Closed))
+        (made spec.round_of (both (part types) (optional (at_sign 44) (skipping (sign 44) (commas (at (stop Round)) (part types))))))) };
+
+    #[tactic(auto, unfolding(educe_grammar::proofs::Opened::rules))]
+    fn parse(
+        parts: &Parts<R>,
+        cursor: &mut Cursor<'_>,
+        budget: u8,
+    ) -> Result<FormRead, ParseError> {
+        if cursor.closes(Bracket::Round) {
+            return Ok((TypeForm::Tuple(Seq::new(parts.alloc)), Ending::Closed));
+        }
+        let (first, more) = some_types(parts, cursor, budget)?;
+        Ok(round_of(parts.alloc, first, more)?)
+    }
 }
 
 /// A parenthesis or a tuple (Rust Reference, Parenthesized types; Tuple types).
@@ -122,14 +155,7 @@ fn round_form<R: Inside>(
     requires { R.nests parts.now.inside budget }
     ensures { Gives (read budget spec.round_form cursor.old) result cursor.new }
 {
-    let below = cursor.open(budget, Bracket::Round)?;
-    if cursor.closes(Bracket::Round) {
-        cursor.expect_close(Bracket::Round)?;
-        return Ok((TypeForm::Tuple(Seq::new(parts.alloc)), Ending::Closed));
-    }
-    let found = some_types(parts, cursor, below)?;
-    let (first, more) = terminated(found, cursor.expect_close(Bracket::Round))?;
-    Ok(round_of(parts.alloc, first, more)?)
+    nested::<Parts<R>, RoundInside>(parts, cursor, budget, Bracket::Round)
 }
 
 /// `&'a mut` and a type (Rust Reference, Pointer types).
@@ -177,20 +203,29 @@ fn square_of(alloc: Global, item: Ty, length: Option<Expr>) -> Result<FormRead, 
     }
 }
 
-/// The length of an array, where one comes next (Rust Reference, Array types).
-#[tactic(auto, unfolding(educe_grammar::proofs::Opened::rules))]
-fn length<R: Inside>(
-    parts: &Parts<R>,
-    cursor: &mut Cursor<'_>,
-    budget: u8,
-) -> Result<Option<Expr>, ParseError>
-    requires { R.nests parts.now.inside (budget + 1) }
-    ensures { Gives (read budget (optional (at_sign 59) (skipping (sign 59) (part exprs))) cursor.old) result cursor.new }
-{
-    if !cursor.eat(Terminal::Sign(';')) {
-        return Ok(None);
+/// What stands in the brackets of a slice or an array (Rust Reference, Slice types; Array types).
+struct SquareInside;
+
+impl<R: Inside> Production<Parts<R>> for SquareInside {
+    type Tree = (Ty, Option<Expr>);
+
+    ghost ready = { λ parts budget. R.nests parts.inside (budget + 1) };
+
+    ghost reads = { λ budget. read budget (both (part types) (optional (at_sign 59) (skipping (sign 59) (part exprs)))) };
+
+    #[tactic(auto, unfolding(educe_grammar::proofs::Opened::rules))]
+    fn parse(
+        parts: &Parts<R>,
+        cursor: &mut Cursor<'_>,
+        budget: u8,
+    ) -> Result<(Ty, Option<Expr>), ParseError> {
+        let item = parts.ty(cursor, budget)?;
+        let semicolon = Terminal::Sign(';');
+        pair(
+            item,
+            optional_behind::<Parts<R>, ExprInside>(parts, cursor, budget, semicolon),
+        )
     }
-    Ok(Some(parts.expr(cursor, budget)?))
 }
 
 /// A slice or an array (Rust Reference, Slice types; Array types).
@@ -203,29 +238,28 @@ fn square_form<R: Inside>(
     requires { R.nests parts.now.inside budget }
     ensures { Gives (read budget spec.square_form cursor.old) result cursor.new }
 {
-    let below = cursor.open(budget, Bracket::Square)?;
-    let item = parts.ty(cursor, below)?;
-    let found = pair(item, length(parts, cursor, below))?;
-    let (item, length) = terminated(found, cursor.expect_close(Bracket::Square))?;
+    let (item, length) = nested::<Parts<R>, SquareInside>(parts, cursor, budget, Bracket::Square)?;
     Ok(square_of(parts.alloc, item, length)?)
 }
 
 /// A parameter of a function pointer (Rust Reference, Function pointer types).
-#[tactic(auto, unfolding(educe_grammar::proofs::Opened::rules, educe_grammar::specs::Types::fn_param))]
-fn fn_param<R: Inside>(
-    parts: &Parts<R>,
-    cursor: &mut Cursor<'_>,
-    budget: u8,
-) -> Result<Ty, ParseError>
-    requires { R.nests parts.now.inside (budget + 1) }
-    ensures { Gives (read budget spec.fn_param cursor.old) result cursor.new }
-{
-    if at_fn_param(cursor) {
-        cursor.expect(Terminal::NameOrUnderscore)?;
-        cursor.skip_lone(':', ':')?;
-        return parts.ty(cursor, budget);
+struct FnParam;
+
+impl<R: Inside> Production<Parts<R>> for FnParam {
+    type Tree = Ty;
+
+    ghost ready = { λ parts budget. R.nests parts.inside (budget + 1) };
+
+    ghost reads = { λ budget. read budget spec.fn_param };
+
+    #[tactic(auto, unfolding(educe_grammar::proofs::Opened::rules, educe_grammar::specs::Types::fn_param))]
+    fn parse(parts: &Parts<R>, cursor: &mut Cursor<'_>, budget: u8) -> Result<Ty, ParseError> {
+        if at_fn_param(cursor) {
+            cursor.expect(Terminal::NameOrUnderscore)?;
+            cursor.skip_lone(':', ':')?;
+        }
+        parts.ty(cursor, budget)
     }
-    parts.ty(cursor, budget)
 }
 
 /// A function pointer (Rust Reference, Function pointer types).
@@ -240,15 +274,7 @@ fn fn_pointer<R: Inside>(
 {
     fn_qualifiers(parts.alloc, cursor, budget)?;
     cursor.expect(Terminal::Word(Keyword::Fn))?;
-    let below = cursor.open(budget, Bracket::Round)?;
-    let params = list(
-        parts.alloc,
-        cursor,
-        Terminal::Sign(','),
-        at_round_end,
-        |cursor| fn_param(parts, cursor, below),
-    )?;
-    let params = terminated(params, cursor.expect_close(Bracket::Round))?;
+    let params = in_round::<Parts<R>, FnParam>(parts, cursor, budget)?;
     let (params, output) = pair(params, output(parts, cursor, budget))?;
     Ok(fn_of(parts.alloc, params, output)?)
 }
@@ -313,43 +339,57 @@ fn one_bound_object(alloc: Global, found: BoundRead) -> Result<FormRead, AllocEr
 }
 
 /// The form of a type, where `dyn` has one bound (Rust Reference, Trait objects).
-#[tactic(auto, unfolding(educe_grammar::proofs::Opened::rules, educe_grammar::specs::Types::one_bound_form))]
-fn one_bound_form<R: Inside>(
-    parts: &Parts<R>,
-    cursor: &mut Cursor<'_>,
-    budget: u8,
-) -> Result<FormRead, ParseError>
-    requires { R.nests parts.now.inside budget }
-    ensures { Gives (read budget spec.one_bound_form cursor.old) result cursor.new }
-{
-    if !cursor.sees(Terminal::Word(Keyword::Dyn)) {
-        return plain_form(parts, cursor, budget);
+struct OneBoundForm;
+
+impl<R: Inside> Production<Parts<R>> for OneBoundForm {
+    type Tree = FormRead;
+
+    ghost ready = { λ parts budget. R.nests parts.inside budget };
+
+    ghost reads = { λ budget. read budget spec.one_bound_form };
+
+    #[tactic(auto, unfolding(educe_grammar::proofs::Opened::rules, educe_grammar::specs::Types::one_bound_form))]
+    fn parse(
+        parts: &Parts<R>,
+        cursor: &mut Cursor<'_>,
+        budget: u8,
+    ) -> Result<FormRead, ParseError> {
+        if !cursor.sees(Terminal::Word(Keyword::Dyn)) {
+            return plain_form(parts, cursor, budget);
+        }
+        let below = cursor.open_under(budget, Terminal::Word(Keyword::Dyn))?;
+        let found = Bound::parse(parts, cursor, below)?;
+        Ok(one_bound_object(parts.alloc, found)?)
     }
-    let below = cursor.open_under(budget, Terminal::Word(Keyword::Dyn))?;
-    let found = bound(parts, cursor, below)?;
-    Ok(one_bound_object(parts.alloc, found)?)
 }
 
 /// The form of a type, where `dyn` has any bounds (Rust Reference, Trait objects).
-#[tactic(auto, unfolding(educe_grammar::proofs::Opened::rules, educe_grammar::specs::Types::any_bounds_form))]
-fn any_bounds_form<R: Inside>(
-    parts: &Parts<R>,
-    cursor: &mut Cursor<'_>,
-    budget: u8,
-) -> Result<FormRead, ParseError>
-    requires { R.nests parts.now.inside budget }
-    ensures { Gives (read budget spec.any_bounds_form cursor.old) result cursor.new }
-{
-    if !cursor.sees(Terminal::Word(Keyword::Dyn)) {
-        return plain_form(parts, cursor, budget);
+struct AnyBoundsForm;
+
+impl<R: Inside> Production<Parts<R>> for AnyBoundsForm {
+    type Tree = FormRead;
+
+    ghost ready = { λ parts budget. R.nests parts.inside budget };
+
+    ghost reads = { λ budget. read budget spec.any_bounds_form };
+
+    #[tactic(auto, unfolding(educe_grammar::proofs::Opened::rules, educe_grammar::specs::Types::any_bounds_form))]
+    fn parse(
+        parts: &Parts<R>,
+        cursor: &mut Cursor<'_>,
+        budget: u8,
+    ) -> Result<FormRead, ParseError> {
+        if !cursor.sees(Terminal::Word(Keyword::Dyn)) {
+            return plain_form(parts, cursor, budget);
+        }
+        let below = cursor.open_under(budget, Terminal::Word(Keyword::Dyn))?;
+        let found = bounds(parts, cursor, below)?;
+        if found.len() == 0 {
+            return Err(cursor.refuse());
+        }
+        let paths = bound_paths(parts.alloc, found)?;
+        Ok((TypeForm::TraitObject(paths), Ending::Closed))
     }
-    let below = cursor.open_under(budget, Terminal::Word(Keyword::Dyn))?;
-    let found = bounds(parts, cursor, below)?;
-    if found.len() == 0 {
-        return Err(cursor.refuse());
-    }
-    let paths = bound_paths(parts.alloc, found)?;
-    Ok((TypeForm::TraitObject(paths), Ending::Closed))
 }
 
 /// A type whose `dyn` has one bound (Rust Reference, Type expressions).
@@ -362,10 +402,7 @@ pub fn plain_type<R: Inside>(
     requires { R.nests parts.now.inside budget }
     ensures { Gives (read budget spec.plain_type cursor.old) result cursor.new }
 {
-    let ((form, ending), written) = written(
-        cursor,
-        |cursor| one_bound_form(parts, cursor, budget),
-    )?;
+    let ((form, ending), written) = written::<Parts<R>, OneBoundForm>(parts, cursor, budget)?;
     Ok((Ty { form, written }, ending))
 }
 
@@ -379,6 +416,6 @@ pub fn any_type<R: Inside>(
     requires { R.nests parts.now.inside budget }
     ensures { Gives (read budget spec.any_type cursor.old) result cursor.new }
 {
-    let ((form, _), written) = written(cursor, |cursor| any_bounds_form(parts, cursor, budget))?;
+    let ((form, _), written) = written::<Parts<R>, AnyBoundsForm>(parts, cursor, budget)?;
     Ok(Ty { form, written })
 }

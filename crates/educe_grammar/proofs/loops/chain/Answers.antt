@@ -6,19 +6,16 @@ use Rattle.educe_grammar.specs.Running.{links}
 use Rattle.educe_grammar.proofs.Turns.{one_more, no_more}
 use Rattle.educe_grammar.proofs.loops.chain.Goals as goal
 
-pub returns-then-not-begins : goal.returns-then-not-begins
+pub returns-then-not-is_next : goal.returns-then-not-is_next
 unfolding links
-returns-then-not-begins g c = λ look read as_look as_read.
-    let e = one_more (λ n. links look read n c.loop-link.found c.loop-link.cursor) 128 c.loop-link._link c.loop-link-test.true (c.loop-link.invariant look read as_look as_read) in
-    let s = as_look.decides _ _ c.begins.ensures in
+returns-then-not-is_next g c =
+    let e = one_more (λ n. links g.S.Lookahead.look (g.P.Production.reads c.args.budget) n c.loop-link.found c.loop-link.cursor) 128 c.loop-link._link c.loop-link-test.true c.loop-link.invariant in
     first_of (search rules, grind (arith, common_steps))
 
-pub returns-in_err-item : goal.returns-in_err-item
+pub returns-in_err-parse : goal.returns-in_err-parse
 unfolding links
-returns-in_err-item g c = λ look read as_look as_read.
-    let e = one_more (λ n. links look read n c.loop-link.found c.loop-link.cursor) 128 c.loop-link._link c.loop-link-test.true (c.loop-link.invariant look read as_look as_read) in
-    let s = as_look.decides _ _ c.begins.ensures in
-    let r = as_read.reads _ _ _ c.in_err-item.ensures in
+returns-in_err-parse g c =
+    let e = one_more (λ n. links g.S.Lookahead.look (g.P.Production.reads c.args.budget) n c.loop-link.found c.loop-link.cursor) 128 c.loop-link._link c.loop-link-test.true c.loop-link.invariant in
     first_of (search rules, grind (arith, common_steps))
 
 -- one link more
@@ -28,22 +25,19 @@ unfolding links
 link_read look read n found ts x rest seen is = rw (seen, is)
 
 pub loop-link-preserved : goal.loop-link-preserved
-loop-link-preserved g c = λ look read as_look as_read.
-    let e = one_more (λ n. links look read n c.loop-link.found c.loop-link.cursor) 128 c.loop-link._link c.loop-link-test.true (c.loop-link.invariant look read as_look as_read) in
-    let s = as_look.decides _ _ c.begins.ensures in
-    let r = as_read.reads _ _ _ c.in_ok-item.ensures in
-    e ∙ link_read look read _ _ _ _ _ (sym s ∙ c.if-not-begins.false) r ∙ (λ i. links look read (128 - (c.loop-link._link + 1)) (sym (c.in_ok-push.ensures.ok) i) c.item.new.arg2)
+loop-link-preserved g c =
+    let e = one_more (λ n. links g.S.Lookahead.look (g.P.Production.reads c.args.budget) n c.loop-link.found c.loop-link.cursor) 128 c.loop-link._link c.loop-link-test.true c.loop-link.invariant in
+    e ∙ link_read g.S.Lookahead.look (g.P.Production.reads c.args.budget) _ _ _ _ _ (sym c.is_next.ensures ∙ c.if-not-is_next.false) c.in_ok-parse.ensures
+    ∙ (λ i. links g.S.Lookahead.look (g.P.Production.reads c.args.budget) (128 - (c.loop-link._link + 1)) (sym (c.in_ok-push.ensures.ok) i) c.parse.new.cursor)
 
-pub returns-then-begins : goal.returns-then-begins
+pub returns-then-is_next : goal.returns-then-is_next
 unfolding links
-returns-then-begins g c = λ look read as_look as_read.
-    let e = no_more (λ n. links look read n c.loop-link.found c.loop-link.cursor) 128 c.loop-link._link c.loop-link-test.false (c.loop-link.invariant look read as_look as_read) in
-    let s = as_look.decides _ _ c.begins-2.ensures in
+returns-then-is_next g c =
+    let e = no_more (λ n. links g.S.Lookahead.look (g.P.Production.reads c.args.budget) n c.loop-link.found c.loop-link.cursor) 128 c.loop-link._link c.loop-link-test.false c.loop-link.invariant in
     first_of (search rules, grind (arith, common_steps))
 
 pub returns : goal.returns
 unfolding links
-returns g c = λ look read as_look as_read.
-    let e = no_more (λ n. links look read n c.loop-link.found c.loop-link.cursor) 128 c.loop-link._link c.loop-link-test.false (c.loop-link.invariant look read as_look as_read) in
-    let s = as_look.decides _ _ c.begins-2.ensures in
+returns g c =
+    let e = no_more (λ n. links g.S.Lookahead.look (g.P.Production.reads c.args.budget) n c.loop-link.found c.loop-link.cursor) 128 c.loop-link._link c.loop-link-test.false c.loop-link.invariant in
     first_of (search rules, grind (arith, common_steps))

@@ -5,39 +5,32 @@ use Rattle.educe_grammar.specs.Running.{items}
 use Rattle.educe_grammar.proofs.Turns.{one_more, no_more}
 use Rattle.educe_grammar.proofs.loops.list.Goals as goal
 
-pub returns-then-stops : goal.returns-then-stops
+pub returns-then-is_next : goal.returns-then-is_next
 unfolding items
-returns-then-stops g c = λ stop read as_stop as_read.
-    let e = one_more (λ n. items (accepts c.args.separator) stop read n c.loop-turn.found c.loop-turn.cursor) _ c.loop-turn._turn c.loop-turn-test.true (c.loop-turn.invariant stop read as_stop as_read) in
-    let s = as_stop.decides _ _ c.stops.ensures in
+returns-then-is_next g c =
+    let e = one_more (λ n. items (accepts c.args.separator) g.S.Lookahead.look (g.P.Production.reads c.args.budget) n c.loop-turn.found c.loop-turn.cursor) _ c.loop-turn._turn c.loop-turn-test.true c.loop-turn.invariant in
     first_of (search rules, grind (arith, common_steps))
 
-pub returns-in_err-item : goal.returns-in_err-item
+pub returns-in_err-parse : goal.returns-in_err-parse
 unfolding items
-returns-in_err-item g c = λ stop read as_stop as_read.
-    let e = one_more (λ n. items (accepts c.args.separator) stop read n c.loop-turn.found c.loop-turn.cursor) _ c.loop-turn._turn c.loop-turn-test.true (c.loop-turn.invariant stop read as_stop as_read) in
-    let s = as_stop.decides _ _ c.stops.ensures in
-    let r = as_read.reads _ _ _ c.in_err-item.ensures in
+returns-in_err-parse g c =
+    let e = one_more (λ n. items (accepts c.args.separator) g.S.Lookahead.look (g.P.Production.reads c.args.budget) n c.loop-turn.found c.loop-turn.cursor) _ c.loop-turn._turn c.loop-turn-test.true c.loop-turn.invariant in
     first_of (search rules, grind (arith, common_steps))
 
 pub returns-then-not-eat : goal.returns-then-not-eat
 unfolding items
-returns-then-not-eat g c = λ stop read as_stop as_read.
-    let e = one_more (λ n. items (accepts c.args.separator) stop read n c.loop-turn.found c.loop-turn.cursor) _ c.loop-turn._turn c.loop-turn-test.true (c.loop-turn.invariant stop read as_stop as_read) in
-    let s = as_stop.decides _ _ c.stops.ensures in
-    let r = as_read.reads _ _ _ c.in_ok-item.ensures in
+returns-then-not-eat g c =
+    let e = one_more (λ n. items (accepts c.args.separator) g.S.Lookahead.look (g.P.Production.reads c.args.budget) n c.loop-turn.found c.loop-turn.cursor) _ c.loop-turn._turn c.loop-turn-test.true c.loop-turn.invariant in
     first_of (search rules, grind (arith, common_steps))
 
 pub loop-turn-preserved : goal.loop-turn-preserved
 unfolding items
-loop-turn-preserved g c = λ stop read as_stop as_read.
-    let e = one_more (λ n. items (accepts c.args.separator) stop read n c.loop-turn.found c.loop-turn.cursor) _ c.loop-turn._turn c.loop-turn-test.true (c.loop-turn.invariant stop read as_stop as_read) in
-    let s = as_stop.decides _ _ c.stops.ensures in
-    let r = as_read.reads _ _ _ c.in_ok-item.ensures in
+loop-turn-preserved g c =
+    let e = one_more (λ n. items (accepts c.args.separator) g.S.Lookahead.look (g.P.Production.reads c.args.budget) n c.loop-turn.found c.loop-turn.cursor) _ c.loop-turn._turn c.loop-turn-test.true c.loop-turn.invariant in
     first_of (search rules, grind (arith, common_steps))
 
 pub returns : goal.returns
 unfolding items
-returns g c = λ stop read as_stop as_read.
-    let e = no_more (λ n. items (accepts c.args.separator) stop read n c.loop-turn.found c.loop-turn.cursor) _ c.loop-turn._turn c.loop-turn-test.false (c.loop-turn.invariant stop read as_stop as_read) in
+returns g c =
+    let e = no_more (λ n. items (accepts c.args.separator) g.S.Lookahead.look (g.P.Production.reads c.args.budget) n c.loop-turn.found c.loop-turn.cursor) _ c.loop-turn._turn c.loop-turn-test.false c.loop-turn.invariant in
     first_of (search rules, grind (arith, common_steps))

@@ -21,8 +21,7 @@ kept : {A : Type 0} (x : A) (w : Written) (rest tokens : Tokens) → w.tokens �
 kept x w rest tokens same = subst (Keeps x w rest) same (kept_if x w rest (may_be_copied (lexemes w.tokens)) refl w.written)
 
 pub returns : goal.returns
-returns g c = λ read as_read.
-    let r = as_read.reads _ _ _ c.in_ok-found.ensures in
-    let tokens : c.new.result.tokens ≡ since c.args.cursor.now c.item.new.arg2 = c.new.ensures ∙ c.in_ok-tokens.ensures ∙ ap (λ start. since start c.item.new.arg2) c.mark-start.ensures in
-    ap (λ o. and_then o (λ x rest. written_if x (since c.args.cursor.now rest) rest (may_be_copied (lexemes (since c.args.cursor.now rest))) refl)) r
-    ∙ kept c.in_ok-found.found c.new.result c.item.new.arg2 _ tokens
+returns g c =
+    let tokens : c.new.result.tokens ≡ since c.args.cursor.now c.parse.new.cursor = c.new.ensures ∙ c.in_ok-tokens.ensures ∙ ap (λ start. since start c.parse.new.cursor) c.mark-start.ensures in
+    ap (λ o. and_then o (λ x rest. written_if x (since c.args.cursor.now rest) rest (may_be_copied (lexemes (since c.args.cursor.now rest))) refl)) c.in_ok-found.ensures
+    ∙ kept c.in_ok-found.found c.new.result c.parse.new.cursor _ tokens

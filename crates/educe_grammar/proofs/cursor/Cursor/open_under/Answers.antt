@@ -3,4 +3,4 @@ use Rattle.educe_grammar.proofs.cursor.Cursor.open_under.Goals as goal
 
 pub returns-clause-outcome : goal.returns-clause-outcome
 returns-clause-outcome c =
-    let taken = c.in_ok-expect.ensures in opener_taken _ c.args.budget _ c.args.self.now _ (record { token = c.in_ok-expect.field-0.now; passes = taken.0 }) c.enter.result taken.1 c.left-left.ensures.count c.enter.ensures.outcome
+    let taken = c.in_ok-expect.ensures.taken in opener_taken _ c.args.budget _ c.args.self.now _ (record { token = c.in_ok-expect.field-0.now; passes = taken.0 }) c.enter.result taken.1 c.left-left.ensures.count c.enter.ensures.outcome

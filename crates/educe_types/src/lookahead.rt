@@ -1,21 +1,10 @@
-//! What the next tokens may begin.
+//! Lookaheads: what the next tokens may begin.
 ghost use Rattle.std.specs.Prelude.{◌≡◌, [], ◌∷◌};
-ghost use Rattle.educe_pieces.specs.declared.kind.Bracket.TheVariants.{Round};
-ghost use Rattle.educe_grammar.specs.Ahead.{sees_any, one, lone, stop};
-ghost use Rattle.educe_grammar.specs.Combining.{at};
+ghost use Rattle.educe_grammar.specs.Ahead.{sees_any, one, lone};
 ghost use Rattle.educe_grammar.specs.declared.terminal.Terminal.TheVariants as terminal;
 ghost use Rattle.educe_grammar.specs.Types as types;
 
 use educe_grammar::{Cursor, Keyword, Terminal};
-use educe_tokens::Bracket;
-
-/// The end of round brackets.
-#[tactic(auto, unfolding(educe_grammar::specs::Ahead::sees_any))]
-pub fn at_round_end(cursor: &Cursor<'_>) -> bool
-    ensures { result ≡ sees_any (at (stop Round)) cursor.now }
-{
-    cursor.closes(Bracket::Round)
-}
 
 /// The name of a parameter, and `:` (Rust Reference, Function pointer types).
 #[tactic(auto, using(educe_grammar::proofs::Behind::behind_one), unfolding(educe_grammar::specs::Ahead::sees_any))]

@@ -1,13 +1,12 @@
-//! What the next tokens may begin.
+//! Lookaheads: what the next tokens may begin.
 ghost use Rattle.std.specs.Prelude.{◌≡◌};
-ghost use Rattle.educe_pieces.specs.declared.kind.Bracket.TheVariants.{Curly};
-ghost use Rattle.educe_grammar.specs.Ahead.{sees_any, stop};
+ghost use Rattle.educe_grammar.specs.Ahead.{sees_any, finish};
 ghost use Rattle.educe_grammar.specs.Attributes as attributes;
 ghost use Rattle.educe_grammar.specs.Combining.{at};
 ghost use Rattle.educe_grammar.specs.Definitions as definitions;
 ghost use Rattle.educe_grammar.specs.Generics as generics;
 
-use educe_grammar::{Cursor, Keyword, Terminal};
+use educe_grammar::{Cursor, Keyword, Lookahead, Terminal};
 use educe_tokens::Bracket;
 
 /// A bracket pair (Rust Reference, Delimited token trees).
@@ -27,19 +26,27 @@ pub fn at_attribute(cursor: &Cursor<'_>) -> bool
 }
 
 /// What stands behind a where clause (Rust Reference, Where clauses).
-#[tactic(auto, unfolding(educe_grammar::specs::Ahead::sees_any))]
-pub fn behind_where(cursor: &Cursor<'_>) -> bool
-    ensures { result ≡ sees_any generics.behind_where cursor.now }
-{
-    cursor.opens(Bracket::Curly) || cursor.sees(Terminal::Sign(';')) || cursor.at_end()
+pub struct BehindWhere;
+
+impl Lookahead for BehindWhere {
+    ghost look = { generics.behind_where };
+
+    #[tactic(auto, unfolding(educe_grammar::specs::Ahead::sees_any))]
+    fn is_next(cursor: &Cursor<'_>) -> bool {
+        cursor.opens(Bracket::Curly) || cursor.sees(Terminal::Sign(';')) || cursor.at_end()
+    }
 }
 
-/// The end of curly brackets (Rust Reference, Structs; Enumerations).
-#[tactic(auto, unfolding(educe_grammar::specs::Ahead::sees_any))]
-pub fn at_curly_end(cursor: &Cursor<'_>) -> bool
-    ensures { result ≡ sees_any (at (stop Curly)) cursor.now }
-{
-    cursor.closes(Bracket::Curly)
+/// The end of the tokens.
+pub struct AtEnd;
+
+impl Lookahead for AtEnd {
+    ghost look = { at finish };
+
+    #[tactic(auto, unfolding(educe_grammar::specs::Ahead::sees_any))]
+    fn is_next(cursor: &Cursor<'_>) -> bool {
+        cursor.at_end()
+    }
 }
 
 /// A scope in brackets, and not a type in them (Rust Reference, Visibility and privacy).

@@ -1,46 +1,32 @@
-//! What the next tokens may begin.
+//! Lookaheads: what the next tokens may begin.
 ghost use Rattle.std.specs.Prelude.{◌≡◌};
-ghost use Rattle.educe_pieces.specs.declared.kind.Bracket.TheVariants.{Round};
-ghost use Rattle.educe_grammar.specs.Ahead.{sees_any, stop};
-ghost use Rattle.educe_grammar.specs.Combining.{at, at_sign};
+ghost use Rattle.educe_grammar.specs.Ahead.{sees_any};
 ghost use Rattle.educe_grammar.specs.Expressions as expressions;
 ghost use Rattle.educe_grammar.specs.Types as types;
 
-use educe_grammar::{Cursor, Keyword, Terminal};
+use educe_grammar::{Cursor, Keyword, Lookahead, Terminal};
 use educe_tokens::Bracket;
 
 /// What stands behind a type or behind bounds.
-#[tactic(auto, unfolding(educe_grammar::specs::Ahead::sees_any))]
-pub fn behind_type(cursor: &Cursor<'_>) -> bool
-    ensures { result ≡ sees_any types.behind_type cursor.now }
-{
-    cursor.sees(Terminal::Sign(','))
-        || cursor.sees(Terminal::Sign(';'))
-        || cursor.sees(Terminal::Sign('='))
-        || cursor.sees(Terminal::Sign('>'))
-        || cursor.begins_lone(':', ':')
-        || cursor.opens(Bracket::Curly)
-        || cursor.closes(Bracket::Round)
-        || cursor.closes(Bracket::Square)
-        || cursor.closes(Bracket::Curly)
-        || cursor.sees(Terminal::Word(Keyword::As))
-        || cursor.at_end()
-}
+pub struct BehindType;
 
-/// The end of round brackets.
-#[tactic(auto, unfolding(educe_grammar::specs::Ahead::sees_any))]
-pub fn at_round_end(cursor: &Cursor<'_>) -> bool
-    ensures { result ≡ sees_any (at (stop Round)) cursor.now }
-{
-    cursor.closes(Bracket::Round)
-}
+impl Lookahead for BehindType {
+    ghost look = { types.behind_type };
 
-/// The end of angle brackets.
-#[tactic(auto, unfolding(educe_grammar::specs::Ahead::sees_any))]
-pub fn at_angle_end(cursor: &Cursor<'_>) -> bool
-    ensures { result ≡ sees_any (at_sign 62) cursor.now }
-{
-    cursor.sees(Terminal::Sign('>'))
+    #[tactic(auto, unfolding(educe_grammar::specs::Ahead::sees_any))]
+    fn is_next(cursor: &Cursor<'_>) -> bool {
+        cursor.sees(Terminal::Sign(','))
+            || cursor.sees(Terminal::Sign(';'))
+            || cursor.sees(Terminal::Sign('='))
+            || cursor.sees(Terminal::Sign('>'))
+            || cursor.begins_lone(':', ':')
+            || cursor.opens(Bracket::Curly)
+            || cursor.closes(Bracket::Round)
+            || cursor.closes(Bracket::Square)
+            || cursor.closes(Bracket::Curly)
+            || cursor.sees(Terminal::Word(Keyword::As))
+            || cursor.at_end()
+    }
 }
 
 /// A constant, which is no name.

@@ -1,0 +1,85 @@
+//! Lookaheads: what the next tokens may begin.
+ghost use Rattle.std.specs.Prelude.{◌≡◌};
+ghost use Rattle.educe_grammar.specs.Ahead.{sees_any};
+ghost use Rattle.educe_grammar.specs.Expressions as expressions;
+
+use educe_grammar::{Cursor, Keyword, Lookahead, Terminal};
+use educe_tokens::Bracket;
+
+/// `::<`, with arguments behind it.
+#[tactic(auto, using(educe_grammar::proofs::Behind::behind_pair), unfolding(educe_grammar::specs::Ahead::sees_any))]
+pub fn at_turbofish(cursor: &Cursor<'_>) -> bool
+    ensures { result ≡ sees_any expressions.at_turbofish cursor.now }
+{
+    cursor.begins_pair(':', ':') && cursor.behind(2).begins_lone('<', '=')
+}
+
+/// The name of a field, and the colon before its value.
+#[tactic(auto, using(educe_grammar::proofs::Behind::behind_one), unfolding(educe_grammar::specs::Ahead::sees_any))]
+pub fn at_value(cursor: &Cursor<'_>) -> bool
+    ensures { result ≡ sees_any expressions.at_value cursor.now }
+{
+    cursor.sees(Terminal::NameOrIndex) && cursor.behind(1).begins_lone(':', ':')
+}
+
+/// What stands behind the fields of a struct.
+pub struct BehindFields;
+
+impl Lookahead for BehindFields {
+    ghost look = { expressions.behind_fields };
+
+    #[tactic(auto, unfolding(educe_grammar::specs::Ahead::sees_any))]
+    fn is_next(cursor: &Cursor<'_>) -> bool {
+        cursor.closes(Bracket::Curly) || cursor.begins_pair('.', '.')
+    }
+}
+
+/// A prefix of an operand.
+pub struct AtPrefix;
+
+impl Lookahead for AtPrefix {
+    ghost look = { expressions.at_prefix };
+
+    #[tactic(auto, unfolding(educe_grammar::specs::Ahead::sees_any))]
+    fn is_next(cursor: &Cursor<'_>) -> bool {
+        cursor.sees(Terminal::PrefixSign) || cursor.sees(Terminal::Sign('&'))
+    }
+}
+
+/// A postfix of an operand.
+pub struct AtPostfix;
+
+impl Lookahead for AtPostfix {
+    ghost look = { expressions.at_postfix };
+
+    #[tactic(auto, unfolding(educe_grammar::specs::Ahead::sees_any))]
+    fn is_next(cursor: &Cursor<'_>) -> bool {
+        cursor.opens(Bracket::Round)
+            || cursor.opens(Bracket::Square)
+            || cursor.begins_lone('.', '.')
+    }
+}
+
+/// `as` or an operator with two operands.
+pub struct AtLink;
+
+impl Lookahead for AtLink {
+    ghost look = { expressions.at_link };
+
+    #[tactic(auto, unfolding(educe_grammar::specs::Ahead::sees_any))]
+    fn is_next(cursor: &Cursor<'_>) -> bool {
+        cursor.sees(Terminal::Word(Keyword::As))
+            || cursor.sees(Terminal::Sign('+'))
+            || cursor.sees(Terminal::Sign('-'))
+            || cursor.sees(Terminal::Sign('*'))
+            || cursor.sees(Terminal::Sign('/'))
+            || cursor.sees(Terminal::Sign('%'))
+            || cursor.sees(Terminal::Sign('^'))
+            || cursor.sees(Terminal::Sign('&'))
+            || cursor.sees(Terminal::Sign('|'))
+            || cursor.sees(Terminal::Sign('<'))
+            || cursor.sees(Terminal::Sign('>'))
+            || cursor.begins_pair('=', '=')
+            || cursor.begins_pair('!', '=')
+    }
+}
