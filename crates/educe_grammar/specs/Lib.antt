@@ -20,3 +20,4 @@ pub mod Running
 pub mod Placed
 pub mod Few
 pub mod Alike
+pub mod Causes
