@@ -1,16 +1,15 @@
 -- The metas in a bracket pair.
-use Rattle.std.proofs.Common.{◌≡◌, List, [], ◌∷◌, Some, None, Ok, Err, refl, sym, ap, subst, ◌∙◌, append-nil, ◌⊎◌, inl, inr}
+use Rattle.std.proofs.Common.{◌≡◌, List, [], ◌∷◌, Some, None, Ok, Err, refl, sym, ap, ◌∙◌, ◌⊎◌, inl, inr}
 use Rattle.educe_tokens.specs.declared.token.Token.{Token}
 use Rattle.educe_tokens.specs.declared.error.EduceError.{EduceError}
 use Rattle.educe_tokens.specs.declared.error.Kind.TheVariants.{Alloc}
 use Rattle.educe_tree.specs.declared.attr.Meta.{Meta}
 use Rattle.educe_grammar.specs.declared.parse_error.ParseError.{ParseError}
 use Rattle.educe_grammar.specs.Steps.{Outcome}
-use Rattle.educe_grammar.specs.Reads.{Reads, read}
+use Rattle.educe_grammar.specs.Reads.{read}
 use Rattle.educe_grammar.specs.Attributes.{metas}
 use Rattle.educe_grammar.specs.Parsed.{depth_limit, IsWhole, IsParseCause, syntax, too_deep, memory, stop_of}
-use Rattle.educe_grammar.proofs.Sound.{reads_sound}
-use Rattle.educe_grammar.proofs.ReadsAgain.{metas_again}
+use Rattle.educe_parser.specs.Laws.{lawful_metas}
 use Rattle.educe_attrs.specs.Metas.{inside, whole_value, metas_in, AreMetasInside}
 
 -- what was read to its end
@@ -29,7 +28,7 @@ stopped (Err f) e h = refl
 pub found_inside : (tokens inner : List Token) (found : List Meta) → inner ≡ inside tokens → IsWhole metas inner found → Some found ≡ metas_in tokens
 unfolding metas_in
 found_inside tokens inner found is whole =
-    sym (ap whole_value (ap (λ ts. read depth_limit metas ts) (sym is) ∙ metas_again depth_limit inner found whole))
+    sym (ap whole_value (ap (λ ts. read depth_limit metas ts) (sym is) ∙ (lawful_metas.by_program inner found).0 whole))
 
 -- a refusal that is no want of memory says that there are none
 pub none_inside : (tokens inner : List Token) (e : EduceError) → inner ≡ inside tokens → IsParseCause metas inner e → (e.kind ≡ Alloc) ⊎ (None ≡ metas_in tokens)
@@ -41,12 +40,6 @@ none_inside tokens inner e is memory = inl refl
 -- the metas in a bracket pair are those of the grammar
 pub are_metas_inside : (tokens : List Token) → AreMetasInside tokens
 unfolding metas_in
-are_metas_inside tokens found = (to, from)
-  where
-    to : whole_value (read depth_limit metas (inside tokens)) ≡ Some found → IsWhole metas (inside tokens) found
-    to h =
-        let took = reads_sound depth_limit metas (inside tokens) [] found (ended (read depth_limit metas (inside tokens)) found h) in
-        subst (λ ts. Reads depth_limit metas ts found) (sym (took.whole ∙ append-nil took.front)) took.is_in
-
-    from : IsWhole metas (inside tokens) found → whole_value (read depth_limit metas (inside tokens)) ≡ Some found
-    from h = ap whole_value (metas_again depth_limit (inside tokens) found h)
+are_metas_inside tokens found =
+    let by_program = lawful_metas.by_program (inside tokens) found in
+    ((λ h. by_program.1 (ended (read depth_limit metas (inside tokens)) found h)), (λ h. ap whole_value (by_program.0 h)))

@@ -13,7 +13,7 @@ use Rattle.educe_tokens.proofs.Uncaused.{no_cause}
 use Rattle.educe_tokens.proofs.Unique.{lexes_one}
 use Rattle.educe_tree.specs.declared.derive.DeriveInput.{DeriveInput}
 use Rattle.educe_grammar.specs.Refusal.{IsRefusalOf}
-use Rattle.educe_grammar.proofs.Refusals.{one_refusal}
+use Rattle.educe_parser.specs.Laws.{lawful_definitions}
 use Rattle.educe_traits.specs.declared.traits.Trait.{Trait}
 use Rattle.educe_traits.specs.declared.traits.Trait.TheVariants.{PartialEq, PartialOrd, Ord}
 use Rattle.educe_traits.specs.Traits.{is_listed}
@@ -108,7 +108,7 @@ module _ (source : List ℕ) where
   cause_once e f (IsCause.grammatical ts are refusal) (IsCause.lexical cause) kind kind_also = not_lexical ts f are cause kind_also
   cause_once e f (IsCause.handled d defines also) (IsCause.lexical cause) kind kind_also = not_lexical d.tokens f defines.tokens_are cause kind_also
   cause_once e f (IsCause.grammatical ts are refusal) (IsCause.grammatical us are_also also) kind kind_also =
-      one_refusal us e f (subst (λ (xs : List Token). IsRefusalOf xs e) (lexes_one (chars source) ts us are.lexes are_also.lexes) refusal) also kind kind_also
+      lawful_definitions.one_cause us e f (subst (λ (xs : List Token). IsRefusalOf xs e) (lexes_one (chars source) ts us are.lexes are_also.lexes) refusal) also kind kind_also
   cause_once e f (IsCause.grammatical ts are refusal) (IsCause.handled d defines also) kind kind_also = not_grammatical ts d e are refusal defines kind
   cause_once e f (IsCause.handled d defines also) (IsCause.grammatical ts are refusal) kind kind_also = not_grammatical ts d f are refusal defines kind_also
   cause_once e f (IsCause.handled d defines cause) (IsCause.handled o also cause_also) kind kind_also =

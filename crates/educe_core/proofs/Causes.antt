@@ -19,14 +19,11 @@ use Rattle.educe_tokens.proofs.Unique.{lexes_one}
 use Rattle.educe_tokens.proofs.Uncaused.{no_cause}
 use Rattle.educe_tree.specs.declared.derive.DeriveInput.{DeriveInput}
 use Rattle.educe_grammar.specs.Definitions.{definition}
-use Rattle.educe_grammar.specs.Naming.{AreNamesApart, scopes}
-use Rattle.educe_grammar.specs.Parsed.{depth_limit, IsWhole, IsParseCause}
+use Rattle.educe_grammar.specs.Naming.{AreNamesApart}
+use Rattle.educe_grammar.specs.Parsed.{IsWhole}
 use Rattle.educe_grammar.specs.Reading.{Parses}
 use Rattle.educe_grammar.specs.Refusal.{IsRefusalOf}
-use Rattle.educe_grammar.proofs.ReadsAgain.{definition_again, one_reading}
-use Rattle.educe_grammar.proofs.Refusals.{refused_undefined}
-use Rattle.educe_grammar.proofs.Repeated.{never_all_apart}
-use Rattle.educe_grammar.proofs.Unions.{union_undefined}
+use Rattle.educe_parser.specs.Laws.{lawful_definition, lawful_definitions}
 use Rattle.educe_traits.specs.declared.traits.Trait.{Trait}
 use Rattle.educe_traits.specs.declared.traits.Trait.TheVariants.{PartialEq, PartialOrd, Ord}
 use Rattle.educe_traits.specs.Traits.{is_listed}
@@ -138,7 +135,7 @@ whole_of source tokens d are defines = subst (λ (ts : List Token). IsWhole defi
 
 -- a text is one definition
 pub one_defined : (source : List ℕ) (d other : DeriveInput) → Defines (chars source) d → Defines (chars source) other → d ≡ other
-one_defined source d other defines also = one_reading definition definition_again depth_limit d.tokens d other defines.whole (whole_of source d.tokens other defines.tokens_are also)
+one_defined source d other defines also = lawful_definition.one_reading d.tokens d other defines.whole (whole_of source d.tokens other defines.tokens_are also)
 
 -- what the parser reads is the definition
 pub parsed_defines : (source : List ℕ) (tokens : List Token) (r : Result DeriveInput EduceError) → IsReading (chars source) tokens → IfOk r (IsWhole definition tokens) → IfOk r AreNamesApart → IfOk r (Defines (chars source))
@@ -152,21 +149,9 @@ parsed_cause source tokens (Err e) are refused = IsCause.grammatical tokens are 
 
 -- a definition whose names are apart is not refused
 pub refusal_undefined : (tokens : List Token) (d : DeriveInput) (e : EduceError) → IsWhole definition tokens d → AreNamesApart d → IsRefusalOf tokens e → e.kind ≢ Alloc → ⊥
-refusal_undefined tokens d e whole apart (IsRefusalOf.union word is) some = union_undefined tokens word d is whole
-refusal_undefined tokens d e whole apart (IsRefusalOf.grammar never cause) some = refused_undefined tokens e d cause whole some
-refusal_undefined tokens d e whole apart IsRefusalOf.memory some = some refl
-refusal_undefined tokens d e whole apart (IsRefusalOf.repeated found name all twice) some =
-    never_all_apart (scopes found) name twice (subst AreNamesApart (one_reading definition definition_again depth_limit tokens d found whole all) apart)
+refusal_undefined tokens d e whole apart refusal some = some (lawful_definitions.uncaused tokens d (record { whole = whole; apart = apart }) e refusal)
 
 -- ---- words and places
-
-refusal_words : (tokens : List Token) (e : EduceError) → IsRefusalOf tokens e → HasWords e.kind e.words
-refusal_words tokens e (IsRefusalOf.union word is) = refl
-refusal_words tokens e (IsRefusalOf.grammar never (IsParseCause.syntax left none stop)) = refl
-refusal_words tokens e (IsRefusalOf.grammar never (IsParseCause.too_deep front rest t none stop is many)) = refl
-refusal_words tokens e (IsRefusalOf.grammar never IsParseCause.memory) = refl
-refusal_words tokens e IsRefusalOf.memory = refl
-refusal_words tokens e (IsRefusalOf.repeated found name whole twice) = refl
 
 handler_words : (d : DeriveInput) (e : EduceError) → IsHandlerCause d e → HasWords e.kind e.words
 handler_words d e (IsHandlerCause.unbuilt never) = refl
@@ -176,7 +161,7 @@ handler_words d e IsHandlerCause.memory = refl
 
 pub cause_words : (source : List ℕ) (e : EduceError) → IsCause source e → HasWords e.kind e.words
 cause_words source e (IsCause.lexical cause) = places.cause_words (chars source) e cause
-cause_words source e (IsCause.grammatical tokens are refusal) = refusal_words tokens e refusal
+cause_words source e (IsCause.grammatical tokens are refusal) = (lawful_definitions.reported tokens e refusal).words
 cause_words source e (IsCause.handled d defines cause) = handler_words d e cause
 cause_words source e IsCause.memory = refl
 

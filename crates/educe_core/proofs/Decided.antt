@@ -12,7 +12,7 @@ use Rattle.educe_tree.specs.declared.derive.DeriveInput.{DeriveInput}
 use Rattle.educe_grammar.specs.Definitions.{definition}
 use Rattle.educe_grammar.specs.Parsed.{IsWhole, IsParseCause}
 use Rattle.educe_grammar.specs.Refusal.{IsRefusalOf}
-use Rattle.educe_parser.proofs.Decided.{definition_decided}
+use Rattle.educe_parser.specs.Laws.{lawful_definitions}
 use Rattle.educe_core.specs.Headline.{Defines, IsValid, IsHandlerCause, IsCause, not_set_up_of, reuse_of}
 use Rattle.educe_core.proofs.Causes.{defined_by, done_uncaused}
 use Rattle.educe_core.proofs.BuiltDecided.{built_if}
@@ -22,7 +22,7 @@ use Rattle.educe_core.proofs.RanksDecided.{none_used_again}
 pub defined_or_refused : (source : List ℕ) → ((d : DeriveInput) × Defines (chars source) d) ⊎ HasCause (IsCause source)
 defined_or_refused source =
     elim (tokens.decided (chars source)) [
-      | inl read ↦ elim (definition_decided read.0) [
+      | inl read ↦ elim (lawful_definitions.decided read.0) [
         | inl found ↦ inl (found.0, defined_by source read.0 found.0 read.1 found.1.whole found.1.apart)
         | inr refused ↦ inr (record { error = refused.error; is_told = refused.is_told; stands = IsCause.grammatical read.0 read.1 refused.stands })
       ]

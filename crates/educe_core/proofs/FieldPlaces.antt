@@ -1,6 +1,6 @@
 -- The fields of a definition begin where tokens do, and so do the ranks in their attributes.
 use Rattle.std.proofs.Common.{ℕ, zero, suc, ◌+◌, ◌-◌, ◌≡◌, Bool, true, false, ℤ, List, [], ◌∷◌, ◌++◌, Option, Some, None, length, take, drop, refl, sym, subst}
-use Rattle.std.specs.Prelude.{if◌then◌else◌, IfSome, slice_get, unwrap_or, option_and_then, codes}
+use Rattle.std.specs.Prelude.{if◌then◌else◌, IfSome, unwrap_or, option_and_then, codes}
 use Rattle.std.specs.Option.{option_map}
 use Rattle.std.specs.List.{AllByRecursion, find}
 use Rattle.educe_tokens.specs.declared.span.Span.{Span}
@@ -10,17 +10,15 @@ use Rattle.educe_tree.specs.declared.attr.Meta.{Meta}
 use Rattle.educe_tree.specs.declared.attr.Meta.TheVariants as said
 use Rattle.educe_tree.specs.declared.attr.MetaPath.{MetaPath}
 use Rattle.educe_tree.specs.declared.data.Field.{Field}
-use Rattle.educe_tree.specs.declared.data.FieldShape.{FieldShape}
 use Rattle.educe_tree.specs.declared.derive.DeriveInput.{DeriveInput}
-use Rattle.educe_grammar.specs.Attributes.{MetaTail, no_tail, group_tail, value_tail, unread_tail, between, span_of, written_group, unread, meta_path, meta_of, meta, metas, outer_meta, documented, attribute_of, attribute, attributes}
-use Rattle.educe_grammar.specs.Expressions.{group}
-use Rattle.educe_grammar.specs.Definitions.{flat, named_field_of, named_field, tuple_field_of, tuple_field, named_shape, named_fields, tuple_shape, tuple_fields, unit_shape, Body, struct_body_of, swapped, struct_body, enum_body_of, enum_body, Item, struct_item, enum_item, definition_of, definition}
-use Rattle.educe_grammar.specs.Parsed.{depth_limit, IsWhole}
-use Rattle.educe_grammar.specs.Reading.{Parts, Parses, Repeated}
-use Rattle.educe_grammar.specs.Reads.{parts}
-use Rattle.educe_grammar.specs.Rules.{Rule, sliced, written, documentation}
+use Rattle.educe_tree.specs.declared.derive.Shape.{Shape}
+use Rattle.educe_tree.specs.declared.derive.Shape.TheVariants.{Struct, Enum}
+use Rattle.educe_grammar.specs.Definitions.{definition}
+use Rattle.educe_grammar.specs.Few as every
+use Rattle.educe_grammar.specs.Parsed.{IsWhole}
+use Rattle.educe_grammar.specs.Placed.{HasPlace, AreWithin, IsMetaPlaced, IsFieldPlaced, AreFieldsPlaced}
 use Rattle.educe_grammar.specs.Steps.{Tokens}
-use Rattle.educe_grammar.proofs.NamesPlaced.{AllPlaced, Places, all_front, all_behind, placed_any, placed_empty, placed_made, placed_first, placed_second, placed_skipping, placed_leaving, placed_either, placed_list, placed_nest}
+use Rattle.educe_parser.specs.Laws.{lawful_places, place_has, start_has}
 use Rattle.educe_attrs.specs.declared.param.Param.{Param}
 use Rattle.educe_attrs.specs.declared.param.Param.TheVariants.{Ignore, Rank}
 use Rattle.educe_attrs.specs.declared.setting.Setting.{Setting}
@@ -101,33 +99,24 @@ found_all : {X : Type 0} (P : X → Type 0) (test : X → Bool) (xs : List X) �
 found_all P test [] all = tt
 found_all P test (x ∷ xs) all = chosen P (test x) (Some x) (find test xs) all.0 (found_all P test xs all.1)
 
-module _ (P : ℕ → Type 0) (none : P 0) where
+-- what follows of each holds of each
+each_into : {X : Type 0} (P Q : X → Type 0) → ((x : X) → P x → Q x) → (xs : List X) → AllByRecursion P xs → AllByRecursion Q xs
+each_into P Q into [] all = tt
+each_into P Q into (x ∷ xs) all = (into x all.0, each_into P Q into xs all.1)
+
+-- the fields of a struct are its fields
+of_struct : (tokens : Tokens) (shape : Shape) → AreFieldsPlaced tokens (every.shape_fields shape) → AreFieldsPlaced tokens (shape_fields shape)
+of_struct tokens (Struct shape) placed = placed
+of_struct tokens (Enum variants) placed = tt
+
+module _ (P : ℕ → Type 0) where
   -- the span begins at such a place
   abbrev Begins : Span → Type 0
   Begins s = P s.start
 
   -- so does each token
   abbrev Placed : Tokens → Type 0
-  Placed tokens = AllPlaced Begins tokens
-
-  between_placed : (first last : Option Token) → IfSome first (λ (t : Token). P t.span.start) → P (between first last).start
-  between_placed None last placed = none
-  between_placed (Some first) None placed = none
-  between_placed (Some first) (Some last) placed = placed
-
-  -- and the span of tokens
-  span_placed : (tokens : Tokens) → Placed tokens → Begins (span_of tokens)
-  unfolding span_of
-  span_placed [] placed = none
-  span_placed (t ∷ ts) placed = between_placed (Some t) (slice_get (t ∷ ts) (length (t ∷ ts) - 1)) placed.0
-
-  -- ---- attributes
-
-  abbrev TailPlaced : MetaTail → Type 0
-  TailPlaced no_tail = Unit {0}
-  TailPlaced (group_tail tokens) = Placed tokens.tokens
-  TailPlaced (value_tail value) = Unit {0}
-  TailPlaced (unread_tail tokens) = Unit {0}
+  Placed tokens = AllByRecursion (λ (t : Token). Begins t.span) tokens
 
   -- the tokens of a group do, and a name with a value does
   abbrev MetaPlaced : Meta → Type 0
@@ -144,141 +133,27 @@ module _ (P : ℕ → Type 0) (none : P 0) where
   abbrev FieldPlaced : Field → Type 0
   FieldPlaced f = Begins f.span × AllByRecursion AttributePlaced f.attrs
 
-  meta_has : (x : (MetaPath × MetaTail) × Tokens) → TailPlaced x.0.1 → Placed x.1 → MetaPlaced (meta_of x)
-  meta_has ((path, no_tail), tokens) has placed = tt
-  meta_has ((path, group_tail inner), tokens) has placed = has
-  meta_has ((path, value_tail value), tokens) has placed = span_placed tokens placed
-  meta_has ((path, unread_tail inner), tokens) has placed = tt
+  -- tokens that stand where tokens of the list do
+  within_placed : (tokens part : Tokens) → Placed tokens → AreWithin tokens part → Placed part
+  within_placed tokens part placed within = each_into (λ (t : Token). HasPlace tokens t.span) (λ (t : Token). Begins t.span) (λ t is. place_has Begins tokens t.span placed is) part within
 
-  module _ (parts : Parts) where
-    -- the tokens that a value is read from are kept
-    placed_slice : {A : Type 0} (g : Rule A) (Q : A → Type 0) → Places Begins parts g Q → Places Begins parts (sliced g) (λ x. Q x.0 × Placed x.1)
-    unfolding Parses
-    placed_slice g Q p = record { places = λ budget tokens x all is. (p.places budget tokens x.0 all is.0, subst Placed (sym is.1) all) }
+  meta_placed : (tokens : Tokens) → Placed tokens → (m : Meta) → IsMetaPlaced tokens m → MetaPlaced m
+  meta_placed tokens placed (said.Word path) is = tt
+  meta_placed tokens placed (said.List path group place) is = within_placed tokens group.tokens placed is.1
+  meta_placed tokens placed (said.NameValue path value place) is = start_has P tokens place placed is.2
+  meta_placed tokens placed (said.Doc t) is = tt
+  meta_placed tokens placed (said.Unread path value place) is = tt
 
-    placed_text : {A : Type 0} (g : Rule A) (Q : A → Type 0) → Places Begins parts g Q → Places Begins parts (written g) (λ x. Q x.0 × Placed x.1.tokens)
-    unfolding Parses
-    placed_text g Q p = record { places = λ budget tokens x all is. (p.places budget tokens x.0 all is.0, subst Placed (sym is.1) all) }
-
-    repeated_placed : {A : Type 0} (g : Rule A) (Q : A → Type 0) → Places Begins parts g Q → (budget : ℕ) {tokens : Tokens} {xs : List A} → Repeated (Parses parts budget g) tokens xs → Placed tokens → AllByRecursion Q xs
-    repeated_placed g Q p budget Repeated.none all = tt
-    repeated_placed g Q p budget (Repeated.more {x = x} front rest is others) all = (
-      p.places budget front x (all_front (λ (t : Token). P t.span.start) front rest all) is,
-      repeated_placed g Q p budget others (all_behind (λ (t : Token). P t.span.start) front rest all),
-    )
-
-    group_placed : Places Begins parts written_group TailPlaced
-    unfolding written_group
-    group_placed = placed_made Begins parts (λ p. group_tail p.1) _ (λ x. Unit {0} × Placed x.1.tokens) TailPlaced (λ x has. has.1) (placed_text group (λ _. Unit {0}) (placed_any Begins parts group))
-
-    unread_placed : Places Begins parts unread TailPlaced
-    unfolding unread
-    unread_placed = placed_made Begins parts (λ p. unread_tail p.1) _ (λ _. Unit {0}) TailPlaced (λ x has. tt) (placed_any Begins parts _)
-
-    -- a meta in a list
-    meta_placed : Places Begins parts meta MetaPlaced
-    unfolding meta
-    meta_placed =
-        placed_made Begins parts meta_of _ (λ x. TailPlaced x.0.1 × Placed x.1) MetaPlaced (λ x has. meta_has x has.0 has.1)
-        (placed_slice _ (λ x. TailPlaced x.1) (placed_second Begins parts meta_path _ TailPlaced
-        (placed_either Begins parts _ written_group _ TailPlaced group_placed
-        (placed_either Begins parts _ _ _ TailPlaced (placed_made Begins parts value_tail _ (λ _. Unit {0}) TailPlaced (λ x has. tt) (placed_any Begins parts _)) (placed_empty Begins parts no_tail TailPlaced tt)))))
-
-    metas_placed : Places Begins parts metas (AllByRecursion MetaPlaced)
-    unfolding metas
-    metas_placed = placed_list Begins parts _ _ meta MetaPlaced meta_placed
-
-    -- the meta of an attribute
-    outer_placed : Places Begins parts outer_meta MetaPlaced
-    unfolding outer_meta
-    outer_placed =
-        placed_made Begins parts meta_of _ (λ x. TailPlaced x.0.1 × Placed x.1) MetaPlaced (λ x has. meta_has x has.0 has.1)
-        (placed_slice _ (λ x. TailPlaced x.1) (placed_second Begins parts meta_path _ TailPlaced
-        (placed_either Begins parts _ written_group _ TailPlaced group_placed
-        (placed_either Begins parts _ unread _ TailPlaced unread_placed (placed_empty Begins parts no_tail TailPlaced tt)))))
-
-    attribute_placed : Places Begins parts attribute AttributePlaced
-    unfolding attribute
-    attribute_placed =
-        placed_either Begins parts _ _ _ AttributePlaced
-        (placed_made Begins parts documented documentation (λ _. Unit {0}) AttributePlaced (λ x has. tt) (placed_any Begins parts documentation))
-        (placed_made Begins parts attribute_of _ MetaPlaced AttributePlaced (λ x has. has) (placed_skipping Begins parts _ _ MetaPlaced (placed_nest Begins parts _ outer_meta MetaPlaced outer_placed)))
-
-    attributes_placed : Places Begins parts attributes (AllByRecursion AttributePlaced)
-    unfolding attributes Parses
-    attributes_placed = record { places = λ budget tokens xs all is. repeated_placed attribute AttributePlaced attribute_placed budget is all }
-
-    -- ---- fields
-
-    named_field_placed : Places Begins parts named_field FieldPlaced
-    unfolding named_field
-    named_field_placed =
-        placed_made Begins parts named_field_of _ (λ x. AllByRecursion AttributePlaced x.0.0 × Placed x.1) FieldPlaced (λ x has. (span_placed x.1 has.1, has.0))
-        (placed_slice _ (λ x. AllByRecursion AttributePlaced x.0)
-        (placed_made Begins parts flat _ (λ x. AllByRecursion AttributePlaced x.0) (λ x. AllByRecursion AttributePlaced x.0) (λ x has. has)
-        (placed_first Begins parts attributes _ (AllByRecursion AttributePlaced) attributes_placed)))
-
-    tuple_field_placed : Places Begins parts tuple_field FieldPlaced
-    unfolding tuple_field
-    tuple_field_placed =
-        placed_made Begins parts tuple_field_of _ (λ x. AllByRecursion AttributePlaced x.0.0 × Placed x.1) FieldPlaced (λ x has. (span_placed x.1 has.1, has.0))
-        (placed_slice _ (λ x. AllByRecursion AttributePlaced x.0) (placed_first Begins parts attributes _ (AllByRecursion AttributePlaced) attributes_placed))
-
-    abbrev ShapePlaced : FieldShape → Type 0
-    ShapePlaced shape = AllByRecursion FieldPlaced shape.fields
-
-    named_fields_placed : Places Begins parts named_fields ShapePlaced
-    unfolding named_fields
-    named_fields_placed =
-        placed_made Begins parts named_shape _ (AllByRecursion FieldPlaced) ShapePlaced (λ x has. has)
-        (placed_nest Begins parts _ _ (AllByRecursion FieldPlaced) (placed_list Begins parts _ _ named_field FieldPlaced named_field_placed))
-
-    tuple_fields_placed : Places Begins parts tuple_fields ShapePlaced
-    unfolding tuple_fields
-    tuple_fields_placed =
-        placed_made Begins parts tuple_shape _ (AllByRecursion FieldPlaced) ShapePlaced (λ x has. has)
-        (placed_nest Begins parts _ _ (AllByRecursion FieldPlaced) (placed_list Begins parts _ _ tuple_field FieldPlaced tuple_field_placed))
-
-    abbrev BodyPlaced : Body → Type 0
-    BodyPlaced b = AllByRecursion FieldPlaced (shape_fields b.0)
-
-    struct_body_placed : Places Begins parts struct_body BodyPlaced
-    unfolding struct_body
-    struct_body_placed =
-        placed_made Begins parts struct_body_of _ (λ x. ShapePlaced x.0) BodyPlaced (λ x has. has)
-        (placed_either Begins parts _ _ _ (λ x. ShapePlaced x.0)
-        (placed_leaving Begins parts _ _ (λ x. ShapePlaced x.0) (placed_first Begins parts tuple_fields _ ShapePlaced tuple_fields_placed))
-        (placed_made Begins parts swapped _ (λ x. ShapePlaced x.1) (λ x. ShapePlaced x.0) (λ x has. has)
-        (placed_second Begins parts _ _ ShapePlaced
-        (placed_either Begins parts _ named_fields _ ShapePlaced named_fields_placed (placed_made Begins parts (λ _. unit_shape) _ (λ _. Unit {0}) ShapePlaced (λ x has. tt) (placed_any Begins parts _))))))
-
-    enum_body_placed : Places Begins parts enum_body BodyPlaced
-    unfolding enum_body
-    enum_body_placed = placed_made Begins parts enum_body_of _ (λ _. Unit {0}) BodyPlaced (λ x has. tt) (placed_any Begins parts _)
-
-    abbrev ItemPlaced : Item → Type 0
-    ItemPlaced i = BodyPlaced i.1.1
-
-    struct_item_placed : Places Begins parts struct_item ItemPlaced
-    unfolding struct_item
-    struct_item_placed =
-        placed_skipping Begins parts _ _ ItemPlaced (placed_second Begins parts _ _ (λ x. BodyPlaced x.1) (placed_second Begins parts _ struct_body BodyPlaced struct_body_placed))
-
-    enum_item_placed : Places Begins parts enum_item ItemPlaced
-    unfolding enum_item
-    enum_item_placed =
-        placed_skipping Begins parts _ _ ItemPlaced (placed_second Begins parts _ _ (λ x. BodyPlaced x.1) (placed_second Begins parts _ enum_body BodyPlaced enum_body_placed))
-
-    definition_placed : Places Begins parts definition (λ d. AllByRecursion FieldPlaced (fields_of d))
-    unfolding definition
-    definition_placed =
-        placed_made Begins parts definition_of _ (λ x. ItemPlaced x.0.1 × Placed x.1) (λ d. AllByRecursion FieldPlaced (fields_of d)) (λ x has. has.0)
-        (placed_slice _ (λ x. ItemPlaced x.1) (placed_second Begins parts _ _ ItemPlaced (placed_skipping Begins parts _ _ ItemPlaced
-        (placed_either Begins parts _ enum_item struct_item ItemPlaced enum_item_placed struct_item_placed))))
+  field_placed : (tokens : Tokens) → Placed tokens → (f : Field) → IsFieldPlaced tokens f → FieldPlaced f
+  field_placed tokens placed f is = (
+    start_has P tokens f.span placed is.span,
+    each_into (λ (a : Attribute). IsMetaPlaced tokens a.meta) AttributePlaced (λ a. meta_placed tokens placed a.meta) f.attrs is.attrs,
+  )
 
   -- the fields of a definition
   fields_placed : (tokens : Tokens) (d : DeriveInput) → IsWhole definition tokens d → Placed tokens → AllByRecursion FieldPlaced (fields_of d)
-  fields_placed tokens d whole placed = (definition_placed parts).places depth_limit tokens d placed whole
+  fields_placed tokens d whole placed =
+      each_into (IsFieldPlaced tokens) FieldPlaced (field_placed tokens placed) (fields_of d) (of_struct tokens d.shape (lawful_places.definitions tokens d whole).fields)
 
   -- ---- settings
 
@@ -297,7 +172,7 @@ module _ (P : ℕ → Type 0) (none : P 0) where
       go None is = tt
       go (Some found) is =
           let within = take_all (λ (t : Token). P t.span.start) (length tokens - 2) (drop 1 tokens) (behind_first (λ (t : Token). P t.span.start) tokens placed) in
-          (metas_placed parts).places depth_limit (inside tokens) found within ((are_metas_inside tokens found).0 is)
+          each_into (IsMetaPlaced (inside tokens)) MetaPlaced (meta_placed (inside tokens) within) found (lawful_places.metas (inside tokens) found ((are_metas_inside tokens found).0 is))
 
   param_placed : (m : Meta) → MetaPlaced m → IfSome (param_of m) ParamPlaced
   param_placed (said.Word path) has = chosen ParamPlaced (is_one_word (codes "ignore") path.written.tokens) (Some Ignore) None tt tt

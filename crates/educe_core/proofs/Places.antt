@@ -12,10 +12,10 @@ use Rattle.educe_tokens.specs.Lexes.{Lexes}
 use Rattle.educe_tokens.proofs.Places.{tokens_placed, tokens_ended}
 use Rattle.educe_tree.specs.declared.derive.DeriveInput.{DeriveInput}
 use Rattle.educe_grammar.specs.Definitions.{definition}
-use Rattle.educe_grammar.specs.Parsed.{IsWhole, IsParseCause, end_of, end_place}
+use Rattle.educe_grammar.specs.Parsed.{IsWhole, end_of, end_place}
 use Rattle.educe_grammar.specs.Placed.{IsPlace}
 use Rattle.educe_grammar.specs.Refusal.{IsRefusalOf}
-use Rattle.educe_grammar.proofs.NamesPlaced.{place_has, cause_placed}
+use Rattle.educe_parser.specs.Laws.{lawful_definitions, place_has}
 use Rattle.educe_traits.specs.declared.traits.Trait.{Trait}
 use Rattle.educe_core.specs.Settings.{ReusesARank}
 use Rattle.educe_core.proofs.FieldPlaces.{reuse_placed}
@@ -44,16 +44,13 @@ module _ (source : List ℕ) (utf8 : IsUtf8 source) (tokens : List Token) (lexes
 
   -- the refusals of a definition
   pub refusal_is_placed : (e : EduceError) → IsRefusalOf tokens e → IsCharBoundary source e.span.start
-  refusal_is_placed e (IsRefusalOf.union word is) = by_place word.span (cause_placed tokens e (IsRefusalOf.union word is) (λ same. cc))
-  refusal_is_placed e (IsRefusalOf.grammar never (IsParseCause.syntax left none stop)) =
-      by_place e.span (cause_placed tokens e (IsRefusalOf.grammar never (IsParseCause.syntax left none stop)) (λ same. cc))
-  refusal_is_placed e (IsRefusalOf.grammar never (IsParseCause.too_deep front rest t none stop is many)) =
-      by_place e.span (cause_placed tokens e (IsRefusalOf.grammar never (IsParseCause.too_deep front rest t none stop is many)) (λ same. cc))
-  refusal_is_placed e (IsRefusalOf.grammar never IsParseCause.memory) = IsCharBoundary-start source utf8
-  refusal_is_placed e IsRefusalOf.memory = IsCharBoundary-start source utf8
-  refusal_is_placed e (IsRefusalOf.repeated found name whole twice) = by_place e.span (cause_placed tokens e (IsRefusalOf.repeated found name whole twice) (λ same. cc))
+  refusal_is_placed e refusal =
+      elim (lawful_definitions.reported tokens e refusal).place [
+        | inl is ↦ by_place e.span is
+        | inr short ↦ subst (λ (e : EduceError). IsCharBoundary source e.span.start) (sym short) (IsCharBoundary-start source utf8)
+      ]
 
   -- the place of a rank that is used again
   pub reuse_is_placed : (d : DeriveInput) (which : Trait) (rank : _) (place : Span) → IsWhole definition tokens d → ReusesARank which d rank place → IsCharBoundary source place.start
   reuse_is_placed d which rank place whole reuses =
-      reuse_placed (IsCharBoundary source) (IsCharBoundary-start source utf8) which tokens d rank place whole (tokens_placed source tokens utf8 lexes) reuses
+      reuse_placed (IsCharBoundary source) which tokens d rank place whole (tokens_placed source tokens utf8 lexes) reuses

@@ -39,7 +39,9 @@ pub mod ScopeApart
 pub mod ReadsAgain
 pub mod Unions
 pub mod Refusals
-pub mod NamesPlaced
+pub mod Repeats
+pub mod Placed
+pub mod Reported
 pub mod FewNames
 pub mod Aside
 pub mod ReadAlike
@@ -47,3 +49,5 @@ pub mod TypesAlike
 pub mod AlikeByTokens
 pub mod Copied
 pub mod Opened
+pub mod NeedsNone
+pub mod Decided

@@ -1,4 +1,5 @@
--- Why tokens are refused is one thing: two refusals of the same tokens, neither for want of memory, are equal.
+-- Why tokens are refused is one thing: two refusals of the same tokens, neither out of memory, are equal; and what has a
+-- reading is not refused.
 use Rattle.std.proofs.Common.{◌≡◌, ◌≢◌, ◌++◌, ◌∷◌, length, refl, ap, sym, subst, ◌∙◌, inl, inr, arith, Option, Some, [], length-append}
 use Rattle.educe_tokens.specs.declared.token.Token.{Token}
 use Rattle.educe_tokens.specs.declared.error.EduceError.{EduceError}
@@ -6,13 +7,14 @@ use Rattle.educe_tokens.specs.declared.error.Kind.TheVariants.{Syntax, TooDeep, 
 use Rattle.educe_tree.specs.declared.derive.DeriveInput.{DeriveInput}
 use Rattle.educe_grammar.specs.declared.parse_error.ParseError.{ParseError}
 use Rattle.educe_grammar.specs.Definitions.{definition}
-use Rattle.educe_grammar.specs.Naming.{Named, scopes, duplicate_of, IsRepeatedIn}
+use Rattle.educe_grammar.specs.Causes.{IsUncaused}
+use Rattle.educe_grammar.specs.Naming.{Named, scopes, duplicate_of, IsRepeatedIn, AreNamesApart}
 use Rattle.educe_grammar.specs.Parsed.{depth_limit, IsWhole, IsParseCause, place_at}
-use Rattle.educe_grammar.specs.Refusal.{union_of, IsRefusalOf}
+use Rattle.educe_grammar.specs.Refusal.{IsDefinition, union_of, IsRefusalOf}
 use Rattle.educe_grammar.specs.Rules.{Rule}
 use Rattle.educe_grammar.specs.Steps.{Tokens}
 use Rattle.educe_grammar.proofs.ReadsAgain.{definition_again, one_reading}
-use Rattle.educe_grammar.proofs.Repeated.{StandsBefore, places, one_repeated_in}
+use Rattle.educe_grammar.proofs.Repeated.{StandsBefore, places, one_repeated_in, never_all_apart}
 use Rattle.educe_grammar.proofs.Unions.{one_union, union_undefined}
 
 -- ---- the grammar
@@ -50,15 +52,19 @@ one_cause g tokens e f (IsParseCause.too_deep front rest t never stop is many) (
 one_cause g tokens e f (IsParseCause.too_deep front rest t never stop is many) IsParseCause.memory some more = absurd (more refl)
 one_cause g tokens e f IsParseCause.memory c some more = absurd (some refl)
 
+-- what has a reading has no cause but out of memory
+pub whole_uncaused : {A : Type 0} (g : Rule A) (tokens : Tokens) (x : A) → IsWhole g tokens x → IsUncaused (IsParseCause g tokens)
+whole_uncaused g tokens x whole e (IsParseCause.syntax left never stop) = absurd (never x whole)
+whole_uncaused g tokens x whole e (IsParseCause.too_deep front rest t never stop is many) = absurd (never x whole)
+whole_uncaused g tokens x whole e IsParseCause.memory = refl
+
 -- ---- definitions
 
--- a definition that is refused by the grammar is none
-pub refused_undefined : (tokens : Tokens) (e : EduceError) (found : DeriveInput) → IsParseCause definition tokens e → IsWhole definition tokens found → e.kind ≢ Alloc → ⊥
-refused_undefined tokens e found (IsParseCause.syntax left never stop) whole some = never found whole
-refused_undefined tokens e found (IsParseCause.too_deep front rest t never stop is many) whole some = never found whole
-refused_undefined tokens e found IsParseCause.memory whole some = some refl
+-- a definition is not refused by the grammar
+refused_undefined : (tokens : Tokens) (e : EduceError) (found : DeriveInput) → IsParseCause definition tokens e → IsWhole definition tokens found → e.kind ≢ Alloc → ⊥
+refused_undefined tokens e found cause whole some = some (whole_uncaused definition tokens found whole e cause)
 
--- one name of the definition that the tokens are is told
+-- one name of the definition that the tokens are is reported
 one_name : (tokens : Tokens) (found other : DeriveInput) (name again : Named) → IsWhole definition tokens found → IsWhole definition tokens other
     → IsRepeatedIn name (scopes found) → IsRepeatedIn again (scopes other) → name ≡ again
 one_name tokens found other name again whole all twice much =
@@ -81,3 +87,12 @@ one_refusal tokens e f (IsRefusalOf.repeated found name whole twice) (IsRefusalO
 one_refusal tokens e f (IsRefusalOf.repeated found name whole twice) IsRefusalOf.memory some more = absurd (more refl)
 one_refusal tokens e f (IsRefusalOf.repeated found name whole twice) (IsRefusalOf.repeated other again all much) some more =
     ap duplicate_of (one_name tokens found other name again whole all twice much)
+
+-- a definition whose names are apart has no cause but out of memory
+pub definition_uncaused : (tokens : Tokens) (found : DeriveInput) → IsDefinition tokens found → IsUncaused (IsRefusalOf tokens)
+definition_uncaused tokens found is e (IsRefusalOf.union word union) = absurd (union_undefined tokens word found union is.whole)
+definition_uncaused tokens found is e (IsRefusalOf.grammar never cause) = whole_uncaused definition tokens found is.whole e cause
+definition_uncaused tokens found is e IsRefusalOf.memory = refl
+definition_uncaused tokens found is e (IsRefusalOf.repeated other name whole twice) =
+    let same : found ≡ other = one_reading definition definition_again depth_limit tokens found other is.whole whole in
+    absurd (never_all_apart (scopes other) name twice (subst (λ (d : DeriveInput). AreNamesApart d) same is.apart))

@@ -21,3 +21,4 @@ pub mod Running
 pub mod Placed
 pub mod Few
 pub mod Alike
+pub mod Causes

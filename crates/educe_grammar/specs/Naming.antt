@@ -91,6 +91,11 @@ pub record IsRepeatedIn (found : Named) (lists : List (List Named)) : Type 0 whe
   pub behind : AreBehind found.span.start before
   pub not_before : AreNotBefore found.span.start after
 
+-- the name is repeated in one of the lists and is written first; or there is none, and in each list the names are apart
+abbrev pub IsEarliest : Option Named → List (List Named) → Type 0
+IsEarliest (Some found) lists = IsRepeatedIn found lists
+IsEarliest None lists = AllApart lists
+
 -- all names of a definition are apart where they have to be
 abbrev pub AreNamesApart : DeriveInput → Type 0
 AreNamesApart definition = AllApart (scopes definition)

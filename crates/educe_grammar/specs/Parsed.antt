@@ -4,9 +4,9 @@ use Rattle.educe_tokens.specs.declared.span.Span.{Span}
 use Rattle.educe_tokens.specs.declared.token.Token.{Token}
 use Rattle.educe_tokens.specs.declared.error.EduceError.{EduceError}
 use Rattle.educe_tokens.specs.declared.error.Kind.TheVariants.{Syntax, TooDeep, Alloc}
-use Rattle.educe_tokens.specs.Refusals.{placeless}
+use Rattle.educe_tokens.specs.Refusals.{placeless, syntax_at, too_deep_at}
 use Rattle.educe_grammar.specs.declared.parse_error.ParseError.{ParseError}
-use Rattle.educe_grammar.specs.declared.parse_error.ParseError.TheVariants.{Syntax as SyntaxAt, TooDeep as TooDeepAt}
+use Rattle.educe_grammar.specs.declared.parse_error.ParseError.TheVariants.{Memory, Syntax as SyntaxAt, TooDeep as TooDeepAt}
 use Rattle.educe_grammar.specs.Steps.{Tokens, Outcome}
 use Rattle.educe_grammar.specs.Depth.{counted}
 use Rattle.educe_grammar.specs.Reads.{Reads, read}
@@ -54,8 +54,14 @@ stop_of (Ok (x, [])) = None
 stop_of (Ok (x, t ∷ rest)) = Some (SyntaxAt (length (t ∷ rest)))
 stop_of (Err e) = Some e
 
+-- the refusal of the tokens where a program stops so
+abbrev pub refusal_of : Tokens → ParseError → EduceError
+refusal_of tokens Memory = placeless Alloc
+refusal_of tokens (SyntaxAt left) = syntax_at (place_at tokens left)
+refusal_of tokens (TooDeepAt left) = too_deep_at (place_at tokens left)
+
 -- Why a whole list is refused: it has no reading within the limits; or none, and at the place, a token, more openers count
--- than the limit allows. The place is where the program of the rule stops. Want of memory has no cause.
+-- than the limit allows. The place is where the program of the rule stops. Any list may be refused for out of memory.
 pub data IsParseCause {A : Type 0} (g : Rule A) (tokens : Tokens) : EduceError → Type 0 where
   syntax : (left : ℕ) → HasNoReading g tokens → stop_of (read depth_limit g tokens) ≡ Some (SyntaxAt left)
       → IsParseCause g tokens (record { kind = Syntax; span = place_at tokens left; words = [] })

@@ -12,7 +12,12 @@ use Rattle.educe_grammar.specs.Rules.{both}
 use Rattle.educe_grammar.specs.Attributes.{attributes}
 use Rattle.educe_grammar.specs.Definitions.{visibility, definition}
 use Rattle.educe_grammar.specs.Parsed.{IsWhole, IsParseCause}
-use Rattle.educe_grammar.specs.Naming.{Named, IsRepeatedIn, scopes, duplicate_of}
+use Rattle.educe_grammar.specs.Naming.{Named, IsRepeatedIn, AreNamesApart, scopes, duplicate_of}
+
+-- the tokens are this definition, whose names are apart
+pub record IsDefinition (tokens : Tokens) (found : DeriveInput) : Type 0 where
+  pub whole : IsWhole definition tokens found
+  pub apart : AreNamesApart found
 
 -- the identifier `union` (Rust Reference, Keywords: weak keywords)
 abbrev pub IsUnionWord : Token → Type 0
@@ -32,7 +37,7 @@ abbrev pub union_of : Token → EduceError
 union_of word = record { kind = NotCarried; span = word.span; words = word.spelling ∷ [] }
 
 -- Why the tokens are refused: they begin as a union; or they don't, and are no definition within the limits; or a name of
--- the definition is given twice. Want of memory has no cause.
+-- the definition is given twice. Any list may be refused for out of memory.
 pub data IsRefusalOf (tokens : Tokens) : EduceError → Type 0 where
   union : (word : Token) → IsUnion tokens word → IsRefusalOf tokens (union_of word)
   grammar : {e : EduceError} → ((word : Token) → IsUnion tokens word → ⊥) → IsParseCause definition tokens e → IsRefusalOf tokens e

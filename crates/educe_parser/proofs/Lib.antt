@@ -1,6 +1,5 @@
 pub mod Heads
-pub mod NeedsNone
 pub mod Answering
-pub mod WholeRefused
+pub mod Reporting
 pub mod Shallow
-pub mod Decided
+pub mod Seen

@@ -8,14 +8,14 @@ use Rattle.educe_grammar.specs.declared.parse_error.ParseError.{ParseError}
 use Rattle.educe_grammar.specs.declared.parse_error.ParseError.TheVariants.{Memory, Syntax, TooDeep}
 use Rattle.educe_grammar.specs.declared.terminal.Terminal.TheVariants.{Name}
 use Rattle.educe_grammar.specs.Names.{name, name_of}
-use Rattle.educe_grammar.specs.Parsed.{depth_limit, stop_of}
+use Rattle.educe_grammar.specs.Parsed.{depth_limit, stop_of, refusal_of}
 use Rattle.educe_grammar.specs.Reads.{read}
 use Rattle.educe_grammar.specs.Running.{run}
 use Rattle.educe_grammar.specs.Steps.{Tokens, expect}
 use Rattle.educe_grammar.specs.Terminals.{accepts}
 use Rattle.educe_grammar.proofs.Failing.{expect_fails, made_fails}
-use Rattle.educe_parser.specs.Answers.{IsAnswer, refusal_of}
-use Rattle.educe_parser.proofs.Answering.{deep_stop}
+use Rattle.educe_parser.specs.Answers.{IsAnswer}
+use Rattle.educe_grammar.proofs.Decided.{deep_stop}
 
 -- the program of a name never stops so
 name_shallow : (tokens : Tokens) (left : ℕ) → read depth_limit name tokens ≡ Err (TooDeep left) → ⊥

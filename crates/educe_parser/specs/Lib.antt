@@ -1,2 +1,3 @@
 pub mod Nests
 pub mod Answers
+pub mod Laws

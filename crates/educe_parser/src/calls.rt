@@ -7,6 +7,7 @@ ghost use Rattle.educe_tree.specs.declared.expr.ExprPath.{ExprPath};
 ghost use Rattle.educe_tree.specs.declared.generics.WherePredicate.{WherePredicate};
 ghost use Rattle.educe_tree.specs.declared.ident.Ident.{Ident};
 ghost use Rattle.educe_grammar.specs.Attributes as attributes;
+ghost use Rattle.educe_grammar.specs.Causes.{IsUncaused, IsReported};
 ghost use Rattle.educe_grammar.specs.Definitions as definitions;
 ghost use Rattle.educe_grammar.specs.Expressions as expressions;
 ghost use Rattle.educe_grammar.specs.Few.{IsFew};
@@ -14,13 +15,14 @@ ghost use Rattle.educe_grammar.specs.Generics as generics;
 ghost use Rattle.educe_grammar.specs.Names as names;
 ghost use Rattle.educe_grammar.specs.Naming.{AreNamesApart};
 ghost use Rattle.educe_grammar.specs.Parsed.{IsWhole, IsParseCause, IsOnly};
+ghost use Rattle.educe_grammar.specs.Placed.{AreMetasPlaced, IsDefinitionPlaced};
 ghost use Rattle.educe_grammar.specs.Refusal.{IsRefusalOf};
-ghost use Rattle.educe_parser.specs.Answers.{IsRefusedName};
+ghost use Rattle.educe_parser.specs.Answers.{IsDuplicateError};
 
+use crate::duplicate_names::first_duplicate;
 use crate::knot::{definition, expr_path, expression, metas, predicates};
-use crate::unions::{not_carried, union_word};
+use crate::unions::{union_error, union_word};
 use crate::whole::whole;
-use educe_naming::repeated_name;
 use educe_paths::name;
 use educe_tokens::{EduceError, Kind, TokenSlice};
 use educe_tree::{DeriveInput, Expr, ExprPath, Ident, Metas, Predicates};
@@ -30,7 +32,9 @@ use std::alloc::Global;
 pub fn parse_ident(alloc: Global, tokens: &TokenSlice) -> Result<Ident, EduceError>
     ensures found { IfOk result (λ x. IsWhole names.name tokens.now x) }
     ensures only { (x : Ident) → IsWhole names.name tokens.now x → IsOnly x result }
+    ensures uncaused { IfOk result (λ _. IsUncaused (IsParseCause names.name tokens.now)) }
     ensures err { IfErr result (IsParseCause names.name tokens.now) }
+    ensures reported { IfErr result (IsReported tokens.now) }
     // One token is never too deep.
     ensures shallow { IfErr result (λ e. e.kind ≢ Kind.TooDeep) }
 {
@@ -41,7 +45,9 @@ pub fn parse_ident(alloc: Global, tokens: &TokenSlice) -> Result<Ident, EduceErr
 pub fn parse_path(alloc: Global, tokens: &TokenSlice) -> Result<ExprPath, EduceError>
     ensures found { IfOk result (λ x. IsWhole expressions.expr_path tokens.now x) }
     ensures only { (x : ExprPath) → IsWhole expressions.expr_path tokens.now x → IsOnly x result }
+    ensures uncaused { IfOk result (λ _. IsUncaused (IsParseCause expressions.expr_path tokens.now)) }
     ensures err { IfErr result (IsParseCause expressions.expr_path tokens.now) }
+    ensures reported { IfErr result (IsReported tokens.now) }
 {
     whole(alloc, tokens, |cursor| expr_path(alloc, cursor))
 }
@@ -50,7 +56,9 @@ pub fn parse_path(alloc: Global, tokens: &TokenSlice) -> Result<ExprPath, EduceE
 pub fn parse_expr(alloc: Global, tokens: &TokenSlice) -> Result<Expr, EduceError>
     ensures found { IfOk result (λ x. IsWhole expressions.expression tokens.now x) }
     ensures only { (x : Expr) → IsWhole expressions.expression tokens.now x → IsOnly x result }
+    ensures uncaused { IfOk result (λ _. IsUncaused (IsParseCause expressions.expression tokens.now)) }
     ensures err { IfErr result (IsParseCause expressions.expression tokens.now) }
+    ensures reported { IfErr result (IsReported tokens.now) }
 {
     whole(alloc, tokens, |cursor| expression(alloc, cursor))
 }
@@ -59,7 +67,9 @@ pub fn parse_expr(alloc: Global, tokens: &TokenSlice) -> Result<Expr, EduceError
 pub fn parse_predicates(alloc: Global, tokens: &TokenSlice) -> Result<Predicates, EduceError>
     ensures found { IfOk result (λ x. IsWhole generics.predicates tokens.now x) }
     ensures only { (x : List WherePredicate) → IsWhole generics.predicates tokens.now x → IsOnly x result }
+    ensures uncaused { IfOk result (λ _. IsUncaused (IsParseCause generics.predicates tokens.now)) }
     ensures err { IfErr result (IsParseCause generics.predicates tokens.now) }
+    ensures reported { IfErr result (IsReported tokens.now) }
 {
     whole(alloc, tokens, |cursor| predicates(alloc, cursor))
 }
@@ -68,7 +78,10 @@ pub fn parse_predicates(alloc: Global, tokens: &TokenSlice) -> Result<Predicates
 pub fn parse_metas(alloc: Global, tokens: &TokenSlice) -> Result<Metas, EduceError>
     ensures found { IfOk result (λ x. IsWhole attributes.metas tokens.now x) }
     ensures only { (x : List Meta) → IsWhole attributes.metas tokens.now x → IsOnly x result }
+    ensures placed { IfOk result (λ x. AreMetasPlaced tokens.now x) }
+    ensures uncaused { IfOk result (λ _. IsUncaused (IsParseCause attributes.metas tokens.now)) }
     ensures err { IfErr result (IsParseCause attributes.metas tokens.now) }
+    ensures reported { IfErr result (IsReported tokens.now) }
 {
     whole(alloc, tokens, |cursor| metas(alloc, cursor))
 }
@@ -81,45 +94,48 @@ fn read_definition(alloc: Global, tokens: &TokenSlice) -> Result<DeriveInput, Ed
     whole(alloc, tokens, |cursor| definition(alloc, cursor))
 }
 
-/// The refusal of a definition in which a name is given twice; none where the names are apart.
-fn refused_name(alloc: Global, found: &DeriveInput) -> Option<EduceError>
+/// The error of a definition in which a name is given twice; none where the names are apart.
+fn duplicate_error(alloc: Global, found: &DeriveInput) -> Option<EduceError>
     ensures none { IfNone result (AreNamesApart found.now) }
-    ensures some { IfSome result (IsRefusedName found.now) }
+    ensures some { IfSome result (IsDuplicateError found.now) }
 {
-    match repeated_name(alloc, found) {
+    match first_duplicate(alloc, found) {
         Ok(None) => None,
-        Ok(Some(name)) => Some(name.duplicate_name(alloc)),
+        Ok(Some(name)) => Some(name.duplicate_error(alloc)),
         Err(_) => Some(EduceError::alloc(alloc)),
     }
 }
 
-/// The refusal of tokens that are no definition, where the parser refuses them so: a union is refused
-/// at its word.
+/// The error of tokens that are no definition, where this is the error of the parser: a union has its
+/// own, at its word.
 fn unread(alloc: Global, tokens: &TokenSlice, error: EduceError) -> EduceError
     requires { IsParseCause definitions.definition tokens.now error }
     ensures { IsRefusalOf tokens.now result }
 {
     match union_word(alloc, tokens) {
         Ok(None) => error,
-        Ok(Some(word)) => not_carried(alloc, word),
+        Ok(Some(word)) => union_error(alloc, word),
         Err(_) => EduceError::alloc(alloc),
     }
 }
 
-/// The definition that the tokens are (Rust Reference, Structs; Enumerations). It is refused where
-/// they are none or a union, where a name is given twice, or where memory fails.
+/// The definition that the tokens are (Rust Reference, Structs; Enumerations). Unions are not supported,
+/// and a name that is given twice is an error.
 pub fn parse_derive_input(alloc: Global, tokens: &TokenSlice) -> Result<DeriveInput, EduceError>
     ensures found { IfOk result (λ x. IsWhole definitions.definition tokens.now x) }
     ensures apart { IfOk result (λ x. AreNamesApart x) }
     ensures few { IfOk result (λ x. IsFew (length tokens.now) x) }
+    ensures placed { IfOk result (λ x. IsDefinitionPlaced tokens.now x) }
     ensures only { (x : DeriveInput) → IsWhole definitions.definition tokens.now x → AreNamesApart x → IsOnly x result }
+    ensures uncaused { IfOk result (λ _. IsUncaused (IsRefusalOf tokens.now)) }
     ensures err { IfErr result (IsRefusalOf tokens.now) }
+    ensures reported { IfErr result (IsReported tokens.now) }
 {
     let found = match read_definition(alloc, tokens) {
         Ok(found) => found,
         Err(error) => return Err(unread(alloc, tokens, error)),
     };
-    match refused_name(alloc, &found) {
+    match duplicate_error(alloc, &found) {
         None => Ok(found),
         Some(error) => Err(error),
     }

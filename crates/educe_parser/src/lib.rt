@@ -3,7 +3,9 @@
 #![tactic(auto)]
 
 mod calls;
+mod duplicate_names;
 mod knot;
+mod laws;
 mod readers;
 mod unions;
 mod whole;
@@ -11,3 +13,4 @@ mod whole;
 pub use calls::{
     parse_derive_input, parse_expr, parse_ident, parse_metas, parse_path, parse_predicates,
 };
+pub use laws::{definition_laws, place_laws, rule_laws, type_laws};

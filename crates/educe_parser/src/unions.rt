@@ -1,4 +1,4 @@
-//! Unions, which are not carried (Rust Reference, Unions).
+//! Unions, which are not supported (Rust Reference, Unions).
 ghost use Rattle.std.specs.Prelude.{◌≡◌, ◌⊎◌, ◌↔◌, List, ◌∷◌, IsTrue, IfOk, IfSome, IfNone};
 ghost use Rattle.educe_tokens.specs.declared.error.Kind.TheVariants.{Alloc};
 ghost use Rattle.educe_tokens.specs.declared.token.Token.{Token};
@@ -65,8 +65,8 @@ pub fn union_word<'a>(
     }
 }
 
-/// The refusal of a union, at its word.
-pub fn not_carried(alloc: Global, word: &Token) -> EduceError
+/// The error of a union, at its word.
+pub fn union_error(alloc: Global, word: &Token) -> EduceError
     ensures { (result ≡ placeless Alloc) ⊎ (result ≡ union_of word.now) }
 {
     let Ok(text) = word.spelling.duplicate(alloc) else {

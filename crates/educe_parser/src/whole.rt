@@ -2,7 +2,6 @@
 ghost use Rattle.std.specs.Prelude.{◌≡◌};
 ghost use Rattle.educe_grammar.specs.Parsed as spec;
 ghost use Rattle.educe_grammar.specs.Steps.{Parser, ReadsAs};
-ghost use Rattle.educe_parser.specs.Answers as answers;
 ghost use Rattle.educe_parser.specs.Answers.{IsAnswer};
 
 use educe_grammar::{Cursor, ParseError};
@@ -32,9 +31,9 @@ fn place_at(tokens: &[Token], left: usize) -> Span
     }
 }
 
-/// The refusal of the tokens where the parser stops.
+/// The error of the tokens where the parser stops.
 fn refusal(alloc: Global, tokens: &[Token], error: ParseError) -> EduceError
-    ensures { result ≡ answers.refusal_of tokens.now error }
+    ensures { result ≡ spec.refusal_of tokens.now error }
 {
     match error {
         ParseError::Memory => EduceError::alloc(alloc),

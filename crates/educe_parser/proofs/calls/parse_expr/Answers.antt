@@ -4,13 +4,16 @@ use Rattle.educe_grammar.specs.Parsed.{depth_limit}
 use Rattle.educe_grammar.specs.Reads.{read}
 use Rattle.educe_grammar.proofs.ReadsAgain.{expression_again}
 use Rattle.educe_grammar.proofs.Ready.{expression_ready}
-use Rattle.educe_parser.proofs.Answering.{answer_found, answer_only, answer_err}
+use Rattle.educe_parser.proofs.Answering.{answer_clauses}
 use Rattle.educe_parser.proofs.calls.parse_expr.Goals as goal
 
 pub returns : goal.returns
 returns c =
-    let is = c.whole.ensures (read depth_limit expression) (record { reads = λ old new r p. search rules }) in record {
-      found = answer_found expression expression_again c.args.tokens.now c.whole.result is;
-      only = answer_only expression expression_again c.args.tokens.now c.whole.result is;
-      err = answer_err expression expression_again expression_ready c.args.tokens.now c.whole.result is;
+    let is = c.whole.ensures (read depth_limit expression) (record { reads = λ old new r p. search rules }) in
+    let all = answer_clauses expression expression_again expression_ready c.args.tokens.now c.whole.result is in record {
+      found = all.found;
+      only = all.only;
+      uncaused = all.uncaused;
+      err = all.err;
+      reported = all.reported;
     }

@@ -4,13 +4,16 @@ use Rattle.educe_grammar.specs.Parsed.{depth_limit}
 use Rattle.educe_grammar.specs.Reads.{read}
 use Rattle.educe_grammar.proofs.ReadsAgain.{expr_path_again}
 use Rattle.educe_grammar.proofs.Ready.{expr_path_ready}
-use Rattle.educe_parser.proofs.Answering.{answer_found, answer_only, answer_err}
+use Rattle.educe_parser.proofs.Answering.{answer_clauses}
 use Rattle.educe_parser.proofs.calls.parse_path.Goals as goal
 
 pub returns : goal.returns
 returns c =
-    let is = c.whole.ensures (read depth_limit expr_path) (record { reads = λ old new r p. search rules }) in record {
-      found = answer_found expr_path expr_path_again c.args.tokens.now c.whole.result is;
-      only = answer_only expr_path expr_path_again c.args.tokens.now c.whole.result is;
-      err = answer_err expr_path expr_path_again expr_path_ready c.args.tokens.now c.whole.result is;
+    let is = c.whole.ensures (read depth_limit expr_path) (record { reads = λ old new r p. search rules }) in
+    let all = answer_clauses expr_path expr_path_again expr_path_ready c.args.tokens.now c.whole.result is in record {
+      found = all.found;
+      only = all.only;
+      uncaused = all.uncaused;
+      err = all.err;
+      reported = all.reported;
     }

@@ -4,13 +4,16 @@ use Rattle.educe_grammar.specs.Parsed.{depth_limit}
 use Rattle.educe_grammar.specs.Reads.{read}
 use Rattle.educe_grammar.proofs.ReadsAgain.{predicates_again}
 use Rattle.educe_grammar.proofs.Ready.{predicates_ready}
-use Rattle.educe_parser.proofs.Answering.{answer_found, answer_only, answer_err}
+use Rattle.educe_parser.proofs.Answering.{answer_clauses}
 use Rattle.educe_parser.proofs.calls.parse_predicates.Goals as goal
 
 pub returns : goal.returns
 returns c =
-    let is = c.whole.ensures (read depth_limit predicates) (record { reads = λ old new r p. search rules }) in record {
-      found = answer_found predicates predicates_again c.args.tokens.now c.whole.result is;
-      only = answer_only predicates predicates_again c.args.tokens.now c.whole.result is;
-      err = answer_err predicates predicates_again predicates_ready c.args.tokens.now c.whole.result is;
+    let is = c.whole.ensures (read depth_limit predicates) (record { reads = λ old new r p. search rules }) in
+    let all = answer_clauses predicates predicates_again predicates_ready c.args.tokens.now c.whole.result is in record {
+      found = all.found;
+      only = all.only;
+      uncaused = all.uncaused;
+      err = all.err;
+      reported = all.reported;
     }

@@ -4,12 +4,13 @@ use Rattle.educe_grammar.specs.Parsed.{depth_limit}
 use Rattle.educe_grammar.specs.Reads.{read}
 use Rattle.educe_grammar.proofs.ReadsAgain.{definition_again}
 use Rattle.educe_grammar.proofs.Ready.{definition_ready}
-use Rattle.educe_parser.proofs.Answering.{answer_found, answer_err}
+use Rattle.educe_parser.proofs.Answering.{answer_clauses}
 use Rattle.educe_parser.proofs.calls.read_definition.Goals as goal
 
 pub returns : goal.returns
 returns c =
-    let is = c.whole.ensures (read depth_limit definition) (record { reads = λ old new r p. search rules }) in record {
-      found = answer_found definition definition_again c.args.tokens.now c.whole.result is;
-      err = answer_err definition definition_again definition_ready c.args.tokens.now c.whole.result is;
+    let is = c.whole.ensures (read depth_limit definition) (record { reads = λ old new r p. search rules }) in
+    let all = answer_clauses definition definition_again definition_ready c.args.tokens.now c.whole.result is in record {
+      found = all.found;
+      err = all.err;
     }

@@ -1,6 +1,6 @@
 use Rattle.std.proofs.Common.{length, ap, sym, ◌∙◌, inr}
 use Rattle.educe_grammar.specs.declared.parse_error.ParseError.TheVariants.{Syntax}
-use Rattle.educe_parser.specs.Answers.{refusal_of}
+use Rattle.educe_grammar.specs.Parsed.{refusal_of}
 use Rattle.educe_parser.proofs.Answering.{answered, stopped}
 use Rattle.educe_parser.proofs.whole.whole.Goals as goal
 

@@ -1,0 +1,141 @@
+-- The laws of parsing: of the rules that the calls read by, of definitions, of places and of types.
+use Rattle.std.specs.Prelude.{◌≡◌, ◌⊎◌, ◌↔◌, ℕ, List, [], true, Ok}
+use Rattle.std.specs.List.{AllByRecursion}
+use Rattle.std.proofs.Common.{sym, subst}
+use Rattle.educe_tokens.specs.declared.error.EduceError.{EduceError}
+use Rattle.educe_tokens.specs.declared.span.Span.{Span}
+use Rattle.educe_tokens.specs.declared.token.Token.{Token}
+use Rattle.educe_tokens.specs.Causes.{HasCause}
+use Rattle.educe_tree.specs.declared.attr.Meta.{Meta}
+use Rattle.educe_tree.specs.declared.derive.DeriveInput.{DeriveInput}
+use Rattle.educe_tree.specs.declared.ty.Ty.{Ty}
+use Rattle.educe_grammar.specs.Alike.{AreEqualAside, AlikeTypes}
+use Rattle.educe_grammar.specs.Attributes.{metas}
+use Rattle.educe_grammar.specs.Causes.{IsUncaused, IsSingle, IsReported, IsDecided}
+use Rattle.educe_grammar.specs.Definitions.{definition}
+use Rattle.educe_grammar.specs.Expressions.{expr_path, expression}
+use Rattle.educe_grammar.specs.Generics.{predicates}
+use Rattle.educe_grammar.specs.Names.{name}
+use Rattle.educe_grammar.specs.Parsed.{depth_limit, IsWhole, IsParseCause}
+use Rattle.educe_grammar.specs.Placed.{HasPlace, IsSpan, AreMetasPlaced, IsDefinitionPlaced}
+use Rattle.educe_grammar.specs.Reads.{Reads, read}
+use Rattle.educe_grammar.specs.Refusal.{IsDefinition, IsRefusalOf}
+use Rattle.educe_grammar.specs.Rules.{Rule}
+use Rattle.educe_grammar.specs.Steps.{Tokens}
+use Rattle.educe_grammar.specs.Types.{any_type}
+use Rattle.educe_grammar.proofs.AlikeByTokens as alike
+use Rattle.educe_grammar.proofs.Decided as decided
+use Rattle.educe_grammar.proofs.Opening.{is_ready}
+use Rattle.educe_grammar.proofs.Placed.{definition_stands, metas_stand}
+use Rattle.educe_grammar.proofs.ReadsAgain as again
+use Rattle.educe_grammar.proofs.Ready as ready
+use Rattle.educe_grammar.proofs.Refusals as refusals
+use Rattle.educe_grammar.proofs.Repeated.{all_at}
+use Rattle.educe_grammar.proofs.Reported.{cause_reported, refusal_reported}
+
+-- ---- rules
+
+-- What holds of a rule and each list of tokens, within the limits.
+pub record RuleLaws {A : Type 0} (g : Rule A) : Type 0 where
+  -- the list has a reading, or there is a cause why it has none
+  pub decided : (tokens : Tokens) → IsDecided g tokens
+  -- it has one reading only
+  pub one_reading : (tokens : Tokens) (x y : A) → IsWhole g tokens x → IsWhole g tokens y → x ≡ y
+  -- where it has one, no cause stands but out of memory
+  pub uncaused : (tokens : Tokens) (x : A) → IsWhole g tokens x → IsUncaused (IsParseCause g tokens)
+  -- it has one cause only
+  pub one_cause : (tokens : Tokens) → IsSingle (IsParseCause g tokens)
+  -- a cause has the words of its message, and its place
+  pub reported : (tokens : Tokens) (e : EduceError) → IsParseCause g tokens e → IsReported tokens e
+  -- the reading is what the program of the rule reads
+  pub by_program : (tokens : Tokens) (x : A) → IsWhole g tokens x ↔ (read depth_limit g tokens ≡ Ok (x, []))
+
+-- a rule whose readings the program reads, and in which what nests stands behind an opener, has them
+lawful : {A : Type 0} (g : Rule A) → again.ReadsAgain g → is_ready g ≡ true → RuleLaws g
+lawful g reads_again is_ready = record {
+  decided = decided.decided g reads_again is_ready;
+  one_reading = again.one_reading g reads_again depth_limit;
+  uncaused = refusals.whole_uncaused g;
+  one_cause = refusals.one_cause g;
+  reported = cause_reported g;
+  by_program = λ tokens x. (reads_again depth_limit tokens x, decided.whole_if_read g reads_again tokens x);
+}
+
+-- the rule of a name has them
+pub lawful_name : RuleLaws name
+lawful_name = lawful name again.name_again ready.name_ready
+
+-- that of a path in an expression
+pub lawful_path : RuleLaws expr_path
+lawful_path = lawful expr_path again.expr_path_again ready.expr_path_ready
+
+-- that of an expression
+pub lawful_expression : RuleLaws expression
+lawful_expression = lawful expression again.expression_again ready.expression_ready
+
+-- that of predicates
+pub lawful_predicates : RuleLaws predicates
+lawful_predicates = lawful predicates again.predicates_again ready.predicates_ready
+
+-- that of metas
+pub lawful_metas : RuleLaws metas
+lawful_metas = lawful metas again.metas_again ready.metas_ready
+
+-- that of a definition
+pub lawful_definition : RuleLaws definition
+lawful_definition = lawful definition again.definition_again ready.definition_ready
+
+-- ---- definitions
+
+-- What holds of definitions whose names are apart, and each list of tokens, within the limits.
+pub record DefinitionLaws : Type 0 where
+  -- the list is such a definition, or there is a cause why it is refused
+  pub decided : (tokens : Tokens) → ((found : DeriveInput) × IsDefinition tokens found) ⊎ HasCause (IsRefusalOf tokens)
+  -- where it is one, no cause stands but out of memory
+  pub uncaused : (tokens : Tokens) (found : DeriveInput) → IsDefinition tokens found → IsUncaused (IsRefusalOf tokens)
+  -- it is refused for one cause only
+  pub one_cause : (tokens : Tokens) → IsSingle (IsRefusalOf tokens)
+  -- a cause has the words of its message, and its place
+  pub reported : (tokens : Tokens) (e : EduceError) → IsRefusalOf tokens e → IsReported tokens e
+
+-- definitions have them
+pub lawful_definitions : DefinitionLaws
+lawful_definitions = record {
+  decided = decided.definition_decided;
+  uncaused = refusals.definition_uncaused;
+  one_cause = refusals.one_refusal;
+  reported = refusal_reported;
+}
+
+-- ---- places
+
+-- what is read stands where its tokens do
+pub record PlaceLaws : Type 0 where
+  pub definitions : (tokens : Tokens) (found : DeriveInput) → IsWhole definition tokens found → IsDefinitionPlaced tokens found
+  pub metas : (tokens : Tokens) (found : List Meta) → IsWhole metas tokens found → AreMetasPlaced tokens found
+
+-- definitions and metas do
+pub lawful_places : PlaceLaws
+lawful_places = record { definitions = definition_stands; metas = metas_stand }
+
+-- what holds of each token's place holds of a place where a token stands
+pub place_has : (P : Span → Type 0) (tokens : Tokens) (place : Span) → AllByRecursion (λ (t : Token). P t.span) tokens → HasPlace tokens place → P place
+place_has P tokens place each is = subst P is.at_place (all_at (λ (t : Token). P t.span) is.front is.rest is.found (subst (AllByRecursion (λ (t : Token). P t.span)) is.is each))
+
+-- what holds where each token starts holds where a span starts
+pub start_has : (P : ℕ → Type 0) (tokens : Tokens) (span : Span) → AllByRecursion (λ (t : Token). P t.span.start) tokens → IsSpan tokens span → P span.start
+start_has P tokens span each is = subst (λ (s : Span). P s.start) (sym is.is) (place_has (λ s. P s.start) tokens is.first each is.first_stands)
+
+-- what holds where each token ends holds where a span ends
+pub end_has : (P : ℕ → Type 0) (tokens : Tokens) (span : Span) → AllByRecursion (λ (t : Token). P t.span.end) tokens → IsSpan tokens span → P span.end
+end_has P tokens span each is = subst (λ (s : Span). P s.end) (sym is.is) (place_has (λ s. P s.end) tokens is.last each is.last_stands)
+
+-- ---- types
+
+-- types read of lists that are equal, spans and jointness aside, are alike, whatever the budgets
+abbrev pub TypeLaw : Type 0
+TypeLaw = (b c : ℕ) (ts us : Tokens) (x y : Ty) → AreEqualAside ts us → Reads b any_type ts x → Reads c any_type us y → AlikeTypes x y
+
+-- so they are
+pub lawful_types : TypeLaw
+lawful_types = alike.types_alike
