@@ -12,10 +12,9 @@ use crate::ranked::Ranked;
 use educe_body::{
     Body, Callee, Form, Forms, Function, Functions, ImplItem, Item, Known, built_in_path, key_word,
 };
-use educe_copies::Duplicate;
 use educe_tokens::{Boxed, Seq, Word, Written};
 use educe_traits::Trait;
-use educe_tree::{DeriveInput, Field, Ident};
+use educe_tree::{DeriveInput, Duplicate, Field, Ident};
 use std::alloc::{AllocError, Global};
 use std::cmp::Ordering;
 

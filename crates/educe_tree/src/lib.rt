@@ -1,7 +1,8 @@
-//! The syntax trees of a definition. The names are those of syn.
+//! The syntax trees of a definition, and their copies. The names are those of syn.
 #![tactic(auto)]
 
 mod attr;
+mod copies;
 mod data;
 mod derive;
 mod expr;
@@ -13,6 +14,7 @@ mod path;
 mod ty;
 
 pub use attr::{Attribute, Attributes, Meta, MetaPath, Metas, path_to_string};
+pub use copies::Duplicate;
 pub use data::{Field, FieldForm, FieldShape, Fields, Variant, Variants};
 pub use derive::{DeriveInput, Shape};
 pub use expr::{Expr, ExprForm, ExprPath};
