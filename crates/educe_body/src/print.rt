@@ -52,7 +52,7 @@ impl ToTokens for Form {
             Form::Local(name) => name.to_tokens(alloc, tokens),
             Form::Known(known) => known.to_tokens(alloc, tokens),
             Form::Reference(base, field) => push_reference(alloc, tokens, base, field),
-            Form::Call(path, arguments) => push_call(alloc, tokens, path, arguments),
+            Form::Call(path, arguments) => push_call(alloc, tokens, path.get(), arguments),
             Form::SomeOf(inner) => push_some(alloc, tokens, inner.get()),
             Form::IfReturn(test) => {
                 quote(alloc, tokens, "if")?;
