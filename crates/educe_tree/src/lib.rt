@@ -11,6 +11,7 @@ mod ident;
 mod lifetime;
 mod names;
 mod path;
+mod to_tokens;
 mod ty;
 
 pub use attr::{Attribute, Attributes, Meta, MetaPath, Metas, path_to_string};
@@ -26,4 +27,5 @@ pub use ident::Ident;
 pub use lifetime::Lifetime;
 pub use names::{is_name, is_spelled, unraw};
 pub use path::{AngleArg, AngleArgs, Args, Path, Paths, Segment, Segments};
+pub use to_tokens::{AsWritten, ToTokens, text_of_tree};
 pub use ty::{Ty, TypeForm, Types};

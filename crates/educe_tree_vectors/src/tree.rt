@@ -6,10 +6,10 @@ use educe_checks::{
     lexed_slice, printed,
 };
 use educe_parser::{parse_metas, parse_path};
-use educe_tokens::{Span, Spelling, text_of_tree};
+use educe_tokens::{Span, Spelling};
 use educe_tree::{
     DeriveInput, Duplicate, ExprPath, GenericParam, Lifetime, Meta, MetaPath, Metas, Shape, Ty,
-    TypeForm, is_name, path_to_string, unraw,
+    TypeForm, is_name, path_to_string, text_of_tree, unraw,
 };
 use std::alloc::Global;
 use std::test::Fail;

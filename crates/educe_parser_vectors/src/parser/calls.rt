@@ -7,8 +7,10 @@ use educe_checks::{
 use educe_parser::{
     parse_derive_input, parse_expr, parse_ident, parse_metas, parse_path, parse_predicates,
 };
-use educe_tokens::{EduceError, Kind, Span, ToTokens, text_of_tree};
-use educe_tree::{DeriveInput, Duplicate, ExprPath, Meta, Shape, WherePredicate};
+use educe_tokens::{EduceError, Kind, Span};
+use educe_tree::{
+    DeriveInput, Duplicate, ExprPath, Meta, Shape, ToTokens, WherePredicate, text_of_tree,
+};
 use std::alloc::Global;
 use std::test::Fail;
 
