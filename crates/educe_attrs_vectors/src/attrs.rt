@@ -4,11 +4,10 @@ use educe_attrs::{
     Param, Setting, ignores, listed_by, params_of, rank_in, rank_span_in, settings_by,
 };
 use educe_checks::{check_at, check_equal, definition, found, lexed_slice};
-use educe_copies::Duplicate;
 use educe_parser::parse_metas;
 use educe_tokens::{Seq, Span};
 use educe_traits::{Trait, all_listed, each_once};
-use educe_tree::{Attribute, Attributes, Meta, Metas};
+use educe_tree::{Attribute, Attributes, Duplicate, Meta, Metas};
 use std::alloc::{AllocError, Global};
 use std::test::Fail;
 

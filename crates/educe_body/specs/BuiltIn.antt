@@ -1,7 +1,17 @@
 -- The paths by which generated code calls the functions that are built in.
-use Rattle.std.specs.Prelude.{ℕ, List, [], ◌∷◌, codes}
-use Rattle.educe_tokens.specs.Lexes.{Lexeme}
+use Rattle.std.specs.Prelude.{ℕ, ◌≡◌, true, List, [], ◌∷◌, None, map, codes}
+use Rattle.educe_tokens.specs.declared.span.Span.{Span}
+use Rattle.educe_tokens.specs.Appends.{no_place, LieNowhere}
+use Rattle.educe_tokens.specs.Lexes.{Lexeme, lexemes}
 use Rattle.educe_tokens.specs.Quote.{quoted}
+use Rattle.educe_tokens.specs.WrittenLexemes.{written_lexemes}
+use Rattle.educe_tree.specs.declared.expr.ExprPath.{ExprPath}
+use Rattle.educe_tree.specs.declared.path.Args.{Args}
+use Rattle.educe_tree.specs.declared.path.Args.TheVariants as args
+use Rattle.educe_tree.specs.declared.path.Path.{out-Path}
+use Rattle.educe_tree.specs.declared.path.Segment.{Segment, out-Segment}
+use Rattle.educe_grammar.specs.Expressions.{expr_path}
+use Rattle.educe_grammar.specs.Parsed.{IsWhole}
 use Rattle.educe_body.specs.declared.answers.Callee.{Callee}
 use Rattle.educe_body.specs.declared.answers.Callee.TheVariants.{Ne, Cmp, PartialCmp}
 
@@ -16,3 +26,25 @@ abbrev pub path_names : Callee → List (List ℕ)
 path_names Ne = codes "core" ∷ codes "cmp" ∷ codes "PartialEq" ∷ codes "ne" ∷ []
 path_names Cmp = codes "core" ∷ codes "cmp" ∷ codes "Ord" ∷ codes "cmp" ∷ []
 path_names PartialCmp = codes "core" ∷ codes "cmp" ∷ codes "PartialOrd" ∷ codes "partial_cmp" ∷ []
+
+-- what a segment says: its name, where that lies, and its arguments
+abbrev pub said_by : Segment → List ℕ × Span × Args
+said_by segment = ((out-Segment segment).ident.text, (out-Segment segment).ident.span, (out-Segment segment).args)
+
+-- what a segment says that the program makes: a name alone, at no place
+abbrev pub name_alone : List ℕ → List ℕ × Span × Args
+name_alone name = (name, no_place, args.None)
+
+-- the path of these tokens and names, behind `::` and no type; no name has arguments, and nothing lies anywhere
+pub record IsMade (found : List Lexeme) (names : List (List ℕ)) (path : ExprPath) : Type 0 where
+  pub held : lexemes path.written.tokens ≡ found
+  pub tokens : written_lexemes path.written ≡ found
+  pub nowhere : LieNowhere path.written.tokens
+  pub unqualified : path.self_type ≡ None
+  pub leading : (out-Path path.path).leading ≡ true
+  pub segments : map said_by (out-Path path.path).segments ≡ map name_alone names
+
+-- the path by which generated code calls the function: it is made so, and it is the reading of its tokens
+pub record IsBuiltIn (callee : Callee) (path : ExprPath) : Type 0 where
+  pub made : IsMade (path_lexemes callee) (path_names callee) path
+  pub reads : IsWhole expr_path path.written.tokens path

@@ -1,21 +1,18 @@
 //! The paths of the functions that are built in.
-ghost use Rattle.std.specs.Prelude.{◌≡◌, IfOk, IsTrue, true, None, map, codes, [], ◌∷◌};
+ghost use Rattle.std.specs.Prelude.{◌≡◌, IfOk, IsTrue, map, codes, [], ◌∷◌};
 ghost use Rattle.educe_tokens.specs.Quote.{is_ascii_name, is_template, quoted};
 ghost use Rattle.educe_tokens.specs.Text.{is_written};
-ghost use Rattle.educe_tokens.specs.WrittenLexemes.{written_lexemes};
-ghost use Rattle.educe_tree.specs.declared.path.Path.{out-Path};
-ghost use Rattle.educe_tree.specs.declared.path.Segment.{out-Segment};
-ghost use Rattle.educe_body.specs.BuiltIn.{path_lexemes, path_names};
+ghost use Rattle.educe_body.specs.BuiltIn.{said_by, name_alone, IsMade, IsBuiltIn};
 
 use crate::answers::Callee;
 use educe_tokens::{Seq, Written};
 use educe_tree::{Args, ExprPath, Ident, Path, Segment, Segments};
 use std::alloc::{AllocError, Global};
 
-/// A segment without arguments.
+/// A name without arguments, at no place.
 fn segment(alloc: Global, name: &str) -> Result<Segment, AllocError>
     requires { IsTrue (is_ascii_name name.now) }
-    ensures { IfOk result (λ segment. (out-Segment segment).ident.text ≡ name.now) }
+    ensures { IfOk result (λ segment. said_by segment ≡ name_alone name.now) }
 {
     let ident = Ident::from_name(alloc, name)?;
     Ok(Segment {
@@ -28,7 +25,8 @@ fn segment(alloc: Global, name: &str) -> Result<Segment, AllocError>
 fn comparison_segments(alloc: Global, which: &str, function: &str) -> Result<Segments, AllocError>
     requires which { IsTrue (is_ascii_name which.now) }
     requires function { IsTrue (is_ascii_name function.now) }
-    ensures { IfOk result (λ segments. map (λ s. (out-Segment s).ident.text) segments ≡ codes "core" ∷ codes "cmp" ∷ which.now ∷ function.now ∷ []) }
+    ensures { let names = codes "core" ∷ codes "cmp" ∷ which.now ∷ function.now ∷ [] in
+        IfOk result (λ segments. map said_by segments ≡ map name_alone names) }
 {
     let mut segments = Seq::new(alloc);
     segments.push(segment(alloc, "core")?)?;
@@ -49,10 +47,8 @@ fn comparison_path(
     requires function { IsTrue (is_ascii_name function.now) }
     requires template { IsTrue (is_template text.now) }
     requires written { IsTrue (is_written (quoted text.now)) }
-    ensures tokens { IfOk result (λ path. written_lexemes path.written ≡ quoted text.now) }
-    ensures unqualified { IfOk result (λ path. path.self_type ≡ None) }
-    ensures leading { IfOk result (λ path. (out-Path path.path).leading ≡ true) }
-    ensures names { IfOk result (λ path. map (λ s. (out-Segment s).ident.text) (out-Path path.path).segments ≡ codes "core" ∷ codes "cmp" ∷ which.now ∷ function.now ∷ []) }
+    ensures { let names = codes "core" ∷ codes "cmp" ∷ which.now ∷ function.now ∷ [] in
+        IfOk result (IsMade (quoted text.now) names) }
 {
     let segments = comparison_segments(alloc, which, function)?;
     let written = Written::from_template(alloc, text)?;
@@ -69,10 +65,7 @@ fn comparison_path(
 /// The path by which generated code calls a function that is built in.
 #[tactic(auto, unfolding(educe_tokens::specs::Quote::quoted))]
 pub fn built_in_path(alloc: Global, callee: &Callee) -> Result<ExprPath, AllocError>
-    ensures tokens { IfOk result (λ path. written_lexemes path.written ≡ path_lexemes callee.now) }
-    ensures unqualified { IfOk result (λ path. path.self_type ≡ None) }
-    ensures leading { IfOk result (λ path. (out-Path path.path).leading ≡ true) }
-    ensures names { IfOk result (λ path. map (λ s. (out-Segment s).ident.text) (out-Path path.path).segments ≡ path_names callee.now) }
+    ensures { IfOk result (IsBuiltIn callee.now) }
 {
     match callee {
         Callee::Ne => {

@@ -141,7 +141,7 @@ fn run_form(form: &Form, names: &[Binding], scope: &Scope, answers: &Answers) ->
         Form::Local(name) => local(scope, find(names, &name.text)),
         Form::Known(known) => Flow::Gives(known_value(*known)),
         Form::Reference(base, field) => reference(scope, find(names, &base.text), &field.text),
-        Form::Call(path, args) => run_call(path, args, names, scope, answers),
+        Form::Call(path, args) => run_call(path.get(), args, names, scope, answers),
         Form::IfReturn(test) => end_if(run_form(test.get(), names, scope, answers)),
         Form::Return(inner) => returned(run_form(inner.get(), names, scope, answers)),
         Form::SomeOf(inner) => in_some(run_form(inner.get(), names, scope, answers)),

@@ -1,4 +1,5 @@
 //! The forms that bodies are made of.
+use crate::shared::Shared;
 use educe_tokens::{Boxed, Seq, Word};
 use educe_tree::{ExprPath, Ident};
 use std::cmp::Ordering;
@@ -20,8 +21,8 @@ pub enum Form {
     Known(Known),
     /// `&base.field`
     Reference(Ident, Word),
-    /// The path of a function, and its arguments.
-    Call(ExprPath, Forms),
+    /// The path of a function, which calls of the same function share, and its arguments.
+    Call(Shared<ExprPath>, Forms),
     /// `::core::option::Option::Some(x)`
     SomeOf(Boxed<Form>),
     /// `if x { return false; }`

@@ -9,8 +9,8 @@ ghost use Rattle.educe_body.specs.TokenLaws.{known_printable, form_printable};
 
 use crate::form::{Form, Forms, Known};
 use crate::print_orders::{push_arm_block, push_order, push_some_order};
-use educe_tokens::{ToTokens, TokenStream, Word, push_word, quote};
-use educe_tree::{ExprPath, Ident};
+use educe_tokens::{TokenStream, Word, push_word, quote};
+use educe_tree::{ExprPath, Ident, ToTokens};
 use std::alloc::{AllocError, Global};
 
 impl ToTokens for Known {
@@ -52,7 +52,7 @@ impl ToTokens for Form {
             Form::Local(name) => name.to_tokens(alloc, tokens),
             Form::Known(known) => known.to_tokens(alloc, tokens),
             Form::Reference(base, field) => push_reference(alloc, tokens, base, field),
-            Form::Call(path, arguments) => push_call(alloc, tokens, path, arguments),
+            Form::Call(path, arguments) => push_call(alloc, tokens, path.get(), arguments),
             Form::SomeOf(inner) => push_some(alloc, tokens, inner.get()),
             Form::IfReturn(test) => {
                 quote(alloc, tokens, "if")?;

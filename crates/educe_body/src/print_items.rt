@@ -10,8 +10,9 @@ ghost use Rattle.educe_body.specs.TokenLaws.{impl_printable, item_printable};
 
 use crate::body::{Function, Functions, ImplItem, Item, Names};
 use crate::print::push_block;
-use educe_tokens::{ToTokens, TokenStream, Word, append_written, push_word, quote};
+use educe_tokens::{TokenStream, Word, append_written, push_word, quote};
 use educe_traits::Trait;
+use educe_tree::ToTokens;
 use std::alloc::{AllocError, Global};
 
 impl Function {

@@ -6,7 +6,7 @@ ghost use Rattle.educe_tokens.specs.Text.{text_of};
 ghost use Rattle.educe_body.specs.Tokens.{item_lexemes, tokens_of, spelling};
 
 use crate::body::{Item, Items};
-use educe_tokens::text_of_tree;
+use educe_tree::text_of_tree;
 use std::alloc::{AllocError, Global};
 
 /// Adds the text of an item, and a line feed behind it.

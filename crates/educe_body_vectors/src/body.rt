@@ -1,7 +1,7 @@
 //! Of `educe_body`: that words are made, fields are read and items are spelled, and that the words of
 //! the contracts mean what they are to mean.
 
-use educe_body::{Callee, Form, Forms, built_in_path};
+use educe_body::{Callee, Form, Forms, Shared, built_in_path};
 use educe_tokens::{Seq, pair};
 use std::alloc::{AllocError, Global};
 
@@ -34,6 +34,7 @@ fn call(
     callee: Callee,
     arguments: Result<Forms, AllocError>,
 ) -> Result<Form, AllocError> {
-    let (path, arguments) = pair(built_in_path(alloc, &callee)?, arguments)?;
+    let path = Shared::new(alloc, built_in_path(alloc, &callee)?)?;
+    let (path, arguments) = pair(path, arguments)?;
     Ok(Form::Call(path, arguments))
 }

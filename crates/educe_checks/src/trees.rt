@@ -2,7 +2,7 @@
 ghost use Rattle.std.specs.Prelude.{◌≡◌, chars, string_bytes, IfOk};
 ghost use Rattle.educe_tokens.specs.Text.{text_of};
 
-use educe_tokens::{ToTokens, text_of_tree};
+use educe_tree::{ToTokens, text_of_tree};
 use std::alloc::{AllocError, Global};
 
 /// The text of a tree.

@@ -198,7 +198,7 @@ module _ (d : DeriveInput) (a b : Value) (table : Answers) (param : List ℕ) (i
   comparison_value which place f x y z is at_a at_b =
       ap (form_value scene names) is.is
       ∙ form_value-Call scene names is.path (is.own ∷ is.others ∷ [])
-      ∙ ap (λ (c : Option Callee). call_named scene c (map (form_value scene names) (is.own ∷ is.others ∷ []))) (callee_of-comparison which is.path is.path_is)
+      ∙ ap (λ (c : Option Callee). call_named scene c (map (form_value scene names) (is.own ∷ is.others ∷ []))) (callee_of-comparison which is.path is.path_is.made.tokens)
       ∙ (λ i. call_answer table (comparison which) (own_value place f is.own y is.own_is at_a i ∷ others_value place f is.others z is.others_is at_b i ∷ []))
 
   step_of-value : (which : Trait) (x : Form) → form_value scene names (step_of which x) ≡ step_flow which (form_value scene names x)

@@ -1,15 +1,14 @@
 -- What the block of a derived trait holds.
-use Rattle.std.specs.Prelude.{ℕ, ℤ, IsTrue, ◌≡◌, ◌≢◌, true, false, List, [], ◌∷◌, ◌++◌, map, Some, None, IsPermutation, codes}
+use Rattle.std.specs.Prelude.{ℕ, ℤ, IsTrue, ◌≡◌, ◌≢◌, true, false, List, [], ◌∷◌, ◌++◌, Some, IsPermutation, codes}
 use Rattle.std.specs.List.{AllByRecursion, AllZip, filter}
 use Rattle.std.specs.declared.cmp.Ordering.TheVariants.{Less, Equal, Greater}
 use Rattle.educe_tokens.specs.declared.span.Span.{Span}
 use Rattle.educe_tokens.specs.declared.word.Word.{Word}
+use Rattle.educe_tokens.specs.Appends.{no_place, LieNowhere}
 use Rattle.educe_tokens.specs.Quote.{quoted}
 use Rattle.educe_tokens.specs.WrittenLexemes.{written_lexemes}
 use Rattle.educe_tree.specs.declared.ident.Ident.{Ident}
 use Rattle.educe_tree.specs.declared.expr.ExprPath.{ExprPath}
-use Rattle.educe_tree.specs.declared.path.Path.{out-Path}
-use Rattle.educe_tree.specs.declared.path.Segment.{out-Segment}
 use Rattle.educe_tree.specs.declared.data.Field.{Field}
 use Rattle.educe_tree.specs.declared.derive.DeriveInput.{DeriveInput}
 use Rattle.educe_traits.specs.declared.traits.Trait.{Trait}
@@ -26,7 +25,7 @@ use Rattle.educe_body.specs.declared.body.Item.{Item}
 use Rattle.educe_body.specs.declared.body.Item.TheVariants.{Impl}
 use Rattle.educe_body.specs.declared.answers.Answers.{Answers}
 use Rattle.educe_body.specs.declared.value.Value.{Value}
-use Rattle.educe_body.specs.BuiltIn.{path_lexemes, path_names}
+use Rattle.educe_body.specs.BuiltIn.{IsBuiltIn}
 use Rattle.educe_body.specs.Keys.{key_of}
 use Rattle.educe_body.specs.Meaning.{Scene, value}
 use Rattle.educe_body.specs.Words.{HasWord}
@@ -43,13 +42,8 @@ pub record IsReference (base : List ℕ) (place : ℕ) (field : Field) (x : Form
   pub key : Word
   pub is : x ≡ Reference base_name key
   pub base_is : base_name.text ≡ base
+  pub nowhere : base_name.span ≡ no_place
   pub key_is : key.text ≡ key_of place field
-
--- the tree of a path has these names, the first one first, behind `::` and no type
-pub record HasNames (path : ExprPath) (names : List (List ℕ)) : Type 0 where
-  pub unqualified : path.self_type ≡ None
-  pub leading : (out-Path path.path).leading ≡ true
-  pub names_are : map (λ s. (out-Segment s).ident.text) (out-Path path.path).segments ≡ names
 
 -- `comparison ( & self . key , & other . key )`: the trait's comparison of this field of both values
 pub record IsComparison (which : Trait) (other : List ℕ) (place : ℕ) (field : Field) (x : Form) : Type 0 where
@@ -57,8 +51,7 @@ pub record IsComparison (which : Trait) (other : List ℕ) (place : ℕ) (field 
   pub own : Form
   pub others : Form
   pub is : x ≡ Call path (own ∷ others ∷ [])
-  pub path_is : written_lexemes path.written ≡ path_lexemes (comparison which)
-  pub path_has : HasNames path (path_names (comparison which))
+  pub path_is : IsBuiltIn (comparison which) path
   pub own_is : IsReference (codes "self") place field own
   pub others_is : IsReference other place field others
 
@@ -169,6 +162,7 @@ IsListedCause definition Memory = Unit {0}
 pub record IsImpl (which : Trait) (definition : DeriveInput) (item : ImplItem) : Type 0 where
   pub which_is : item.which ≡ which
   pub attributes_are : written_lexemes item.attributes ≡ quoted (codes "# [ automatically_derived ]")
+  pub attributes_lie : LieNowhere item.attributes.tokens
   pub ident_is : item.ident ≡ definition.ident
   pub functions_are : AreFunctions which definition item.functions
 

@@ -1,6 +1,7 @@
 //! The blocks of the traits that compare two values.
 ghost use Rattle.std.specs.Prelude.{◌≡◌, [], ◌∷◌, IfOk, IsTrue, codes, map};
 ghost use Rattle.educe_tokens.specs.Quote.{is_ascii_name};
+ghost use Rattle.educe_body.specs.BuiltIn.{IsBuiltIn};
 ghost use Rattle.educe_body.specs.Words.{HasWord};
 ghost use Rattle.educe_core.specs.declared.ranked.Ranked.{Ranked};
 ghost use Rattle.educe_core.specs.Ranked.{kept_of};
@@ -10,12 +11,12 @@ ghost use Rattle.educe_core.specs.Blocks as spec;
 
 use crate::ranked::Ranked;
 use educe_body::{
-    Body, Callee, Form, Forms, Function, Functions, ImplItem, Item, Known, built_in_path, key_word,
+    Body, Callee, Form, Forms, Function, Functions, ImplItem, Item, Known, Shared, built_in_path,
+    key_word,
 };
-use educe_copies::Duplicate;
 use educe_tokens::{Boxed, Seq, Word, Written};
 use educe_traits::Trait;
-use educe_tree::{DeriveInput, Field, Ident};
+use educe_tree::{DeriveInput, Duplicate, ExprPath, Field, Ident};
 use std::alloc::{AllocError, Global};
 use std::cmp::Ordering;
 
@@ -43,14 +44,29 @@ fn reference(alloc: Global, base: &str, place: usize, field: &Field) -> Result<F
     Ok(Form::Reference(base, key))
 }
 
-/// `comparison(&self.key, &other.key)`
-fn compared(alloc: Global, which: Trait, place: usize, field: &Field) -> Result<Form, AllocError>
+/// The path by which all steps of a trait call its comparison.
+fn comparison_path(alloc: Global, which: Trait) -> Result<Shared<ExprPath>, AllocError>
+    ensures { IfOk result (IsBuiltIn (meaning.comparison which)) }
+{
+    let path = built_in_path(alloc, &comparison(which))?;
+    Shared::new(alloc, path)
+}
+
+/// `path(&self.key, &other.key)`
+fn compared(
+    alloc: Global,
+    which: Trait,
+    path: &Shared<ExprPath>,
+    place: usize,
+    field: &Field,
+) -> Result<Form, AllocError>
+    requires { IsBuiltIn (meaning.comparison which) path.now }
     ensures { IfOk result (spec.IsComparison which (codes "other") place field.now) }
 {
     let mut arguments = Seq::new(alloc);
     arguments.push(reference(alloc, "self", place, field)?)?;
     arguments.push(reference(alloc, OTHER, place, field)?)?;
-    let path = built_in_path(alloc, &comparison(which))?;
+    let path = path.duplicate()?;
     Ok(Form::Call(path, arguments))
 }
 
@@ -68,10 +84,17 @@ fn step_of(which: Trait, comparison: Boxed<Form>) -> Form
 }
 
 /// The step of a trait on the field at a place.
-fn step(alloc: Global, which: Trait, place: usize, field: &Field) -> Result<Form, AllocError>
+fn step(
+    alloc: Global,
+    which: Trait,
+    path: &Shared<ExprPath>,
+    place: usize,
+    field: &Field,
+) -> Result<Form, AllocError>
+    requires { IsBuiltIn (meaning.comparison which) path.now }
     ensures { IfOk result (spec.IsStep which (codes "other") place field.now) }
 {
-    let comparison = compared(alloc, which, place, field)?;
+    let comparison = compared(alloc, which, path, place, field)?;
     Ok(step_of(which, Boxed::new(alloc, comparison)?))
 }
 
@@ -90,9 +113,10 @@ fn last_of(which: Trait) -> Known
 fn steps(alloc: Global, which: Trait, fields: &[Ranked<'_>]) -> Result<Forms, AllocError>
     ensures { IfOk result (spec.HasSteps which (codes "other") (map kept_of fields.now)) }
 {
+    let path = comparison_path(alloc, which)?;
     let mut block = Seq::new(alloc);
     for ranked in fields {
-        block.push(step(alloc, which, ranked.place, ranked.field)?)?;
+        block.push(step(alloc, which, &path, ranked.place, ranked.field)?)?;
     }
     block.push(Form::Known(last_of(which)))?;
     Ok(block)

@@ -2,12 +2,11 @@
 ghost use Rattle.std.specs.Prelude.{◌≡◌, ◌↔◌, List, IsTrue, IfOk, IfSome, IfNone, chars};
 ghost use Rattle.std.specs.List.{flat_map};
 ghost use Rattle.std.specs.String.{string_bytes};
-ghost use Rattle.educe_tokens.specs.WrittenLexemes.{written_lexemes};
-ghost use Rattle.educe_tree.specs.Printed.{printed-well_formed, printed-ends_apart, printed-lexes_back};
 ghost use Rattle.educe_tree.specs.Words.{IsWord, IsOneWord};
 
 use crate::expr::Expr;
-use educe_tokens::{Seq, Span, ToTokens, Token, TokenKind, TokenStream, Written, append_written};
+use crate::to_tokens::AsWritten;
+use educe_tokens::{Seq, Span, Token, TokenKind, Written};
 use std::alloc::{AllocError, Global};
 
 /// An outer attribute: what stands between `#[` and `]`, or a comment of documentation (Rust
@@ -79,16 +78,10 @@ pub fn path_to_string(alloc: Global, path: &MetaPath) -> Result<String, AllocErr
     Ok(text)
 }
 
-impl ToTokens for MetaPath {
-    ghost lexemes_of = { λ path. written_lexemes path.written };
+impl AsWritten for MetaPath {
+    ghost held = { λ path. path.written };
 
-    ghost well_formed = { λ path. printed-well_formed path.written };
-
-    ghost ends_apart = { λ path. printed-ends_apart path.written };
-
-    ghost lexes_back = { λ path. printed-lexes_back path.written };
-
-    fn to_tokens(&self, alloc: Global, tokens: &mut TokenStream) -> Result<(), AllocError> {
-        append_written(alloc, tokens, &self.written)
+    fn written(&self) -> &Written {
+        &self.written
     }
 }

@@ -1,11 +1,9 @@
 //! Expressions (Rust Reference, Expressions).
-ghost use Rattle.educe_tokens.specs.WrittenLexemes.{written_lexemes};
-ghost use Rattle.educe_tree.specs.Printed.{printed-well_formed, printed-ends_apart, printed-lexes_back};
 
 use crate::path::Path;
+use crate::to_tokens::AsWritten;
 use crate::ty::Ty;
-use educe_tokens::{ToTokens, TokenStream, Written, append_written};
-use std::alloc::{AllocError, Global};
+use educe_tokens::Written;
 
 /// An expression, with its tokens as they were written (Rust Reference, Expressions).
 #[derive(Drop)]
@@ -38,30 +36,18 @@ pub struct ExprPath {
     pub written: Written,
 }
 
-impl ToTokens for Expr {
-    ghost lexemes_of = { λ expr. written_lexemes expr.written };
+impl AsWritten for Expr {
+    ghost held = { λ expr. expr.written };
 
-    ghost well_formed = { λ expr. printed-well_formed expr.written };
-
-    ghost ends_apart = { λ expr. printed-ends_apart expr.written };
-
-    ghost lexes_back = { λ expr. printed-lexes_back expr.written };
-
-    fn to_tokens(&self, alloc: Global, tokens: &mut TokenStream) -> Result<(), AllocError> {
-        append_written(alloc, tokens, &self.written)
+    fn written(&self) -> &Written {
+        &self.written
     }
 }
 
-impl ToTokens for ExprPath {
-    ghost lexemes_of = { λ path. written_lexemes path.written };
+impl AsWritten for ExprPath {
+    ghost held = { λ path. path.written };
 
-    ghost well_formed = { λ path. printed-well_formed path.written };
-
-    ghost ends_apart = { λ path. printed-ends_apart path.written };
-
-    ghost lexes_back = { λ path. printed-lexes_back path.written };
-
-    fn to_tokens(&self, alloc: Global, tokens: &mut TokenStream) -> Result<(), AllocError> {
-        append_written(alloc, tokens, &self.written)
+    fn written(&self) -> &Written {
+        &self.written
     }
 }

@@ -1,11 +1,9 @@
 //! Generic parameters and where clauses (Rust Reference, Generic parameters).
-ghost use Rattle.educe_tokens.specs.WrittenLexemes.{written_lexemes};
-ghost use Rattle.educe_tree.specs.Printed.{printed-well_formed, printed-ends_apart, printed-lexes_back};
 
 use crate::ident::Ident;
 use crate::lifetime::Lifetime;
-use educe_tokens::{Seq, ToTokens, TokenStream, Written, append_written};
-use std::alloc::{AllocError, Global};
+use crate::to_tokens::AsWritten;
+use educe_tokens::{Seq, Written};
 
 /// The parameters of a definition and the predicates of its where clause (Rust Reference, Generic
 /// parameters).
@@ -61,78 +59,48 @@ pub struct WherePredicate {
 /// Predicates in their order.
 pub type Predicates = Seq<WherePredicate>;
 
-impl ToTokens for GenericParam {
+impl AsWritten for GenericParam {
     ghost use Rattle.educe_tree.specs.Params.{written_of};
 
-    ghost lexemes_of = { λ param. written_lexemes (written_of param) };
+    ghost held = { written_of };
 
-    ghost well_formed = { λ param. printed-well_formed (written_of param) };
-
-    ghost ends_apart = { λ param. printed-ends_apart (written_of param) };
-
-    ghost lexes_back = { λ param. printed-lexes_back (written_of param) };
-
-    fn to_tokens(&self, alloc: Global, tokens: &mut TokenStream) -> Result<(), AllocError> {
+    fn written(&self) -> &Written {
         match self {
-            GenericParam::Lifetime(param) => param.to_tokens(alloc, tokens),
-            GenericParam::TypeParam(param) => param.to_tokens(alloc, tokens),
-            GenericParam::Const(param) => param.to_tokens(alloc, tokens),
+            GenericParam::Lifetime(param) => &param.written,
+            GenericParam::TypeParam(param) => &param.written,
+            GenericParam::Const(param) => &param.written,
         }
     }
 }
 
-impl ToTokens for LifetimeParam {
-    ghost lexemes_of = { λ param. written_lexemes param.written };
+impl AsWritten for LifetimeParam {
+    ghost held = { λ param. param.written };
 
-    ghost well_formed = { λ param. printed-well_formed param.written };
-
-    ghost ends_apart = { λ param. printed-ends_apart param.written };
-
-    ghost lexes_back = { λ param. printed-lexes_back param.written };
-
-    fn to_tokens(&self, alloc: Global, tokens: &mut TokenStream) -> Result<(), AllocError> {
-        append_written(alloc, tokens, &self.written)
+    fn written(&self) -> &Written {
+        &self.written
     }
 }
 
-impl ToTokens for TypeParam {
-    ghost lexemes_of = { λ param. written_lexemes param.written };
+impl AsWritten for TypeParam {
+    ghost held = { λ param. param.written };
 
-    ghost well_formed = { λ param. printed-well_formed param.written };
-
-    ghost ends_apart = { λ param. printed-ends_apart param.written };
-
-    ghost lexes_back = { λ param. printed-lexes_back param.written };
-
-    fn to_tokens(&self, alloc: Global, tokens: &mut TokenStream) -> Result<(), AllocError> {
-        append_written(alloc, tokens, &self.written)
+    fn written(&self) -> &Written {
+        &self.written
     }
 }
 
-impl ToTokens for ConstParam {
-    ghost lexemes_of = { λ param. written_lexemes param.written };
+impl AsWritten for ConstParam {
+    ghost held = { λ param. param.written };
 
-    ghost well_formed = { λ param. printed-well_formed param.written };
-
-    ghost ends_apart = { λ param. printed-ends_apart param.written };
-
-    ghost lexes_back = { λ param. printed-lexes_back param.written };
-
-    fn to_tokens(&self, alloc: Global, tokens: &mut TokenStream) -> Result<(), AllocError> {
-        append_written(alloc, tokens, &self.written)
+    fn written(&self) -> &Written {
+        &self.written
     }
 }
 
-impl ToTokens for WherePredicate {
-    ghost lexemes_of = { λ predicate. written_lexemes predicate.written };
+impl AsWritten for WherePredicate {
+    ghost held = { λ predicate. predicate.written };
 
-    ghost well_formed = { λ predicate. printed-well_formed predicate.written };
-
-    ghost ends_apart = { λ predicate. printed-ends_apart predicate.written };
-
-    ghost lexes_back = { λ predicate. printed-lexes_back predicate.written };
-
-    fn to_tokens(&self, alloc: Global, tokens: &mut TokenStream) -> Result<(), AllocError> {
-        append_written(alloc, tokens, &self.written)
+    fn written(&self) -> &Written {
+        &self.written
     }
 }

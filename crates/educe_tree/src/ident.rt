@@ -1,14 +1,15 @@
 //! Identifiers (Rust Reference, Identifiers).
-ghost use Rattle.std.specs.Prelude.{◌≡◌, IsTrue, IfOk, OnOk, [], ◌∷◌, ◌++◌, map, chars, encode_utf8_all};
+ghost use Rattle.std.specs.Prelude.{◌≡◌, IsTrue, IfOk, OnOk, [], ◌∷◌, chars, encode_utf8_all};
 ghost use Rattle.educe_pieces.specs.declared.kind.TokenKind.TheVariants as token;
 ghost use Rattle.educe_pieces.specs.Pieces.{spells};
 ghost use Rattle.educe_tokens.specs.Quote.{is_ascii_name};
-ghost use Rattle.educe_tokens.specs.Appends.{Appends, HasPrefix};
+ghost use Rattle.educe_tokens.specs.Appends.{Appends, AppendsAt, HasPrefix};
 ghost use Rattle.educe_tokens.proofs.Printable.{printable-ident, well_formed_from, ends_apart_from, lexes_back_from};
 ghost use Rattle.educe_tree.specs.Names as names;
 
 use crate::names::unraw;
-use educe_tokens::{Span, Spelling, ToTokens, Token, TokenKind, TokenStream};
+use crate::to_tokens::ToTokens;
+use educe_tokens::{Span, Spelling, Token, TokenKind, TokenStream};
 use std::alloc::{AllocError, Global};
 
 /// A name as it was written, and its place (Rust Reference, Identifiers).
@@ -55,8 +56,7 @@ impl ToTokens for Ident {
     fn to_tokens(&self, alloc: Global, tokens: &mut TokenStream) -> Result<(), AllocError>
         ensures ok { OnOk result (Appends
             (record { kind = token.Ident; spelling = self.now.text } ∷ []) tokens.old tokens.new) }
-        ensures span { OnOk result (
-            map (λ t. t.span) tokens.new ≡ map (λ t. t.span) tokens.old ++ self.now.span ∷ []) }
+        ensures places { OnOk result (AppendsAt (self.now.span ∷ []) tokens.old tokens.new) }
         ensures prefix { HasPrefix tokens.old tokens.new }
     {
         let spelling = self.text.duplicate(alloc)?;

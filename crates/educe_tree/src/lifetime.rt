@@ -1,12 +1,13 @@
 //! Lifetimes (Rust Reference, Lifetimes and loop labels).
-ghost use Rattle.std.specs.Prelude.{◌≡◌, IsTrue, OnOk, [], ◌∷◌, ◌++◌, map};
+ghost use Rattle.std.specs.Prelude.{IsTrue, OnOk, [], ◌∷◌};
 ghost use Rattle.educe_pieces.specs.declared.kind.TokenKind.TheVariants as token;
 ghost use Rattle.educe_pieces.specs.Pieces.{spells};
-ghost use Rattle.educe_tokens.specs.Appends.{Appends, HasPrefix};
+ghost use Rattle.educe_tokens.specs.Appends.{Appends, AppendsAt, HasPrefix};
 ghost use Rattle.educe_tokens.proofs.Printable.{well_formed_from, ends_apart_from, lexes_back_from};
 ghost use Rattle.educe_tree.specs.Printed.{printable-lifetime};
 
-use educe_tokens::{Span, Spelling, ToTokens, Token, TokenKind, TokenStream};
+use crate::to_tokens::ToTokens;
+use educe_tokens::{Span, Spelling, Token, TokenKind, TokenStream};
 use std::alloc::{AllocError, Global};
 
 /// A lifetime as it was written, its `'` included, and its place (Rust Reference, Lifetimes and
@@ -31,8 +32,7 @@ impl ToTokens for Lifetime {
     fn to_tokens(&self, alloc: Global, tokens: &mut TokenStream) -> Result<(), AllocError>
         ensures ok { OnOk result (Appends
             (record { kind = token.Lifetime; spelling = self.now.text } ∷ []) tokens.old tokens.new) }
-        ensures span { OnOk result (
-            map (λ t. t.span) tokens.new ≡ map (λ t. t.span) tokens.old ++ self.now.span ∷ []) }
+        ensures places { OnOk result (AppendsAt (self.now.span ∷ []) tokens.old tokens.new) }
         ensures prefix { HasPrefix tokens.old tokens.new }
     {
         let spelling = self.text.duplicate(alloc)?;

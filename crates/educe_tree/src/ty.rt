@@ -1,10 +1,8 @@
 //! Types (Rust Reference, Types).
-ghost use Rattle.educe_tokens.specs.WrittenLexemes.{written_lexemes};
-ghost use Rattle.educe_tree.specs.Printed.{printed-well_formed, printed-ends_apart, printed-lexes_back};
 
 use crate::path::{Path, Paths};
-use educe_tokens::{Boxed, Seq, ToTokens, TokenStream, Written, append_written};
-use std::alloc::{AllocError, Global};
+use crate::to_tokens::AsWritten;
+use educe_tokens::{Boxed, Seq, Written};
 
 /// A type, with its tokens as they were written (Rust Reference, Types).
 #[cycle(tree)]
@@ -43,16 +41,10 @@ pub enum TypeForm {
     TraitObject(Paths),
 }
 
-impl ToTokens for Ty {
-    ghost lexemes_of = { λ ty. written_lexemes ty.written };
+impl AsWritten for Ty {
+    ghost held = { λ ty. ty.written };
 
-    ghost well_formed = { λ ty. printed-well_formed ty.written };
-
-    ghost ends_apart = { λ ty. printed-ends_apart ty.written };
-
-    ghost lexes_back = { λ ty. printed-lexes_back ty.written };
-
-    fn to_tokens(&self, alloc: Global, tokens: &mut TokenStream) -> Result<(), AllocError> {
-        append_written(alloc, tokens, &self.written)
+    fn written(&self) -> &Written {
+        &self.written
     }
 }

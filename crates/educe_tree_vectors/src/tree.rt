@@ -1,16 +1,15 @@
-//! Of `educe_tree` and `educe_copies`: that copies and prints succeed, and that the words of the
-//! contracts mean what they are to mean.
+//! Of `educe_tree`: that copies and prints succeed, and that the words of the contracts mean what they
+//! are to mean.
 
 use educe_checks::{
     check_answers, check_equal, check_text, check_texts, definition, first, found, lexed,
     lexed_slice, printed,
 };
-use educe_copies::Duplicate;
 use educe_parser::{parse_metas, parse_path};
-use educe_tokens::{Span, Spelling, text_of_tree};
+use educe_tokens::{Span, Spelling};
 use educe_tree::{
-    DeriveInput, ExprPath, GenericParam, Lifetime, Meta, MetaPath, Metas, Shape, Ty, TypeForm,
-    is_name, path_to_string, unraw,
+    DeriveInput, Duplicate, ExprPath, GenericParam, Lifetime, Meta, MetaPath, Metas, Shape, Ty,
+    TypeForm, is_name, path_to_string, text_of_tree, unraw,
 };
 use std::alloc::Global;
 use std::test::Fail;

@@ -4,12 +4,13 @@ use super::answer_name;
 use educe_checks::{
     check_at, check_equal, check_text, definition, first, found, lexed_slice, printed,
 };
-use educe_copies::Duplicate;
 use educe_parser::{
     parse_derive_input, parse_expr, parse_ident, parse_metas, parse_path, parse_predicates,
 };
-use educe_tokens::{EduceError, Kind, Span, ToTokens, text_of_tree};
-use educe_tree::{DeriveInput, ExprPath, Meta, Shape, WherePredicate};
+use educe_tokens::{EduceError, Kind, Span};
+use educe_tree::{
+    DeriveInput, Duplicate, ExprPath, Meta, Shape, ToTokens, WherePredicate, text_of_tree,
+};
 use std::alloc::Global;
 use std::test::Fail;
 

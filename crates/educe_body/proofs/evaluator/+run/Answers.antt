@@ -6,12 +6,12 @@ use Rattle.educe_body.proofs.evaluator.+run.Goals as goal
 pub run_form-returns-in-Call : goal.run_form-returns-in-Call
 run_form-returns-in-Call t c =
     let s = scene c.args.scope.now c.args.answers.now in
-    rw (c.in-Call.is, form_value-Call s c.args.names.now c.in-Call.path c.in-Call.args) c.run_call.ensures
+    rw (c.in-Call.is, form_value-Call s c.args.names.now c.in-Call.path c.in-Call.args, sym c.get.ensures) c.run_call.ensures
 
 pub run_form-returns-in-IfReturn : goal.run_form-returns-in-IfReturn
 run_form-returns-in-IfReturn t c =
     let s = scene c.args.scope.now c.args.answers.now in
-    rw (c.in-IfReturn.is, form_value-IfReturn s c.args.names.now c.in-IfReturn.test, sym c.get.ensures) (rw c.run_form.ensures at c.end_if.ensures)
+    rw (c.in-IfReturn.is, form_value-IfReturn s c.args.names.now c.in-IfReturn.test, sym c.get-in-IfReturn.ensures) (rw c.run_form.ensures at c.end_if.ensures)
 
 pub run_form-returns-in-Return : goal.run_form-returns-in-Return
 run_form-returns-in-Return t c =

@@ -24,7 +24,7 @@ FormToTokens::to_tokens-returns-in_ok-to_tokens-in-Return-clause-ok t c =
 pub FormToTokens::to_tokens-returns-in-SomeOf-clause-ok :
     goal.FormToTokens::to_tokens-returns-in-SomeOf-clause-ok
 FormToTokens::to_tokens-returns-in-SomeOf-clause-ok t c =
-    let same = ap in_some (ap form_lexemes c.get.ensures) ∙ sym (ap form_lexemes c.in-SomeOf.is ∙ form_lexemes-SomeOf _) in
+    let same = ap in_some (ap form_lexemes c.get-in-SomeOf.ensures) ∙ sym (ap form_lexemes c.in-SomeOf.is ∙ form_lexemes-SomeOf _) in
     on_ok_weaker _ (λ found. Appends-same same found) c.push_some.ensures.ok
 
 pub FormToTokens::to_tokens-returns-in_ok-to_tokens-in-MatchOrdering-clause-ok :

@@ -1,6 +1,7 @@
-use Rattle.std.proofs.Common.{ap, ◌∙◌}
+use Rattle.std.proofs.Common.{ap, sym, subst}
 use Rattle.educe_body.specs.declared.form.Form.{Call}
-use Rattle.educe_body.specs.BuiltIn.{path_lexemes, path_names}
+use Rattle.educe_body.specs.BuiltIn.{IsBuiltIn}
+use Rattle.educe_core.specs.Comparing.{comparison}
 use Rattle.educe_core.proofs.Lists.{two_pushed}
 use Rattle.educe_core.proofs.comparing.compared.Goals as goal
 
@@ -14,12 +15,7 @@ returns c =
       own = own;
       others = others;
       is = ap (Call c.in_ok-path.path) arguments;
-      path_is = c.in_ok-path.ensures.tokens ∙ ap path_lexemes c.comparison.ensures;
-      path_has = record {
-        unqualified = c.in_ok-path.ensures.unqualified;
-        leading = c.in_ok-path.ensures.leading;
-        names_are = c.in_ok-path.ensures.names ∙ ap path_names c.comparison.ensures;
-      };
+      path_is = subst (IsBuiltIn (comparison c.args.which)) (sym c.in_ok-path.ensures) c.requires;
       own_is = c.in_ok-reference.ensures;
       others_is = c.in_ok-reference-2.ensures;
     }

@@ -7,6 +7,7 @@ unfolding quoted
 returns c = record {
   which_is = refl;
   attributes_are = c.in_ok-attributes.ensures.printed;
+  attributes_lie = c.in_ok-attributes.ensures.nowhere;
   ident_is = c.in_ok-ident.ensures;
   functions_are = record {
     name = c.in_ok-name.name;

@@ -7,5 +7,6 @@ returns c = record {
   key = c.in_ok-key.key;
   is = refl;
   base_is = c.in_ok-base.ensures.text;
+  nowhere = c.in_ok-base.ensures.nowhere;
   key_is = c.in_ok-key.ensures;
 }

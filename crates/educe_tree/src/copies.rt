@@ -1,5 +1,4 @@
 //! Copies of syntax trees: equal trees in memory of their own.
-#![tactic(auto)]
 
 mod attr;
 mod data;

@@ -1,5 +1,5 @@
 use Rattle.std.proofs.Common.{◌≡◌, take}
-use Rattle.educe_copies.proofs.+duplicate.Given as goal
+use Rattle.educe_tree.proofs.copies.+duplicate.Given as goal
 
 abbrev pub invariant-ty::duplicate_types-loop-ty : goal.invariant-ty::duplicate_types-loop-ty
 invariant-ty::duplicate_types-loop-ty l = l.copies ≡ take l.ty-index l.ty-items

@@ -1,7 +1,7 @@
 //! Copies of attributes.
 
-use crate::duplicate::{Duplicate, duplicate_both};
-use educe_tree::{Attribute, Meta, MetaPath};
+use crate::attr::{Attribute, Meta, MetaPath};
+use crate::copies::duplicate::{Duplicate, duplicate_both};
 use std::alloc::{AllocError, Global};
 
 impl Duplicate for Attribute {

@@ -1,10 +1,10 @@
 //! Copies of paths.
 ghost use Rattle.std.specs.Prelude.{◌≡◌, IfOk};
 
-use crate::duplicate::Duplicate;
-use crate::ty::{duplicate_optional, duplicate_ty, duplicate_types};
+use crate::copies::duplicate::Duplicate;
+use crate::copies::ty::{duplicate_optional, duplicate_ty, duplicate_types};
+use crate::path::{AngleArg, AngleArgs, Args, Path, Paths, Segment};
 use educe_tokens::Seq;
-use educe_tree::{AngleArg, AngleArgs, Args, Path, Paths, Segment};
 use std::alloc::{AllocError, Global};
 
 /// An equal path in memory of its own.
@@ -92,5 +92,23 @@ pub fn duplicate_paths(alloc: Global, paths: &Paths) -> Result<Paths, AllocError
 impl Duplicate for Path {
     fn duplicate(&self, alloc: Global) -> Result<Path, AllocError> {
         duplicate_path(alloc, self)
+    }
+}
+
+impl Duplicate for Segment {
+    fn duplicate(&self, alloc: Global) -> Result<Segment, AllocError> {
+        duplicate_segment(alloc, self)
+    }
+}
+
+impl Duplicate for Args {
+    fn duplicate(&self, alloc: Global) -> Result<Args, AllocError> {
+        duplicate_args(alloc, self)
+    }
+}
+
+impl Duplicate for AngleArg {
+    fn duplicate(&self, alloc: Global) -> Result<AngleArg, AllocError> {
+        duplicate_angle_arg(alloc, self)
     }
 }

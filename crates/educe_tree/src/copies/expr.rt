@@ -1,8 +1,8 @@
 //! Copies of expressions.
 
-use crate::duplicate::{Duplicate, duplicate_both};
+use crate::copies::duplicate::{Duplicate, duplicate_both};
+use crate::expr::{Expr, ExprPath};
 use educe_tokens::pair;
-use educe_tree::{Expr, ExprPath};
 use std::alloc::{AllocError, Global};
 
 impl Duplicate for Expr {

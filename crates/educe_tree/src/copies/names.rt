@@ -1,7 +1,8 @@
 //! Copies of identifiers and lifetimes.
 
-use crate::duplicate::Duplicate;
-use educe_tree::{Ident, Lifetime};
+use crate::copies::duplicate::Duplicate;
+use crate::ident::Ident;
+use crate::lifetime::Lifetime;
 use std::alloc::{AllocError, Global};
 
 impl Duplicate for Ident {

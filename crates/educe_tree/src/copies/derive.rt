@@ -1,7 +1,7 @@
 //! Copies of definitions.
 
-use crate::duplicate::Duplicate;
-use educe_tree::{DeriveInput, Shape};
+use crate::copies::duplicate::Duplicate;
+use crate::derive::{DeriveInput, Shape};
 use std::alloc::{AllocError, Global};
 
 impl Duplicate for DeriveInput {

@@ -1,7 +1,9 @@
 //! Copies of generic parameters and predicates.
 
-use crate::duplicate::{Duplicate, duplicate_both};
-use educe_tree::{ConstParam, GenericParam, Generics, LifetimeParam, TypeParam, WherePredicate};
+use crate::copies::duplicate::{Duplicate, duplicate_both};
+use crate::generics::{
+    ConstParam, GenericParam, Generics, LifetimeParam, TypeParam, WherePredicate,
+};
 use std::alloc::{AllocError, Global};
 
 impl Duplicate for Generics {

@@ -1,10 +1,10 @@
 //! Copies of types.
 ghost use Rattle.std.specs.Prelude.{◌≡◌, IfOk};
 
-use crate::duplicate::Duplicate;
-use crate::path::{duplicate_path, duplicate_paths};
+use crate::copies::duplicate::Duplicate;
+use crate::copies::path::{duplicate_path, duplicate_paths};
+use crate::ty::{Ty, TypeForm, Types};
 use educe_tokens::{Boxed, Seq, pair};
-use educe_tree::{Ty, TypeForm, Types};
 use std::alloc::{AllocError, Global};
 
 /// An equal type in memory of its own.
@@ -91,5 +91,11 @@ pub fn duplicate_optional(
 impl Duplicate for Ty {
     fn duplicate(&self, alloc: Global) -> Result<Ty, AllocError> {
         duplicate_ty(alloc, self)
+    }
+}
+
+impl Duplicate for TypeForm {
+    fn duplicate(&self, alloc: Global) -> Result<TypeForm, AllocError> {
+        duplicate_form(alloc, self)
     }
 }

@@ -1,8 +1,8 @@
 //! Copies of fields and variants.
 
-use crate::duplicate::{Duplicate, duplicate_both};
+use crate::copies::duplicate::{Duplicate, duplicate_both};
+use crate::data::{Field, FieldShape, Variant};
 use educe_tokens::pair;
-use educe_tree::{Field, FieldShape, Variant};
 use std::alloc::{AllocError, Global};
 
 impl Duplicate for FieldShape {

@@ -1,5 +1,5 @@
 use Rattle.std.proofs.Common.{◌≡◌, take}
-use Rattle.educe_copies.proofs.duplicate.SeqDuplicate.duplicate.Given as goal
+use Rattle.educe_tree.proofs.copies.duplicate.SeqDuplicate.duplicate.Given as goal
 
 abbrev pub invariant-loop-item : goal.invariant-loop-item
 invariant-loop-item g l = l.copies ≡ take l.item-index l.item-items

@@ -1,14 +1,15 @@
-//! Values that are printed as tokens.
-ghost use Rattle.std.specs.Prelude.{◌≡◌, IfOk, OnOk, List, chars};
+//! Values that are printed as tokens, and those that are printed as they were written.
+ghost use Rattle.std.specs.Prelude.{◌≡◌, IfOk, OnOk, List, chars, map};
 ghost use Rattle.std.specs.String.{string_bytes};
 ghost use Rattle.educe_tokens.specs.Lexes.{Lexeme, LexesAside};
 ghost use Rattle.educe_tokens.specs.Text.{IsWellFormed, text_of};
-ghost use Rattle.educe_tokens.specs.Appends.{Appends, HasPrefix};
+ghost use Rattle.educe_tokens.specs.Appends.{Appends, AppendsAt, HasPrefix};
 ghost use Rattle.educe_tokens.specs.ToTokens.{EndsApart, LexesBack};
+ghost use Rattle.educe_tokens.specs.WrittenLexemes.{written_lexemes};
+ghost use Rattle.educe_tokens.specs.declared.written.Written.{Written};
+ghost use Rattle.educe_tokens.proofs.Printable.{printable-written, well_formed_from, ends_apart_from, lexes_back_from};
 
-use crate::printer::text;
-use crate::seq::Seq;
-use crate::token::TokenStream;
+use educe_tokens::{Seq, TokenStream, Written, append_written, text};
 use std::alloc::{AllocError, Global};
 
 /// A value that is printed as tokens, which may stand side by side with those of other values.
@@ -29,6 +30,35 @@ pub trait ToTokens {
 
     // The text of the tokens lexes as them.
     ghost lexes_back: { (value : Self) → LexesBack (lexemes_of value) };
+}
+
+/// A value that holds its tokens as they were written, and is printed as these.
+pub trait AsWritten {
+    // The tokens that the value holds.
+    ghost held: { Self → Written };
+
+    /// The tokens, lent.
+    fn written(&self) -> &Written
+        ensures { result.now ≡ held self.now };
+}
+
+impl<T: AsWritten> ToTokens for T {
+    ghost lexemes_of = { λ value. written_lexemes (T.held value) };
+
+    ghost well_formed = { λ value. well_formed_from (printable-written (T.held value)) };
+
+    ghost ends_apart = { λ value. ends_apart_from (printable-written (T.held value)) };
+
+    ghost lexes_back = { λ value. lexes_back_from (printable-written (T.held value)) };
+
+    /// Appends copies of the tokens, which keep their spans.
+    fn to_tokens(&self, alloc: Global, tokens: &mut TokenStream) -> Result<(), AllocError>
+        ensures ok { OnOk result (Appends (written_lexemes (T.held self.now)) tokens.old tokens.new) }
+        ensures places { OnOk result (AppendsAt (map (λ t. t.span) (T.held self.now).tokens) tokens.old tokens.new) }
+        ensures prefix { HasPrefix tokens.old tokens.new }
+    {
+        append_written(alloc, tokens, self.written())
+    }
 }
 
 /// The text of a value, which is that of its tokens.

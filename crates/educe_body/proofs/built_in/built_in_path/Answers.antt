@@ -1,0 +1,17 @@
+use Rattle.std.proofs.lemmas.Result.{IfOk-weaker}
+use Rattle.educe_body.specs.declared.answers.Callee.TheVariants.{Ne, Cmp, PartialCmp}
+use Rattle.educe_body.specs.BuiltIn.{path_lexemes, path_names, IsMade, IsBuiltIn}
+use Rattle.educe_body.proofs.MadePaths.{built_in_reads}
+use Rattle.educe_body.proofs.built_in.built_in_path.Goals as goal
+
+pub returns-in-Ne : goal.returns-in-Ne
+returns-in-Ne c =
+    rw c.in-Ne.is (IfOk-weaker _ (IsMade (path_lexemes Ne) (path_names Ne)) (IsBuiltIn Ne) (built_in_reads Ne) c.comparison_path.ensures)
+
+pub returns-in-Cmp : goal.returns-in-Cmp
+returns-in-Cmp c =
+    rw c.in-Cmp.is (IfOk-weaker _ (IsMade (path_lexemes Cmp) (path_names Cmp)) (IsBuiltIn Cmp) (built_in_reads Cmp) c.comparison_path-in-Cmp.ensures)
+
+pub returns-in-PartialCmp : goal.returns-in-PartialCmp
+returns-in-PartialCmp c =
+    rw c.in-PartialCmp.is (IfOk-weaker _ (IsMade (path_lexemes PartialCmp) (path_names PartialCmp)) (IsBuiltIn PartialCmp) (built_in_reads PartialCmp) c.comparison_path-in-PartialCmp.ensures)
