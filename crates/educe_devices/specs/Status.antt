@@ -1,8 +1,8 @@
 -- The answers of a run.
 use Rattle.std.specs.Prelude.{◌≡◌, ◌⊎◌, ℕ, List}
 use Rattle.educe_devices.specs.Devices.{Change, Gains, FailsWithin, RunsShortWithin}
-use Rattle.educe_devices.specs.declared.status.Status.{Status}
-use Rattle.educe_devices.specs.declared.status.Status.TheVariants.{Done, Refused, Usage, ReadFault, WriteFault, TooLong, NotUtf8, NoMemory}
+pub use Rattle.educe_devices.specs.declared.status.Status.{Status}
+pub use Rattle.educe_devices.specs.declared.status.Status.TheVariants.{Done, Refused, Usage, ReadFault, WriteFault, TooLong, NotUtf8, NoMemory}
 
 -- the exit status
 abbrev pub code_of : Status → ℕ
@@ -15,7 +15,7 @@ code_of TooLong = 5
 code_of NotUtf8 = 6
 code_of NoMemory = 7
 
--- a fault or want of memory, which stop a run anywhere
+-- a fault or out of memory, which stop a run anywhere
 abbrev pub IsStop : Status → Type 0
 IsStop ReadFault = Unit {0}
 IsStop WriteFault = Unit {0}
