@@ -1,8 +1,8 @@
 -- The answers of a run.
 use Rattle.std.specs.Prelude.{◌≡◌, ◌⊎◌, ℕ, List}
 use Rattle.educe_devices.specs.Devices.{Change, Gains, FailsWithin, RunsShortWithin}
-pub use Rattle.educe_devices.specs.declared.status.Status.{Status}
-pub use Rattle.educe_devices.specs.declared.status.Status.TheVariants.{Done, Refused, Usage, ReadFault, WriteFault, TooLong, NotUtf8, NoMemory}
+use Rattle.educe_devices.specs.declared.status.Status.{Status}
+use Rattle.educe_devices.specs.declared.status.Status.TheVariants.{Done, Refused, Usage, ReadFault, WriteFault, TooLong, NotUtf8, NoMemory}
 
 -- the exit status
 abbrev pub code_of : Status → ℕ
