@@ -1,5 +1,7 @@
-//! Tests of `educe_core`: what runs over devices in memory write, and what bodies evaluate to.
+//! The worked examples, each under a name, and tests of whole runs that go further.
 #![tactic(auto)]
 
+#[cfg(test)]
+mod examples;
 #[cfg(test)]
 mod program;
