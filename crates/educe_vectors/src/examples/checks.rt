@@ -5,7 +5,7 @@ use crate::program::bodies::evaluated_first;
 use crate::program::{Case, check_notes};
 use educe_body::Outcome;
 use educe_checks::{check_at, lex_answer, lexed, printed_source};
-use educe_tokens::{Kind, Token, int_value, string_value};
+use educe_tokens::{EduceError, Kind, Token, int_value, string_value};
 use std::alloc::Global;
 use std::test::Fail;
 
@@ -24,17 +24,21 @@ fn check_string(alloc: Global, source: &str, expected: &str) -> Result<(), Fail>
     check_at(source, value.as_str(), expected)
 }
 
-/// The text is refused so, and this word is cited, if it is not empty.
+/// Whether a refusal cites this word first, or none where it is empty.
+fn cites(error: &EduceError, word: &str) -> bool {
+    match error.words.get(0) {
+        Some(cited) => cited.as_str() == word,
+        None => word.is_empty(),
+    }
+}
+
+/// The text is refused so, and cites this word.
 fn check_refusal(alloc: Global, source: &str, kind: Kind, word: &str) -> Result<(), Fail> {
     let Err(error) = lex_answer(alloc, source)? else {
         return Err(Fail::from(source));
     };
-    let cited = match error.words.get(0) {
-        Some(cited) => cited.as_str(),
-        None => "",
-    };
     check_at(source, error.kind, kind)?;
-    check_at(source, cited, word)
+    check_at(source, cites(&error, word), true)
 }
 
 /// The function of the first impl evaluates so.
