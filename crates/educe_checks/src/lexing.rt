@@ -1,9 +1,10 @@
-//! The tokens of a text.
-ghost use Rattle.std.specs.Prelude.{IfOk, IfErr, chars};
-ghost use Rattle.educe_tokens.specs.Lexes.{Lexes};
+//! The tokens of a text, and their printed text.
+ghost use Rattle.std.specs.Prelude.{◌≡◌, IfOk, IfErr, chars, string_bytes};
+ghost use Rattle.educe_tokens.specs.Lexes.{Lexes, lexemes};
+ghost use Rattle.educe_tokens.specs.Text.{text_of};
 ghost use Rattle.educe_tokens.specs.Causes.{IsLexicalCause};
 
-use educe_tokens::{EduceError, SOURCE_LIMIT, TokenSlice, TokenStream, lex};
+use educe_tokens::{EduceError, SOURCE_LIMIT, TokenSlice, TokenStream, have_no_doc, lex, text};
 use std::alloc::Global;
 use std::test::Fail;
 
@@ -33,4 +34,22 @@ pub fn lexed_slice(alloc: Global, text: &str) -> Result<TokenSlice, Fail>
     ensures { IfOk result (λ tokens. Lexes (chars text.now) tokens) }
 {
     Ok(TokenSlice::new(alloc, lexed(alloc, text)?)?)
+}
+
+/// The printed text of the tokens of a text, which is to be within the limit and without
+/// documentation.
+pub fn printed_source(alloc: Global, source: &str) -> Result<String, Fail>
+    ensures { IfOk result (λ written. (tokens : _) × Lexes (chars source.now) tokens
+        × (chars (string_bytes written) ≡ text_of (lexemes tokens))) }
+{
+    if source.len() > SOURCE_LIMIT {
+        return Err(Fail::from("too long"));
+    }
+    let Ok(tokens) = lex(alloc, source) else {
+        return Err(Fail::from(source));
+    };
+    if !have_no_doc(&tokens) {
+        return Err(Fail::from("documentation"));
+    }
+    Ok(text(alloc, &tokens)?)
 }

@@ -14,7 +14,7 @@ mod values;
 
 pub use answers::found;
 pub use definitions::definition;
-pub use lexing::{lex_answer, lexed, lexed_slice};
+pub use lexing::{lex_answer, lexed, lexed_slice, printed_source};
 pub use lists::first;
 pub use tables::{check_answers, check_texts};
 pub use trees::printed;

@@ -1,9 +1,10 @@
-//! std's readers and writers as devices. They tell the bytes that the reader or writer tells.
+//! std's readers and writers as devices. Their contents are modelled where those of the reader or
+//! writer are.
 ghost use Rattle.std.specs.Prelude.{◌≡◌};
 ghost use Rattle.std.proofs.Props.{props};
 ghost use Rattle.educe_cli.specs.Adapters.{IsSteady};
 
-use educe_devices::{Failed, Sink, Source, Stopped};
+use educe_core::{Failed, Sink, Source, Stopped};
 use std::io::{Read, Write};
 
 /// A reader as a source.
@@ -45,8 +46,8 @@ impl<R: Read + Drop> Source for Reading<R> {
     }
 }
 
-/// A writer as a sink. Each write is flushed. Where a flush fails, the bytes that were written are
-/// not told, and each later call fails.
+/// A writer as a sink. Each write is flushed. Where a flush fails, the bytes that were written do not
+/// count as held, and each later call fails.
 #[derive(Drop)]
 pub struct Writing<W: Write + Drop> {
     inner: W,
@@ -98,7 +99,11 @@ impl<W: Write + Drop> Sink for Writing<W> {
 }
 
 #[cfg(test)]
+pub mod failing;
+
+#[cfg(test)]
 mod tests {
+    use super::failing::{FailingReader, FailingWriter};
     use super::*;
     use std::io;
     use std::test::Fail;
@@ -139,16 +144,6 @@ mod tests {
         }
     }
 
-    /// A reader that fails.
-    #[derive(Drop)]
-    struct Broken;
-
-    impl Read for Broken {
-        fn read(&mut self, _room: &mut [u8]) -> io::Result<usize> {
-            Err(io::Error::from(io::ErrorKind::Other))
-        }
-    }
-
     #[test]
     fn a_write_that_takes_nothing_is_a_fault(rt: HostRuntime) -> Result<(), Fail> {
         let mut sink = Writing::new(Full);
@@ -186,11 +181,28 @@ mod tests {
     }
 
     #[test]
-    fn each_failed_read_is_a_fault(rt: HostRuntime) -> Result<(), Fail> {
-        let mut source = Reading::new(Broken);
-        assert!(rt; source.read(&mut [0; 4]).is_err());
-        assert!(rt; source.read(&mut [0; 4]).is_err());
-        assert_eq!(rt; source.faults, 2);
+    fn a_failed_read_stays_a_fault_where_the_reader_goes_on(rt: HostRuntime) -> Result<(), Fail> {
+        let mut source = Reading::new(FailingReader::new(b"abcd", 1));
+        let mut room = [0; 2];
+        assert!(rt; matches!(source.read(&mut room), Ok(2)));
+        assert!(rt; source.read(&mut room).is_err());
+        assert_eq!(rt; source.faults, 1);
+        assert!(rt; matches!(source.read(&mut room), Ok(2)));
+        assert_eq!(rt; room, [99, 100]);
+        assert!(rt; matches!(source.read(&mut room), Ok(0)));
+        assert_eq!(rt; source.faults, 1);
+        Ok(())
+    }
+
+    #[test]
+    fn a_failed_write_stays_a_fault_where_the_writer_goes_on(rt: HostRuntime) -> Result<(), Fail> {
+        let mut sink = Writing::new(FailingWriter::new(Vec::new(rt.alloc()), 1));
+        assert!(rt; matches!(sink.write(b"ab"), Ok(2)));
+        assert!(rt; matches!(sink.write(b"cd"), Err(Stopped::Failed)));
+        assert_eq!(rt; sink.faults, 1);
+        assert!(rt; matches!(sink.write(b"cd"), Ok(2)));
+        assert_eq!(rt; sink.faults, 1);
+        assert_eq!(rt; sink.inner.bytes(), b"abcd".as_slice());
         Ok(())
     }
 }

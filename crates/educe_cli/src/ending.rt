@@ -1,12 +1,11 @@
 //! The program over its arguments and devices, and the exit status that it ends with.
-ghost use Rattle.std.specs.Prelude.{◌≡◌, map, drop, string_bytes, IfOk, MatchResult};
+ghost use Rattle.std.specs.Prelude.{◌≡◌, map, drop, string_bytes, IfOk, IsErr, MatchResult};
 ghost use Rattle.std.specs.Process.{exit_status};
 ghost use Rattle.std.specs.Vec.Iter.{into_iter_items};
-ghost use Rattle.educe_devices.specs.Devices.{change};
+ghost use Rattle.educe_core.specs.Devices.{change};
 ghost use Rattle.educe_cli.specs.Ending.{EndsAsRun, EndsUnrun};
 
-use educe_core::run;
-use educe_devices::{Sink, Source, Status};
+use educe_core::{Sink, Source, Status, run};
 use std::alloc::{AllocError, Global};
 use std::env::Args;
 use std::io;
@@ -38,7 +37,7 @@ fn words(alloc: Global, arguments: Args) -> Result<Vec<String>, AllocError>
 }
 
 /// Runs the program over its arguments and devices, and ends with the status of the answer. Where
-/// the arguments can't be taken, it ends with `NO_ARGUMENTS` and touches no device.
+/// the arguments can't be taken, it ends with 8 and touches no device.
 pub fn run_program<S: Source, K: Sink, E: Sink>(
     alloc: Global,
     arguments: io::Result<Args>,
@@ -46,7 +45,7 @@ pub fn run_program<S: Source, K: Sink, E: Sink>(
     sink: &mut K,
     notes: &mut E,
 ) -> Ending
-    ensures { let reading = change (S.left source.old) (S.left source.new)
+    ensures ended { let reading = change (S.left source.old) (S.left source.new)
         (S.faults source.old) (S.faults source.new) (S.may_fail source.old) in
         let writing = change (K.held sink.old) (K.held sink.new)
         (K.faults sink.old) (K.faults sink.new) (K.may_fail sink.old) in
@@ -56,6 +55,7 @@ pub fn run_program<S: Source, K: Sink, E: Sink>(
         (λ all. EndsAsRun (map string_bytes (drop 1 (into_iter_items all)))
         reading writing noting result.status)
         (λ _. EndsUnrun reading writing noting result.status) }
+    ensures unrun { IsErr arguments → result.status ≡ 8 }
 {
     let Ok(arguments) = arguments else {
         return Ending {
@@ -76,8 +76,13 @@ pub fn run_program<S: Source, K: Sink, E: Sink>(
 #[cfg(test)]
 mod tests {
     use super::*;
-    use educe_devices::{MemorySink, MemorySource};
+    use crate::adapters::failing::{FailingReader, FailingWriter};
+    use crate::adapters::{Reading, Writing};
+    use educe_core::{MemorySink, MemorySource};
     use std::test::Fail;
+
+    /// A definition that is expanded.
+    const DEFINITION: &[u8] = b"#[educe(PartialEq)] struct S { a: u8 }";
 
     /// The arguments of the command.
     fn arguments(alloc: Global) -> Result<Args, AllocError> {
@@ -107,6 +112,48 @@ mod tests {
         assert_eq!(rt; found.status, 1);
         assert_eq!(rt; text.bytes(), b"".as_slice());
         assert_eq!(rt; notes.bytes(), b"1:1: not built yet\n".as_slice());
+        Ok(())
+    }
+
+    /// The status over a reader of which the call of this number fails, and a writer that does not.
+    fn status_at(alloc: Global, failing: u64) -> Result<u8, AllocError> {
+        let mut source = Reading::new(FailingReader::new(DEFINITION, failing));
+        let mut text = MemorySink::new(alloc, 10, &[])?;
+        let mut notes = MemorySink::new(alloc, 10, &[])?;
+        let arguments = Ok(arguments(alloc)?);
+        Ok(run_program(alloc, arguments, &mut source, &mut text, &mut notes).status)
+    }
+
+    #[test]
+    fn a_failed_read_is_the_answer_where_the_reader_goes_on(rt: HostRuntime) -> Result<(), Fail> {
+        assert_eq!(rt; status_at(rt.alloc(), 0)?, 3);
+        assert_eq!(rt; status_at(rt.alloc(), 1)?, 3);
+        assert_eq!(rt; status_at(rt.alloc(), 2)?, 0);
+        Ok(())
+    }
+
+    #[test]
+    fn a_failed_write_is_the_answer_where_the_writer_goes_on(rt: HostRuntime) -> Result<(), Fail> {
+        let alloc = rt.alloc();
+        let mut source = MemorySource::new(alloc, DEFINITION, 10, &[])?;
+        let mut text = Writing::new(FailingWriter::new(Vec::new(alloc), 2));
+        let mut notes = MemorySink::new(alloc, 10, &[])?;
+        let arguments = Ok(arguments(alloc)?);
+        let found = run_program(alloc, arguments, &mut source, &mut text, &mut notes);
+        assert_eq!(rt; found.status, 4);
+        Ok(())
+    }
+
+    #[test]
+    fn a_refusal_goes_to_standard_error(rt: HostRuntime) -> Result<(), Fail> {
+        let alloc = rt.alloc();
+        let mut text = MemorySink::new(alloc, 10, &[])?;
+        let mut notes: Writing<io::Stderr> = Writing::new(rt.stderr());
+        let mut source = MemorySource::new(alloc, b"enum E {}", 10, &[])?;
+        let arguments = Ok(arguments(alloc)?);
+        let found = run_program(alloc, arguments, &mut source, &mut text, &mut notes);
+        assert_eq!(rt; found.status, 1);
+        assert_eq!(rt; text.bytes(), b"".as_slice());
         Ok(())
     }
 

@@ -1,9 +1,8 @@
 -- What the table of answers implies.
-use Rattle.std.proofs.Common.{◌≡◌, ◌≢◌, ◌⊎◌, ℕ, ◌+◌, ◌<◌, ◌≤◌, List, [], ◌++◌, length, Option, Some, None, IfSome, inl, inr, refl, sym, ap, subst, ◌∙◌, arith, append-nil, length-append}
+use Rattle.std.proofs.Common.{◌≡◌, ◌≢◌, ◌⊎◌, ℕ, ◌<◌, ◌≤◌, List, [], ◌++◌, length, Option, Some, None, IfSome, inl, inr, refl, sym, ap, subst, ◌∙◌, arith, append-nil, length-append}
 use Rattle.std.specs.Prelude.{IsUtf8}
 use Rattle.educe_tokens.specs.declared.error.EduceError.{EduceError}
 use Rattle.educe_tokens.specs.declared.error.Kind.TheVariants.{Alloc}
-use Rattle.educe_tokens.specs.declared.span.TheConstants.{SOURCE_LIMIT}
 use Rattle.educe_devices.specs.declared.status.Status.{Status}
 use Rattle.educe_devices.specs.declared.status.Status.TheVariants.{Done, Refused, Usage, ReadFault, WriteFault, TooLong, NotUtf8, NoMemory}
 use Rattle.educe_devices.specs.Devices.{Change, Fails, ahead, IsAtEnd, TakesAtMost}
@@ -28,14 +27,14 @@ whole-is : {P : List ℕ → Type 0} (source : Change) (input : List ℕ) → Re
 whole-is source input reads follows = told-whole source.before source.after input reads.taken reads.end follows
 
 -- what follows from having more bytes than the limit holds of the told bytes
-told-long : {P : List ℕ → Type 0} (before after : Option (List ℕ)) (input : List ℕ) → before ≡ ahead input after → length input ≡ SOURCE_LIMIT + 1 → ((x : List ℕ) → SOURCE_LIMIT < length x → P x) → IfSome before P
+told-long : {P : List ℕ → Type 0} (before after : Option (List ℕ)) (input : List ℕ) → before ≡ ahead input after → length input ≡ 131_073 → ((x : List ℕ) → 131_072 < length x → P x) → IfSome before P
 told-long None after input taken long follows = tt
 told-long (Some x) None input taken long follows = cc
 told-long (Some x) (Some rest) input taken long follows =
     let same : x ≡ input ++ rest = cc in
     follows x (omega (arith, ap length same, length-append input rest))
 
-long-is : {P : List ℕ → Type 0} (source : Change) → ReadsTooMuch source → ((x : List ℕ) → SOURCE_LIMIT < length x → P x) → IfSome source.before P
+long-is : {P : List ℕ → Type 0} (source : Change) → ReadsTooMuch source → ((x : List ℕ) → 131_072 < length x → P x) → IfSome source.before P
 long-is source reads follows = told-long source.before source.after reads.input reads.taken reads.limit follows
 
 -- wrong words answer Usage
@@ -50,7 +49,7 @@ Usage-from_words words source sink notes WriteFault a wrong = inr tt
 Usage-from_words words source sink notes NoMemory a wrong = inr tt
 
 -- an input past the limit answers TooLong
-pub TooLong-from_length : (words : List (List ℕ)) (source sink notes : Change) (status : Status) → Answers words source sink notes status → words ≡ expand_words → IfSome source.before (λ input. SOURCE_LIMIT < length input → IsUnlessStopped TooLong status)
+pub TooLong-from_length : (words : List (List ℕ)) (source sink notes : Change) (status : Status) → Answers words source sink notes status → words ≡ expand_words → IfSome source.before (λ input. 131_072 < length input → IsUnlessStopped TooLong status)
 TooLong-from_length words source sink notes Done a right = whole-is source a.stands.input a.stands.whole (λ x is long. absurd (omega (arith, ap length is, a.stands.whole.limit)))
 TooLong-from_length words source sink notes (Refused error) a right = whole-is source a.stands.1.input a.stands.1.whole (λ x is long. absurd (omega (arith, ap length is, a.stands.1.whole.limit)))
 TooLong-from_length words source sink notes Usage a right = absurd (a.stands.0 right)
@@ -61,7 +60,7 @@ TooLong-from_length words source sink notes WriteFault a right = told-any source
 TooLong-from_length words source sink notes NoMemory a right = told-any source.before (λ x long. inr tt)
 
 -- an input that is not UTF-8 answers NotUtf8
-pub NotUtf8-from_bytes : (words : List (List ℕ)) (source sink notes : Change) (status : Status) → Answers words source sink notes status → words ≡ expand_words → IfSome source.before (λ input. length input ≤ SOURCE_LIMIT → (IsUtf8 input → ⊥) → IsUnlessStopped NotUtf8 status)
+pub NotUtf8-from_bytes : (words : List (List ℕ)) (source sink notes : Change) (status : Status) → Answers words source sink notes status → words ≡ expand_words → IfSome source.before (λ input. length input ≤ 131_072 → (IsUtf8 input → ⊥) → IsUnlessStopped NotUtf8 status)
 NotUtf8-from_bytes words source sink notes Done a right = whole-is source a.stands.input a.stands.whole (λ x is short not. absurd (not (subst IsUtf8 (sym is) a.stands.utf8)))
 NotUtf8-from_bytes words source sink notes (Refused error) a right = whole-is source a.stands.1.input a.stands.1.whole (λ x is short not. absurd (not (subst IsUtf8 (sym is) a.stands.1.utf8)))
 NotUtf8-from_bytes words source sink notes Usage a right = absurd (a.stands.0 right)
@@ -72,7 +71,7 @@ NotUtf8-from_bytes words source sink notes WriteFault a right = told-any source.
 NotUtf8-from_bytes words source sink notes NoMemory a right = told-any source.before (λ x short not. inr tt)
 
 -- valid input answers Done
-pub Done-from_valid : (words : List (List ℕ)) (source sink notes : Change) (status : Status) → Answers words source sink notes status → words ≡ expand_words → IfSome source.before (λ input. length input ≤ SOURCE_LIMIT → IsUtf8 input → IsValid input → IsUnlessStopped Done status)
+pub Done-from_valid : (words : List (List ℕ)) (source sink notes : Change) (status : Status) → Answers words source sink notes status → words ≡ expand_words → IfSome source.before (λ input. length input ≤ 131_072 → IsUtf8 input → IsValid input → IsUnlessStopped Done status)
 Done-from_valid words source sink notes Done a right = told-any source.before (λ x short utf8 valid. inl refl)
 Done-from_valid words source sink notes (Refused error) a right = whole-is source a.stands.1.input a.stands.1.whole (λ x is short utf8 valid. absurd (a.stands.1.invalid (subst IsValid is valid)))
 Done-from_valid words source sink notes Usage a right = absurd (a.stands.0 right)

@@ -1,8 +1,7 @@
 -- The table of a run's answers: when each comes, and what the sink and the notes gain.
-use Rattle.std.specs.Prelude.{◌≡◌, ◌≢◌, ◌⊎◌, ℕ, ◌+◌, ◌≤◌, List, [], ◌∷◌, ◌++◌, length, codes, decimal, IsUtf8}
+use Rattle.std.specs.Prelude.{◌≡◌, ◌≢◌, ◌⊎◌, ℕ, ◌≤◌, List, [], ◌∷◌, ◌++◌, length, codes, decimal, IsUtf8}
 use Rattle.educe_tokens.specs.declared.error.EduceError.{EduceError}
 use Rattle.educe_tokens.specs.declared.error.Kind.TheVariants.{Alloc}
-use Rattle.educe_tokens.specs.declared.span.TheConstants.{SOURCE_LIMIT}
 use Rattle.educe_tokens.specs.Span.{line_of, column_of}
 use Rattle.educe_tokens.specs.Message.{message_of}
 use Rattle.educe_body.specs.declared.body.Item.{Item}
@@ -32,18 +31,18 @@ refusal_line source error =
     decimal (line_of source error.span.start) ++ codes ":" ++ decimal (column_of source error.span.start) ++ codes ": "
     ++ message_of error.kind error.words ++ codes "\n"
 
--- this is the whole input, within the limit, and no read failed
+-- this is the whole input, within the limit of 131,072 bytes, and no read failed
 pub record ReadsAll (source : Change) (input : List ℕ) : Type 0 where
   pub taken : source.before ≡ ahead input source.after
   pub end : IsAtEnd source.after
-  pub limit : length input ≤ SOURCE_LIMIT
+  pub limit : length input ≤ 131_072
   pub faults : source.faults_after ≡ source.faults_before
 
 -- the input has more bytes than the limit, no read failed, and reading stopped behind the first byte that is too many
 pub record ReadsTooMuch (source : Change) : Type 0 where
   pub input : List ℕ
   pub taken : source.before ≡ ahead input source.after
-  pub limit : length input ≡ SOURCE_LIMIT + 1
+  pub limit : length input ≡ 131_073
   pub faults : source.faults_after ≡ source.faults_before
 
 -- the text of an expansion of the whole input, in which no cause of a refusal stands

@@ -61,7 +61,7 @@ fn read(alloc: Global, source: &str) -> Result<DeriveInput, EduceError>
 /// no definition within the limits, gives a name twice, is not of the form that is built so far, lists
 /// no trait, or gives two fields that take part in an order one rank.
 pub fn expand(alloc: Global, source: &str) -> Result<Expansion, EduceError>
-    requires { length source.now ≤ SOURCE_LIMIT }
+    requires { length source.now ≤ 131_072 }
     ensures done { IfOk result (λ e.
         IsExpansion source.now (items_of_expansion e) (text_of_expansion e)) }
     ensures cause { IfErr result (IsCause source.now) }
@@ -69,7 +69,7 @@ pub fn expand(alloc: Global, source: &str) -> Result<Expansion, EduceError>
     ensures valid { IsValid source.now → IfErr result (λ e. e.kind ≡ Kind.Alloc) }
     ensures invalid { IfOk result (λ _. (e : EduceError) → e.kind ≢ Kind.Alloc →
         IsCause source.now e → ⊥) }
-    // No other refusal than the one that is answered has a cause, want of memory aside.
+    // No other refusal than the one that is answered has a cause, out of memory aside.
     ensures alone { IfErr result (λ e. (f : EduceError) → e.kind ≢ Kind.Alloc →
         f.kind ≢ Kind.Alloc → IsCause source.now f → f ≡ e) }
     // Its refusal can be shown.

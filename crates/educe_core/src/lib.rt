@@ -1,4 +1,5 @@
-//! The derive compiler's top: what a definition is expanded to, and the command that runs it.
+//! The derive compiler's top: what a definition is expanded to, the command that runs it, and the
+//! devices that it reads and writes.
 #![tactic(auto)]
 
 mod built;
@@ -12,6 +13,7 @@ mod ranks;
 mod refusing;
 mod settings;
 
+pub use educe_devices::{Failed, MemorySink, MemorySource, Sink, Source, Status, Stopped};
 pub use expansion::{Expansion, expand};
 pub use handler::derive_input_handler;
 pub use program::run;

@@ -1,5 +1,5 @@
 //! The program as a function of its words and devices.
-ghost use Rattle.std.specs.Prelude.{◌≡◌, ◌≢◌, ◌⊎◌, ◌+◌, ◌<◌, ◌≤◌, ◌↔◌, map, length, string_bytes, IsTrue, IsUtf8, IfSome};
+ghost use Rattle.std.specs.Prelude.{◌≡◌, ◌≢◌, ◌⊎◌, ◌<◌, ◌≤◌, ◌↔◌, map, length, string_bytes, IsTrue, IsUtf8, IfSome};
 ghost use Rattle.educe_devices.specs.Devices.{Rose, TakesAtMost, change};
 ghost use Rattle.educe_core.specs.Headline.{IsCause, IsValid};
 ghost use Rattle.educe_core.specs.Run.{Answers, expand_words};
@@ -44,7 +44,7 @@ fn run_expand<S: Source, K: Sink, E: Sink>(
         (K.faults sink.old) (K.faults sink.new) (K.may_fail sink.old))
         (change (E.held notes.old) (E.held notes.new)
         (E.faults notes.old) (E.faults notes.new) (E.may_fail notes.old)) result }
-    ensures most { TakesAtMost (SOURCE_LIMIT + 1) (S.left source.old) (S.left source.new) }
+    ensures most { TakesAtMost 131_073 (S.left source.old) (S.left source.new) }
 {
     let input = match read_input(alloc, source) {
         Ok(input) => input,
@@ -80,18 +80,18 @@ pub fn run<S: Source, K: Sink, E: Sink>(
         (K.faults sink.old) (K.faults sink.new) (K.may_fail sink.old))
         (change (E.held notes.old) (E.held notes.new)
         (E.faults notes.old) (E.faults notes.new) (E.may_fail notes.old)) result }
-    // Where a condition holds, no other answer comes but a fault or want of memory.
+    // Where a condition holds, no other answer comes but a fault or out of memory.
     ensures usage { map string_bytes words.now.items ≢ expand_words →
         IsUnlessStopped Status.Usage result }
     ensures too_long { map string_bytes words.now.items ≡ expand_words →
         IfSome (S.left source.old) (λ input.
-        SOURCE_LIMIT < length input → IsUnlessStopped Status.TooLong result) }
+        131_072 < length input → IsUnlessStopped Status.TooLong result) }
     ensures not_utf8 { map string_bytes words.now.items ≡ expand_words →
         IfSome (S.left source.old) (λ input.
-        length input ≤ SOURCE_LIMIT → ¬ (IsUtf8 input) → IsUnlessStopped Status.NotUtf8 result) }
+        length input ≤ 131_072 → ¬ (IsUtf8 input) → IsUnlessStopped Status.NotUtf8 result) }
     ensures valid { map string_bytes words.now.items ≡ expand_words →
         IfSome (S.left source.old) (λ input.
-        length input ≤ SOURCE_LIMIT → IsUtf8 input → IsValid input →
+        length input ≤ 131_072 → IsUtf8 input → IsValid input →
         IsUnlessStopped Status.Done result) }
     ensures caused { IfSome (S.left source.old) (λ input.
         (e : EduceError) → e.kind ≢ Kind.Alloc → IsCause input e → result ≢ Status.Done) }
@@ -106,7 +106,7 @@ pub fn run<S: Source, K: Sink, E: Sink>(
         ⊎ (Rose (E.faults notes.old) (E.faults notes.new) × IsTrue (E.may_fail notes.old)) }
     ensures sink_faults { K.faults sink.old < K.faults sink.new → result ≡ Status.WriteFault }
     ensures notes_faults { E.faults notes.old < E.faults notes.new → result ≡ Status.WriteFault }
-    ensures most { TakesAtMost (SOURCE_LIMIT + 1) (S.left source.old) (S.left source.new) }
+    ensures most { TakesAtMost 131_073 (S.left source.old) (S.left source.new) }
 {
     if !is_expand(words) {
         return deliver(notes, USAGE, Status::Usage);

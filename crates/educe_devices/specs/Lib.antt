@@ -1,3 +1,4 @@
 pub mod Devices
+pub mod Plan
 pub mod Memory
 pub mod Status

@@ -15,7 +15,7 @@ code_of TooLong = 5
 code_of NotUtf8 = 6
 code_of NoMemory = 7
 
--- a fault or want of memory, which stop a run anywhere
+-- a fault or out of memory, which stop a run anywhere
 abbrev pub IsStop : Status → Type 0
 IsStop ReadFault = Unit {0}
 IsStop WriteFault = Unit {0}

@@ -4,6 +4,7 @@
 
 mod devices;
 mod memory;
+mod plan;
 mod reading;
 mod status;
 mod writing;

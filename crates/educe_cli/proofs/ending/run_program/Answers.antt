@@ -1,10 +1,10 @@
 use Rattle.std.proofs.Common.{inl, refl}
-use Rattle.educe_devices.specs.declared.status.Status.TheVariants.{NoMemory}
+use Rattle.educe_core.specs.Status.TheVariants.{NoMemory}
 use Rattle.educe_cli.proofs.ending.run_program.Goals as goal
 
 -- memory did not suffice for the words, and no device was touched
-pub returns-in_default-words : goal.returns-in_default-words
-returns-in_default-words g c =
+pub returns-in_default-words-clause-ended : goal.returns-in_default-words-clause-ended
+returns-in_default-words-clause-ended g c =
     rw c.in-Ok.is (record {
       status = NoMemory;
       answers = inl (refl, record { sink_kept = record { bytes = refl; faults = refl }; notes_kept = record { bytes = refl; faults = refl } });
@@ -12,8 +12,8 @@ returns-in_default-words g c =
     })
 
 -- the words are the arguments behind the first one, and the status is that of the run's answer
-pub returns : goal.returns
-returns g c =
+pub returns-clause-ended : goal.returns-clause-ended
+returns-clause-ended g c =
     rw c.in-Ok.is (record {
       status = c.run-status.result;
       answers = rw c.in-Ok-words.ensures at c.run-status.ensures.answer;

@@ -4,10 +4,6 @@ use super::check_refused;
 use std::alloc::Global;
 use std::test::Fail;
 
-/// The line of a definition that lists no traits.
-const NOT_SET_UP: &str =
-    "1:1: you are using `Educe` in the `derive` attribute, but it has not been set up yet\n";
-
 /// The line of a definition that is not built yet.
 const NOT_BUILT: &str = "1:1: not built yet\n";
 
@@ -16,8 +12,6 @@ fn syntax_errors_have_their_place(rt: HostRuntime) -> Result<(), Fail> {
     check_refused(
         rt.alloc(),
         &[
-            ("", "1:1: syntax error\n"),
-            ("struct S { a: impl X }", "1:15: syntax error\n"),
             (
                 "#[educe(PartialEq)] struct S<T> { a: impl X }",
                 "1:38: syntax error\n",
@@ -46,10 +40,6 @@ fn unions_are_not_supported(rt: HostRuntime) -> Result<(), Fail> {
         rt.alloc(),
         &[
             ("union U { a: u8 }", "1:1: `union` is not supported\n"),
-            (
-                "#[educe(Clone)] union U { a: u8 }",
-                "1:17: `union` is not supported\n",
-            ),
             ("union U { a: impl X }", "1:1: `union` is not supported\n"),
         ],
     )
@@ -59,16 +49,10 @@ fn unions_are_not_supported(rt: HostRuntime) -> Result<(), Fail> {
 fn floats_are_not_supported(rt: HostRuntime) -> Result<(), Fail> {
     check_refused(
         rt.alloc(),
-        &[
-            (
-                "#[educe(Ord)] struct S { #[educe(Ord(rank = 1.5))] a: u8 }",
-                "1:45: `1.5` is not supported\n",
-            ),
-            (
-                "#[educe(Default)] struct S { #[educe(Default = 1.5)] a: u8 }",
-                "1:48: `1.5` is not supported\n",
-            ),
-        ],
+        &[(
+            "#[educe(Ord)] struct S { #[educe(Ord(rank = 1.5))] a: u8 }",
+            "1:45: `1.5` is not supported\n",
+        )],
     )
 }
 
@@ -78,18 +62,6 @@ fn names_are_given_once(rt: HostRuntime) -> Result<(), Fail> {
         rt.alloc(),
         &[
             (
-                "struct S<T, T>;",
-                "1:13: the name `T` is defined more than once\n",
-            ),
-            (
-                "#[educe(Clone)] struct S { a: u8, r#a: u8 }",
-                "1:35: the name `r#a` is defined more than once\n",
-            ),
-            (
-                "#[educe(PartialEq)] struct S { a: u8, a: u8 }",
-                "1:39: the name `a` is defined more than once\n",
-            ),
-            (
                 "#[educe(PartialEq)] struct S { a: u8, r#a: u8 }",
                 "1:39: the name `r#a` is defined more than once\n",
             ),
@@ -97,17 +69,6 @@ fn names_are_given_once(rt: HostRuntime) -> Result<(), Fail> {
                 "#[educe(PartialEq)] struct S { r#a: u8, a: u8 }",
                 "1:41: the name `a` is defined more than once\n",
             ),
-        ],
-    )
-}
-
-#[test]
-fn without_traits_nothing_is_set_up(rt: HostRuntime) -> Result<(), Fail> {
-    check_refused(
-        rt.alloc(),
-        &[
-            ("struct S { f1: u8 }", NOT_SET_UP),
-            ("#[educe()] struct S { a: u8 }", NOT_SET_UP),
         ],
     )
 }
@@ -121,7 +82,7 @@ fn check_not_built(alloc: Global, inputs: &[&str]) -> Result<(), Fail> {
 }
 
 #[test]
-fn what_is_not_built_yet_is_told(rt: HostRuntime) -> Result<(), Fail> {
+fn what_is_not_built_yet_is_refused(rt: HostRuntime) -> Result<(), Fail> {
     check_not_built(
         rt.alloc(),
         &[
@@ -132,6 +93,9 @@ fn what_is_not_built_yet_is_told(rt: HostRuntime) -> Result<(), Fail> {
             "#[educe(PartialEq)] #[repr(C)] struct S { a: u8 }",
             "#[educe(PartialEq)] struct S { #[educe(PartialEq(ignore), PartialEq(ignore))] a: u8 }",
             "#[educe(Other)] struct S { a: u8 }",
+            "#[educe(PartialEq Ord)] struct S { a: u8 }",
+            "#[educe(1 + 1)] struct S { a: u8 }",
+            "#[educe(PartialEq)] struct S { #[educe(PartialEq(ignore) 1)] a: u8 }",
             "#[educe(PartialEq)] struct S { a: &'other u8 }",
             "#[educe(PartialEq)] struct S { #[note = \"an other\"] a: u8 }",
             "#[educe(PartialEq)] struct S { other: u8 }",

@@ -43,6 +43,17 @@ fn evaluated(
     Ok(eval(alloc, body, &scope(ast, &this, Some(&other)), &answers)?)
 }
 
+/// What the function of the first item of a text evaluates to over values of these numbers, where
+/// fields compare as their numbers do.
+pub(crate) fn evaluated_first(
+    alloc: Global,
+    source: &str,
+    numbers: (&[i128], &[i128]),
+) -> Result<Outcome, Fail> {
+    let case = (source, 0, numbers.0, numbers.1, Outcome::Stuck);
+    outcome_of(alloc, &definition(alloc, source)?, &case, &[])
+}
+
 /// A definition, the index of an item, the numbers of the fields of two values, and what the
 /// function of the item evaluates to.
 type Case<'a> = (&'a str, usize, &'a [i128], &'a [i128], Outcome);
@@ -77,14 +88,6 @@ fn check(alloc: Global, rows: &[Row], cases: &[Case]) -> Result<(), Fail> {
         check_at(case.0, found, case.4)?;
     }
     Ok(())
-}
-
-#[test]
-fn the_least_rank_decides(rt: HostRuntime) -> Result<(), Fail> {
-    let source =
-        "#[educe(Ord)] struct S { #[educe(Ord(rank = 1))] f1: u8, #[educe(Ord(rank = 0))] f2: u8 }";
-    let greater = Outcome::Order(Ordering::Greater);
-    check(rt.alloc(), &[], &[(source, 0, &[1, 2], &[2, 1], greater)])
 }
 
 #[test]

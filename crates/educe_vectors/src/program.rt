@@ -1,20 +1,18 @@
-//! Of `educe_core`: runs over devices in memory, and bodies tried over tables.
+//! Of `educe_core`: runs over devices in memory, and bodies evaluated over tables.
 ghost use Rattle.std.specs.Prelude.{◌≤◌};
 
 use educe_checks::check_at;
-use educe_core::run;
-use educe_devices::{MemorySink, MemorySource, Sink, Source};
+use educe_core::{MemorySink, MemorySource, Sink, Source, run};
 use std::alloc::{AllocError, Global};
 use std::test::Fail;
 
-mod bodies;
+pub(crate) mod bodies;
 mod expansions;
-mod faults;
 mod ranks;
 mod refusals;
 
 /// What a struct of one field is expanded to.
-const ONE_FIELD: &str =
+pub(crate) const ONE_FIELD: &str =
     "# [ automatically_derived ] impl :: core :: cmp :: PartialEq for S { fn eq ( & self , other : & Self ) -> :: core :: primitive :: bool { if :: core :: cmp :: PartialEq :: ne ( & self . a , & other . a ) { return false ; } true } }\n";
 
 /// What a run answers and writes.
@@ -49,20 +47,20 @@ fn run_word<S: Source + Drop, K: Sink, E: Sink>(
 
 /// A run with one word over devices of which the calls of these numbers fail, and what it answers.
 #[derive(Clone, Copy)]
-struct Case<'a> {
-    word: &'a str,
-    input: &'a [u8],
-    failing_reads: &'a [u32],
-    failing_writes: &'a [u32],
-    failing_notes: &'a [u32],
-    code: u8,
-    text: &'a str,
-    notes: &'a str,
+pub(crate) struct Case<'a> {
+    pub word: &'a str,
+    pub input: &'a [u8],
+    pub failing_reads: &'a [u32],
+    pub failing_writes: &'a [u32],
+    pub failing_notes: &'a [u32],
+    pub code: u8,
+    pub text: &'a str,
+    pub notes: &'a str,
 }
 
 impl<'a> Case<'a> {
     /// The run of `expand` in which no call fails.
-    fn of(input: &'a [u8], code: u8, text: &'a str, notes: &'a str) -> Case<'a> {
+    pub fn of(input: &'a [u8], code: u8, text: &'a str, notes: &'a str) -> Case<'a> {
         Case {
             word: "expand",
             input,
@@ -100,7 +98,7 @@ impl<'a> Case<'a> {
     }
 
     /// The run answers so where calls move at most ten bytes.
-    fn check(&self, alloc: Global) -> Result<(), Fail> {
+    pub fn check(&self, alloc: Global) -> Result<(), Fail> {
         let found = self.outcome(alloc, 10)?;
         let input = shown(self.input);
         check_at(input, found.code, self.code)?;
@@ -126,7 +124,7 @@ fn check_refused(alloc: Global, cases: &[(&str, &str)]) -> Result<(), Fail> {
 }
 
 /// The input has these notes, which are empty exactly where the run ends with 0.
-fn check_notes(alloc: Global, input: &str, notes: &str) -> Result<(), Fail> {
+pub(crate) fn check_notes(alloc: Global, input: &str, notes: &str) -> Result<(), Fail> {
     let found = Case::of(input.as_bytes(), 0, "", "").outcome(alloc, 4096)?;
     check_at(input, shown(found.notes.bytes()), notes)?;
     check_at(input, found.code == 0, notes.is_empty())

@@ -5,12 +5,6 @@ use std::alloc::{AllocError, Global};
 use std::test::Fail;
 
 #[test]
-fn a_struct_is_expanded(rt: HostRuntime) -> Result<(), Fail> {
-    let input = "#[educe(PartialEq)] struct S { a: u8 }";
-    check_expanded(rt.alloc(), &[(input, ONE_FIELD)])
-}
-
-#[test]
 fn comments_are_left_out(rt: HostRuntime) -> Result<(), Fail> {
     let input = "#[educe(PartialEq)] struct S { /* other */ a: u8 } // a";
     check_expanded(rt.alloc(), &[(input, ONE_FIELD)])
@@ -22,21 +16,6 @@ fn a_raw_name_stays_as_it_is_written(rt: HostRuntime) -> Result<(), Fail> {
     let text =
         "# [ automatically_derived ] impl :: core :: cmp :: PartialEq for r#S { fn eq ( & self , other : & Self ) -> :: core :: primitive :: bool { if :: core :: cmp :: PartialEq :: ne ( & self . r#fn , & other . r#fn ) { return false ; } true } }\n";
     check_expanded(rt.alloc(), &[(input, text)])
-}
-
-#[test]
-fn fields_without_names_are_read_by_their_places(rt: HostRuntime) -> Result<(), Fail> {
-    let input = "#[educe(PartialEq)] struct S(u8, Vec<u8>);";
-    let text =
-        "# [ automatically_derived ] impl :: core :: cmp :: PartialEq for S { fn eq ( & self , other : & Self ) -> :: core :: primitive :: bool { if :: core :: cmp :: PartialEq :: ne ( & self . 0 , & other . 0 ) { return false ; } if :: core :: cmp :: PartialEq :: ne ( & self . 1 , & other . 1 ) { return false ; } true } }\n";
-    check_expanded(rt.alloc(), &[(input, text)])
-}
-
-#[test]
-fn a_struct_without_fields_is_equal(rt: HostRuntime) -> Result<(), Fail> {
-    let text =
-        "# [ automatically_derived ] impl :: core :: cmp :: PartialEq for S { fn eq ( & self , other : & Self ) -> :: core :: primitive :: bool { true } }\n";
-    check_expanded(rt.alloc(), &[("#[educe(PartialEq)] struct S;", text)])
 }
 
 #[test]
@@ -113,12 +92,6 @@ fn types_nest_so_far(rt: HostRuntime) -> Result<(), Fail> {
                 127,
                 "u8 }",
                 "1:1: not built yet\n",
-            ),
-            (
-                "#[educe(Clone)] struct S { a: ",
-                128,
-                "u8 }",
-                "1:158: nested too deeply\n",
             ),
         ],
     )

@@ -14,14 +14,6 @@ fn a_rank_is_used_once(rt: HostRuntime) -> Result<(), Fail> {
                 "1:74: the rank `1` is repeatedly used\n",
             ),
             (
-                "#[educe(Ord)] struct S { #[educe(Ord(rank = 1))] a: u8, #[educe(Ord(rank = 1))] b: u8 }",
-                "1:69: the rank `1` is repeatedly used\n",
-            ),
-            (
-                "#[educe(Ord)] struct S { a: u8, #[educe(Ord(rank = -9223372036854775808))] b: u8 }",
-                "1:45: the rank `-9223372036854775808` is repeatedly used\n",
-            ),
-            (
                 "#[educe(Ord)] struct S { #[educe(Ord(rank = -9223372036854775807))] a: u8, b: u8 }",
                 "1:76: the rank `-9223372036854775807` is repeatedly used\n",
             ),
@@ -67,7 +59,6 @@ fn ranks_that_differ_are_taken(rt: HostRuntime) -> Result<(), Fail> {
     check_taken(
         rt.alloc(),
         &[
-            "#[educe(Ord)] struct S { #[educe(Ord(rank = 1))] a: u8, #[educe(Ord(rank = 1, ignore))] b: u8 }",
             "#[educe(Ord)] struct S { #[educe(Ord(rank = -9223372036854775808))] a: u8, b: u8 }",
             "#[educe(Ord)] struct S { #[educe(Ord(rank = 9223372036854775807))] a: u8, b: u8 }",
         ],

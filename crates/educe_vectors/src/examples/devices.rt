@@ -1,6 +1,7 @@
-//! Arguments that are wrong, texts that are none, and devices that fail.
+//! Worked examples of words that are no command, inputs past the limit or not UTF-8, and devices that
+//! fail.
 
-use super::Case;
+use crate::program::{Case, ONE_FIELD};
 use std::alloc::Global;
 use std::test::Fail;
 
@@ -11,7 +12,7 @@ fn check_blanks(alloc: Global, count: usize, code: u8, notes: &str) -> Result<()
 }
 
 #[test]
-fn blanks_alone_are_no_definition(rt: HostRuntime) -> Result<(), Fail> {
+fn blanks_up_to_the_limit_are_no_definition(rt: HostRuntime) -> Result<(), Fail> {
     check_blanks(rt.alloc(), 131_072, 1, "1:1: syntax error\n")
 }
 
@@ -35,7 +36,7 @@ fn a_byte_too_many_is_too_long(rt: HostRuntime) -> Result<(), Fail> {
 }
 
 #[test]
-fn a_lone_byte_ff_is_no_text(rt: HostRuntime) -> Result<(), Fail> {
+fn the_byte_ff_is_not_utf8(rt: HostRuntime) -> Result<(), Fail> {
     Case::of(b"\xff", 6, "", "the input is not UTF-8\n").check(rt.alloc())
 }
 
@@ -52,6 +53,23 @@ fn a_failed_read_is_no_end(rt: HostRuntime) -> Result<(), Fail> {
     };
     first.check(rt.alloc())?;
     later.check(rt.alloc())
+}
+
+#[test]
+fn the_read_that_finds_the_end_may_fail_and_none_comes_behind_it(
+    rt: HostRuntime,
+) -> Result<(), Fail> {
+    let input = b"#[educe(PartialEq)] struct S { a: u8 }";
+    let at_the_end = Case {
+        failing_reads: &[4],
+        ..Case::of(input, 3, "", "")
+    };
+    let behind = Case {
+        failing_reads: &[5],
+        ..Case::of(input, 0, ONE_FIELD, "")
+    };
+    at_the_end.check(rt.alloc())?;
+    behind.check(rt.alloc())
 }
 
 #[test]

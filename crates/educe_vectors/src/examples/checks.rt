@@ -1,0 +1,70 @@
+//! How an example is tried.
+
+use crate::examples::{Answer, Example};
+use crate::program::bodies::evaluated_first;
+use crate::program::{Case, check_notes};
+use educe_body::Outcome;
+use educe_checks::{check_at, lex_answer, lexed, printed_source};
+use educe_tokens::{EduceError, Kind, Token, int_value, string_value};
+use std::alloc::Global;
+use std::test::Fail;
+
+/// The one token of a text.
+fn token(alloc: Global, source: &str) -> Result<Token, Fail> {
+    let tokens = lexed(alloc, source)?;
+    match tokens.as_slice() {
+        [token] => Ok(token.duplicate(alloc)?),
+        _ => Err(Fail::from(source)),
+    }
+}
+
+/// The one token of the text has this string value.
+fn check_string(alloc: Global, source: &str, expected: &str) -> Result<(), Fail> {
+    let value = string_value(alloc, &token(alloc, source)?)?.ok_or("no string")?;
+    check_at(source, value.as_str(), expected)
+}
+
+/// Whether a refusal cites this word first, or none where it is empty.
+fn cites(error: &EduceError, word: &str) -> bool {
+    match error.words.get(0) {
+        Some(cited) => cited.as_str() == word,
+        None => word.is_empty(),
+    }
+}
+
+/// The text is refused so, and cites this word.
+fn check_refusal(alloc: Global, source: &str, kind: Kind, word: &str) -> Result<(), Fail> {
+    let Err(error) = lex_answer(alloc, source)? else {
+        return Err(Fail::from(source));
+    };
+    check_at(source, error.kind, kind)?;
+    check_at(source, cites(&error, word), true)
+}
+
+/// The function of the first impl evaluates so.
+fn check_value(
+    alloc: Global,
+    source: &str,
+    numbers: (&[i128], &[i128]),
+    expected: Outcome,
+) -> Result<(), Fail> {
+    check_at(source, evaluated_first(alloc, source, numbers)?, expected)
+}
+
+/// The example is answered as its row says.
+pub(crate) fn check(alloc: Global, example: &Example) -> Result<(), Fail> {
+    let (_, source, answer) = example;
+    match answer {
+        Answer::Text(text) => Case::of(source.as_bytes(), 0, text, "").check(alloc),
+        Answer::Expanded => check_notes(alloc, source, ""),
+        Answer::Value(this, other, outcome) => check_value(alloc, source, (this, other), *outcome),
+        Answer::Line(line) => Case::of(source.as_bytes(), 1, "", line).check(alloc),
+        Answer::Printed(text) => check_at(*source, printed_source(alloc, source)?.as_str(), *text),
+        Answer::Count(count) => check_at(*source, lexed(alloc, source)?.len(), *count),
+        Answer::Integer(value) => {
+            check_at(*source, int_value(&token(alloc, source)?), Some(*value))
+        }
+        Answer::String(value) => check_string(alloc, source, value),
+        Answer::Refusal(kind, word) => check_refusal(alloc, source, *kind, word),
+    }
+}
