@@ -19,7 +19,7 @@ pub enum Kind {
     /// token stands before such characters, or brackets are open at the end, it is empty, at the
     /// end of the text.
     Syntax,
-    /// A bracket opens where `NESTING_LIMIT` are open. The place is that bracket.
+    /// A bracket opens where `NESTING` are open. The place is that bracket.
     TooDeep,
     /// A literal, the one word, is read and not carried.
     NotCarried,
