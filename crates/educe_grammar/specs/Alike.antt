@@ -1,10 +1,6 @@
 -- Tokens that are equal aside, and types that are alike.
-use Rattle.std.specs.Prelude.{◌≡◌, Bool, false, List, [], ◌∷◌, map, Option, Some, None}
-use Rattle.educe_pieces.specs.declared.kind.TokenKind.{TokenKind}
-use Rattle.educe_pieces.specs.declared.kind.TokenKind.TheVariants as kind
-use Rattle.educe_tokens.specs.declared.token.Token.{Token}
+use Rattle.std.specs.Prelude.{◌≡◌, Bool, false, List, [], ◌∷◌, Option, Some, None}
 use Rattle.educe_tokens.specs.declared.written.Written.{Written}
-use Rattle.educe_tokens.specs.Lexes.{Lexeme}
 use Rattle.educe_tree.specs.declared.ident.Ident.{Ident}
 use Rattle.educe_tree.specs.declared.lifetime.Lifetime.{Lifetime}
 use Rattle.educe_tree.specs.declared.ty.Ty.{Ty}
@@ -16,32 +12,12 @@ use Rattle.educe_tree.specs.declared.path.Args.{Args}
 use Rattle.educe_tree.specs.declared.path.Args.TheVariants as args
 use Rattle.educe_tree.specs.declared.path.AngleArg.{AngleArg}
 use Rattle.educe_tree.specs.declared.path.AngleArg.TheVariants as arg
-use Rattle.educe_grammar.specs.Steps.{Tokens}
 use Rattle.educe_grammar.specs.Types.{type_of, path_of, segment_of}
-
 -- ---- tokens
 
--- the kind, whether a punct is joint aside
-abbrev pub kind_aside : TokenKind → TokenKind
-kind_aside (kind.Punct c joint) = kind.Punct c false
-kind_aside kind.Ident = kind.Ident
-kind_aside kind.Lifetime = kind.Lifetime
-kind_aside (kind.Literal l) = kind.Literal l
-kind_aside (kind.Start b) = kind.Start b
-kind_aside (kind.Stop b) = kind.Stop b
-kind_aside kind.Doc = kind.Doc
-
--- the kind and the spelling, the span and whether a punct is joint aside
-abbrev pub lexeme_aside : Token → Lexeme
-lexeme_aside t = record { kind = kind_aside t.kind; spelling = t.spelling }
-
--- the same of each token
-abbrev pub lexemes_aside : Tokens → List Lexeme
-lexemes_aside tokens = map lexeme_aside tokens
-
--- the tokens are equal, their spans and whether puncts are joint aside
-abbrev pub AreEqualAside : Tokens → Tokens → Type 0
-AreEqualAside ts us = lexemes_aside ts ≡ lexemes_aside us
+-- the same tokens are equal, their spans and whether puncts are joint aside
+pub use Rattle.educe_tokens.specs.Copied.{unjoined as kind_aside}
+pub use Rattle.educe_tokens.specs.Same.{lexeme_aside, lexemes_aside, AreSameTokens as AreEqualAside}
 
 -- ---- types
 

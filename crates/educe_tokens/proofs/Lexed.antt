@@ -1,10 +1,12 @@
 -- The tokens so far are those of the front of the text.
-use Rattle.std.proofs.Common.{◌≡◌, ◌≢◌, ℕ, ◌+◌, ◌-◌, ◌<◌, ◌≤◌, Bool, true, false, cond, IsTrue, Some, None, List, [], ◌∷◌, ◌++◌, length, take, drop, get_or, map, filter, refl, sym, ap, ◌∙◌, subst, arith, append-nil, take-append-drop, encode_utf8_all}
+use Rattle.std.proofs.Common.{◌≡◌, ◌≢◌, ℕ, ◌+◌, ◌-◌, ◌<◌, ◌≤◌, Bool, true, false, cond, IsTrue, Some, None, List, [], ◌∷◌, ◌++◌, length, take, drop, get_or, map, filter, refl, sym, ap, ◌∙◌, subst, arith, append-nil, take-append-drop, encode_utf8_all, inl, inr}
 use Rattle.std.proofs.lemmas.Bool.{and_parts, and_from}
 use Rattle.std.proofs.lemmas.List.{map-append}
 use Rattle.std.proofs.lemmas.List.Elements.{filter-append}
 use Rattle.educe_tokens.specs.declared.error.EduceError.{EduceError}
+use Rattle.educe_tokens.specs.declared.error.Kind.TheVariants.{NotCarried}
 use Rattle.educe_tokens.specs.declared.span.Span.{Span}
+use Rattle.educe_pieces.specs.declared.kind.UncarriedKind.{UncarriedKind}
 use Rattle.educe_tokens.specs.declared.token.Token.{Token}
 use Rattle.educe_pieces.specs.declared.kind.PieceKind.{PieceKind}
 use Rattle.educe_pieces.specs.declared.kind.PieceKind.TheVariants.{Blank, Comment, Token as TokenPiece, Uncarried}
@@ -13,7 +15,7 @@ use Rattle.educe_scan.specs.Scan.{piece_at}
 use Rattle.educe_scan.proofs.Readings.{IsFound, reads_push, fits_none}
 use Rattle.educe_tokens.specs.Causes.{empty_at, last_of, IsLexicalCause}
 use Rattle.educe_tokens.specs.Lexes.{lexeme_of, lexemes, Lexes, is_token, is_carried, are_carried, piece_of, end_of, span_at, spans}
-use Rattle.educe_tokens.specs.Refusals.{syntax_at, not_carried_at}
+use Rattle.educe_tokens.specs.Refusals.{syntax_at, not_carried_at, Cites}
 use Rattle.educe_tokens.specs.Steps.{Adds, IsCauseOfPiece}
 use Rattle.educe_tokens.proofs.Tokens.{span_of}
 use Rattle.educe_tokens.proofs.Bytes.{bytes-append, bytes-take_le}
@@ -139,6 +141,12 @@ module _ (text rest : List ℕ) (old : List Token) (start : ℕ) (kind : PieceKi
   -- so there is a cause where it adds nothing
   pub piece_cause : (e : EduceError) → IsCauseOfPiece (take n rest) span kind e → IsLexicalCause text e
   piece_cause e cause = uncarried kind e refl cause
+
+-- a literal is cited where it is not carried, or want of memory is
+pub cited_cause : (literal : List ℕ) (span : Span) (kind : UncarriedKind) (spelling : List ℕ) (e : EduceError) → spelling ≡ literal → Cites NotCarried span spelling e → IsCauseOfPiece literal span (Uncarried kind) e
+cited_cause literal span kind spelling e is (inl memory) = subst (IsCauseOfPiece literal span (Uncarried kind)) (sym memory) (IsCauseOfPiece.memory (Uncarried kind))
+cited_cause literal span kind spelling e is (inr cites) =
+    subst (IsCauseOfPiece literal span (Uncarried kind)) (sym (cites ∙ ap (not_carried_at span) is)) (IsCauseOfPiece.not_carried kind)
 
 -- a list of length 0 is empty
 nil_from_length : (xs : List ℕ) → length xs ≡ 0 → xs ≡ []

@@ -7,6 +7,7 @@ pub mod Uncaused
 pub mod Alone
 pub mod Bracketed
 pub mod Places
+pub mod Cutting
 pub mod Few
 pub mod Joined
 pub mod Parts
@@ -20,6 +21,6 @@ pub mod Writing
 pub mod Copying
 pub mod Words
 pub mod StringValues
-pub mod Limits
+pub mod OneKind
 pub mod Printable
 pub mod Decided

@@ -1,5 +1,5 @@
 -- Where tokens and refusals lie in their source.
-use Rattle.std.proofs.Common.{◌≡◌, ℕ, ◌+◌, ◌-◌, Bool, true, false, cond, List, [], ◌∷◌, ◌++◌, length, take, drop, map, filter, refl, sym, ap, ◌∙◌, subst, arith, rules, append_assoc, length-append, chars, IsUtf8, encode_utf8_all, Result, Ok, Err, IfOk}
+use Rattle.std.proofs.Common.{◌≡◌, ℕ, ◌+◌, ◌-◌, Bool, true, false, cond, List, [], ◌∷◌, ◌++◌, length, take, drop, map, filter, refl, sym, ap, ◌∙◌, subst, arith, rules, append_assoc, chars, IsUtf8, encode_utf8_all, Result, Ok, Err, IfOk}
 use Rattle.std.specs.Prelude.{slice_range}
 use Rattle.std.specs.List.{AllByRecursion}
 use Rattle.std.specs.Str.{IsCharBoundary}
@@ -14,7 +14,7 @@ use Rattle.educe_tokens.specs.declared.token.Token.{Token}
 use Rattle.educe_tokens.specs.Causes.{empty_at, last_of, IsLexicalCause}
 use Rattle.educe_tokens.specs.Lexes.{lexeme_of, lexemes, Lexes, is_token, piece_of, end_of, span_at, spans}
 use Rattle.educe_tokens.specs.Message.{HasWords}
-use Rattle.educe_tokens.specs.Slices.{IsSlice}
+use Rattle.educe_tokens.specs.Slices.{IsCutOut, IsSlice}
 use Rattle.educe_tokens.specs.Steps.{IsReading}
 use Rattle.educe_tokens.proofs.Bytes.{bytes-append}
 use Rattle.educe_tokens.proofs.Tokens.{span_of, cons_parts, nil_not_cons}
@@ -92,28 +92,6 @@ cut_middle source xs ys zs start end whole from to =
     let rest : drop start source ≡ ys ++ zs = (λ i. drop (from i) (whole i)) ∙ drop-append_seam xs (ys ++ zs) in
     (λ i. take (long i) (rest i)) ∙ take-append_seam ys zs
 
--- what lies there among the characters is cut out of the bytes
-slice_of : (source : List ℕ) (t : Token) → IsUtf8 source → TokenLiesAt (chars source) t → IsSlice source t
-slice_of source t utf8 lies =
-    let whole = bytes_of_parts source lies.before t.spelling lies.behind utf8 lies.split in
-    let long = ap length whole ∙ length-append (encode_utf8_all lies.before) (encode_utf8_all t.spelling ++ encode_utf8_all lies.behind) in
-    let rest = length-append (encode_utf8_all t.spelling) (encode_utf8_all lies.behind) in
-    let starts = lies.starts in
-    let ends = lies.ends in
-    record {
-      within = omega arith;
-      cut = cut_middle source (encode_utf8_all lies.before) (encode_utf8_all t.spelling) (encode_utf8_all lies.behind) t.span.start t.span.end whole starts ends;
-    }
-
--- each token's span cuts its spelling out of the source
-pub tokens_sliced : (source : List ℕ) (tokens : List Token) → IsUtf8 source → Lexes (chars source) tokens → AllByRecursion (IsSlice source) tokens
-tokens_sliced source tokens utf8 lexes = each_weaker (TokenLiesAt (chars source)) (IsSlice source) tokens (λ t. slice_of source t utf8) (tokens_lie (chars source) tokens lexes)
-
--- the same where the answer may be a refusal
-pub answer_sliced : (source : List ℕ) (r : Result (List Token) EduceError) → IsUtf8 source → IfOk r (IsReading (chars source)) → IfOk r (λ tokens. AllByRecursion (IsSlice source) tokens)
-answer_sliced source (Ok tokens) utf8 reading = tokens_sliced source tokens utf8 reading.lexes
-answer_sliced source (Err e) utf8 reading = tt
-
 -- ---- where characters begin
 
 -- the characters behind a front are characters
@@ -140,6 +118,32 @@ lies_placed source span spelling utf8 lies =
       subst (IsCharBoundary source) (sym last) (boundary source (lies.before ++ spelling) lies.behind utf8 (lies.split ∙ sym (append_assoc lies.before spelling lies.behind))),
     )
 
+-- ---- what is cut out
+
+-- what lies there among the characters is cut out of the bytes
+pub span_cut : (source : List ℕ) (span : Span) (spelling : List ℕ) → IsUtf8 source → LiesAt (chars source) span spelling → IsCutOut source span spelling
+span_cut source span spelling utf8 lies =
+    let whole = bytes_of_parts source lies.before spelling lies.behind utf8 lies.split in
+    let places = lies_placed source span spelling utf8 lies in
+    let ends = lies.ends in
+    record {
+      ordered = omega arith;
+      starts = places.0;
+      ends = places.1;
+      cut = cut_middle source (encode_utf8_all lies.before) (encode_utf8_all spelling) (encode_utf8_all lies.behind) span.start span.end whole lies.starts lies.ends;
+    }
+
+-- each token's span cuts its spelling out of the source
+pub tokens_sliced : (source : List ℕ) (tokens : List Token) → IsUtf8 source → Lexes (chars source) tokens → AllByRecursion (IsSlice source) tokens
+tokens_sliced source tokens utf8 lexes = each_weaker (TokenLiesAt (chars source)) (IsSlice source) tokens (λ t. span_cut source t.span t.spelling utf8) (tokens_lie (chars source) tokens lexes)
+
+-- the same where the answer may be a refusal
+pub answer_sliced : (source : List ℕ) (r : Result (List Token) EduceError) → IsUtf8 source → IfOk r (IsReading (chars source)) → IfOk r (λ tokens. AllByRecursion (IsSlice source) tokens)
+answer_sliced source (Ok tokens) utf8 reading = tokens_sliced source tokens utf8 reading.lexes
+answer_sliced source (Err e) utf8 reading = tt
+
+-- ---- where tokens begin and end
+
 -- each token begins where a character does
 pub tokens_placed : (source : List ℕ) (tokens : List Token) → IsUtf8 source → Lexes (chars source) tokens → AllByRecursion (λ (t : Token). IsCharBoundary source t.span.start) tokens
 tokens_placed source tokens utf8 lexes =
@@ -153,13 +157,13 @@ tokens_ended source tokens utf8 lexes =
 -- ---- refusals
 
 -- the characters of pieces, and how many bytes they have
-record HasFront (text rest : List ℕ) (start end : ℕ) : Type 0 where
-  front : List ℕ
-  split : text ≡ front ++ rest
-  bytes : end ≡ start + length (encode_utf8_all front)
+pub record HasFront (text rest : List ℕ) (start end : ℕ) : Type 0 where
+  pub front : List ℕ
+  pub split : text ≡ front ++ rest
+  pub bytes : end ≡ start + length (encode_utf8_all front)
 
 -- the pieces of a front are characters of the text
-front_of : (text rest : List ℕ) (start : ℕ) (ps : List Piece) → Reads text ps rest → HasFront text rest start (end_of start ps)
+pub front_of : (text rest : List ℕ) (start : ℕ) (ps : List Piece) → Reads text ps rest → HasFront text rest start (end_of start ps)
 front_of text rest start [] reads = record { front = []; split = reads; bytes = omega arith }
 front_of text rest start (p ∷ ps) reads =
     let more = front_of reads.0 rest (start + length (encode_utf8_all p.spelling)) ps reads.4 in

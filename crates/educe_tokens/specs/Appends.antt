@@ -4,17 +4,13 @@ use Rattle.std.specs.List.{AllByRecursion}
 use Rattle.educe_tokens.specs.declared.span.Span.{Span}
 use Rattle.educe_tokens.specs.declared.token.Token.{Token}
 use Rattle.educe_tokens.specs.Lexes.{Lexeme, lexemes}
+pub use Rattle.educe_tokens.specs.Prefix.{HasPrefix}
 
 -- the new list is the old one and then tokens that are these, their spans aside
 pub record Appends (found : List Lexeme) (old new : List Token) : Type 0 where
   pub more : List Token
   pub joined : new ≡ old ++ more
   pub same : lexemes more ≡ found
-
--- the new list begins with the old one
-pub record HasPrefix (old new : List Token) : Type 0 where
-  pub more : List Token
-  pub joined : new ≡ old ++ more
 
 -- the new list is the old one and then tokens that lie at these places
 pub record AppendsAt (places : List Span) (old new : List Token) : Type 0 where

@@ -1,5 +1,6 @@
 pub mod formers
 pub mod Span
+pub mod Kept
 pub mod Lexes
 pub mod Brackets
 pub mod Text
@@ -8,7 +9,9 @@ pub mod Refusals
 pub mod Causes
 pub mod Steps
 pub mod Slices
+pub mod Prefix
 pub mod Appends
+pub mod Same
 pub mod Quote
 pub mod Message
 pub mod IntValue

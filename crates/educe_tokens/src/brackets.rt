@@ -12,14 +12,14 @@ use educe_pieces::{Bracket, TokenKind};
 use std::alloc::Global;
 
 /// How many brackets may be open at once.
-pub const NESTING_LIMIT: usize = 128;
+pub const NESTING: usize = 128;
 
 /// Why a token is refused behind others.
 #[derive(Clone, Copy, Debug, PartialEq, Eq)]
 pub enum BracketError {
     /// It closes another bracket than the innermost one, or none.
     WrongClose,
-    /// It opens a bracket where `NESTING_LIMIT` are open.
+    /// It opens a bracket where `NESTING` are open.
     TooDeep,
     /// Want of memory.
     Alloc,
@@ -27,15 +27,15 @@ pub enum BracketError {
 
 /// Puts one more token behind the open brackets, the innermost last.
 fn take_kind(outer: &mut Vec<Bracket>, kind: TokenKind) -> Result<(), BracketError>
-    requires { vec_len outer.old ≤ NESTING_LIMIT }
+    requires { vec_len outer.old ≤ NESTING }
     ensures ok { OnOk result (open_after (reverse outer.old.items) kind ≡ Some (reverse outer.new.items)) }
     ensures depth { OnOk result (length outer.new.items ≡ depth_after (length outer.old.items) kind) }
-    ensures within { OnOk result (vec_len outer.new ≤ NESTING_LIMIT) }
+    ensures within { OnOk result (vec_len outer.new ≤ NESTING) }
     ensures err { IfErr result (λ e. IsCauseOfKind (reverse outer.old.items) kind e) }
 {
     match kind {
         TokenKind::Start(b) => {
-            if outer.len() >= NESTING_LIMIT {
+            if outer.len() >= NESTING {
                 Err(BracketError::TooDeep)
             } else if outer.push(b).is_ok() {
                 Ok(())
@@ -62,7 +62,7 @@ fn refusal(alloc: Global, cause: BracketError, place: Span) -> EduceError
     }
 }
 
-/// Whether the brackets of a text of so many bytes close in order, at most `NESTING_LIMIT` open at
+/// Whether the brackets of a text of so many bytes close in order, at most `NESTING` open at
 /// once (Rust Reference, Delimiters). It is refused at the first bracket that closes another than
 /// the innermost one or opens too deep, or else empty at the end, where brackets are open there.
 pub fn check_brackets(alloc: Global, tokens: &TokenStream, end: u32) -> Result<(), EduceError>

@@ -1,5 +1,5 @@
 //! Growing a token list at its end.
-ghost use Rattle.std.specs.Prelude.{IsTrue, OnOk, [], ◌∷◌, map, chars};
+ghost use Rattle.std.specs.Prelude.{IsTrue, OnOk, [], ◌∷◌, map};
 ghost use Rattle.educe_pieces.specs.Pieces.{spells};
 ghost use Rattle.educe_tokens.specs.Appends.{Appends, AppendsAt, AppendsNowhere, HasPrefix};
 ghost use Rattle.educe_tokens.specs.Quote.{word_lexeme};
@@ -38,22 +38,20 @@ pub fn push_word(alloc: Global, tokens: &mut TokenStream, word: &Word) -> Result
     ensures nowhere { OnOk result (AppendsNowhere tokens.old tokens.new) }
     ensures prefix { HasPrefix tokens.old tokens.new }
 {
-    push_spelled(alloc, tokens, word.kind(), word.as_str())
+    push_spelled(tokens, word.kind(), word.text.duplicate(alloc)?)
 }
 
 /// Appends the token of this kind that the text spells.
 pub(crate) fn push_spelled(
-    alloc: Global,
     tokens: &mut TokenStream,
     kind: TokenKind,
-    text: &str,
+    spelling: Spelling,
 ) -> Result<(), AllocError>
-    requires { IsTrue (spells kind (chars text.now)) }
-    ensures ok { OnOk result (Appends (record { kind = kind; spelling = chars text.now } ∷ []) tokens.old tokens.new) }
+    requires { IsTrue (spells kind spelling) }
+    ensures ok { OnOk result (Appends (record { kind = kind; spelling = spelling } ∷ []) tokens.old tokens.new) }
     ensures nowhere { OnOk result (AppendsNowhere tokens.old tokens.new) }
     ensures prefix { HasPrefix tokens.old tokens.new }
 {
-    let spelling = Spelling::from_str(alloc, text)?;
     let span = Span::NONE;
     tokens.push(Token {
         kind,

@@ -1,13 +1,15 @@
 //! Texts into tokens.
 ghost use Rattle.std.specs.Prelude.{◌≡◌, ◌<◌, ◌≤◌, ◌^◌, ◌⊎◌, length, map, IfOk, IfErr, OnOk, chars, encode_utf8_all, IsTrue, List};
 ghost use Rattle.std.specs.List.{AllByRecursion};
+ghost use Rattle.std.specs.Str.{IsCharBoundary};
 ghost use Rattle.educe_pieces.specs.Pieces.{is_piece};
 ghost use Rattle.educe_tokens.specs.Lexes.{Lexeme, Lexes, LexesAside, lexemes};
 ghost use Rattle.educe_tokens.specs.Brackets.{kinds, IsBalanced, IsShallow};
 ghost use Rattle.educe_tokens.specs.Text.{puncts_join};
 ghost use Rattle.educe_tokens.specs.Causes.{empty_at, last_of, IsLexicalCause, Gives};
-ghost use Rattle.educe_tokens.specs.Slices.{IsSlice};
+ghost use Rattle.educe_tokens.specs.Slices.{IsPlace, IsSlice, cut_out};
 ghost use Rattle.educe_tokens.specs.Steps.{Adds, IsCauseOfPiece, IsReading};
+ghost use Rattle.educe_tokens.specs.Message.{HasWords};
 ghost use Rattle.educe_tokens.specs.declared.token.Token.{Token};
 
 use crate::brackets::check_brackets;
@@ -20,16 +22,6 @@ use educe_pieces::{PieceKind, TokenKind, UncarriedKind};
 use educe_scan::piece_at;
 use std::alloc::{AllocError, Global};
 
-fn spelling_of(alloc: Global, text: &[char]) -> Result<Spelling, AllocError>
-    ensures { IfOk result (λ spelling. spelling ≡ text.now) }
-{
-    let mut spelling = String::new(alloc);
-    for c in text {
-        spelling.push(*c)?;
-    }
-    Spelling::from_str(alloc, &spelling)
-}
-
 fn byte_len(text: &[char]) -> usize
     requires { length (encode_utf8_all text.now) < 2 ^ 32 }
     ensures { result ≡ length (encode_utf8_all text.now) }
@@ -41,18 +33,18 @@ fn byte_len(text: &[char]) -> usize
     len
 }
 
-/// Adds the token of this kind that the characters spell.
+/// Adds the token of this kind that lies there.
 fn push_token(
-    alloc: Global,
     tokens: &mut TokenStream,
     kind: TokenKind,
-    front: &[char],
+    source: &Spelling,
     span: Span,
 ) -> Result<(), AllocError>
-    requires { IsTrue (is_piece (PieceKind.Token kind) front.now) }
-    ensures { OnOk result (Adds (PieceKind.Token kind) front.now span tokens.old tokens.new) }
+    requires place { IsPlace source.now span }
+    requires piece { IsTrue (is_piece (PieceKind.Token kind) (cut_out source.now span)) }
+    ensures { OnOk result (Adds (PieceKind.Token kind) (cut_out source.now span) span tokens.old tokens.new) }
 {
-    let spelling = spelling_of(alloc, front)?;
+    let spelling = source.part(span.start, span.end)?;
     tokens.push(Token {
         kind,
         span,
@@ -60,42 +52,41 @@ fn push_token(
     })
 }
 
-/// The refusal of a literal that is not carried, or that for want of memory.
-fn not_carried(alloc: Global, kind: UncarriedKind, literal: &[char], span: Span) -> EduceError
-    ensures { IsCauseOfPiece literal.now span (PieceKind.Uncarried kind) result }
+/// The refusal of the unsupported literal that lies there.
+fn not_carried(alloc: Global, kind: UncarriedKind, source: &Spelling, span: Span) -> EduceError
+    requires { IsPlace source.now span }
+    ensures { IsCauseOfPiece (cut_out source.now span) span (PieceKind.Uncarried kind) result }
 {
-    let Ok(word) = spelling_of(alloc, literal) else {
-        return EduceError::alloc(alloc);
-    };
-    match EduceError::with_word(alloc, Kind::NotCarried, span, word) {
-        Ok(error) => error,
+    match source.part(span.start, span.end) {
+        Ok(literal) => EduceError::citing(alloc, Kind::NotCarried, span, &literal),
         Err(_) => EduceError::alloc(alloc),
     }
 }
 
-/// Adds what a piece is to the tokens: a blank and a comment are nothing.
+/// Adds the piece that lies there, if it is a token: a blank and a comment are none.
 fn push_piece(
     alloc: Global,
     tokens: &mut TokenStream,
     kind: PieceKind,
-    front: &[char],
+    source: &Spelling,
     span: Span,
 ) -> Result<(), EduceError>
-    requires { IsTrue (is_piece kind front.now) }
-    ensures ok { OnOk result (Adds kind front.now span tokens.old tokens.new) }
-    ensures err { IfErr result (λ e. IsCauseOfPiece front.now span kind e) }
+    requires place { IsPlace source.now span }
+    requires piece { IsTrue (is_piece kind (cut_out source.now span)) }
+    ensures ok { OnOk result (Adds kind (cut_out source.now span) span tokens.old tokens.new) }
+    ensures err { IfErr result (λ e. IsCauseOfPiece (cut_out source.now span) span kind e) }
 {
     match kind {
         PieceKind::Blank => Ok(()),
         PieceKind::Comment => Ok(()),
         PieceKind::Token(kind) => {
-            if push_token(alloc, tokens, kind, front, span).is_ok() {
+            if push_token(tokens, kind, source, span).is_ok() {
                 Ok(())
             } else {
                 Err(EduceError::alloc(alloc))
             }
         }
-        PieceKind::Uncarried(kind) => Err(not_carried(alloc, kind, front, span)),
+        PieceKind::Uncarried(kind) => Err(not_carried(alloc, kind, source, span)),
     }
 }
 
@@ -109,14 +100,15 @@ fn last_place(tokens: &[Token], end: u32) -> Span
     }
 }
 
-/// The tokens among the pieces of a text of so many bytes. It is refused where no piece fits, at the
-/// last token before, or at a literal that is not carried, whichever comes first.
-fn token_pieces(alloc: Global, text: &[char], bytes: u32) -> Result<TokenStream, EduceError>
-    requires bytes { length (encode_utf8_all text.now) ≡ bytes }
-    requires limit { bytes ≤ SOURCE_LIMIT }
-    ensures lexes { IfOk result (λ tokens. Lexes text.now tokens) }
-    ensures err { IfErr result (λ e. IsLexicalCause text.now e) }
+/// The tokens among the pieces of a source, each a part of it. It is refused where no piece fits, at
+/// the last token before, or at an unsupported literal, whichever comes first.
+fn token_pieces(alloc: Global, source: &Spelling, text: &[char]) -> Result<TokenStream, EduceError>
+    requires text { text.now ≡ source.now }
+    requires limit { length (encode_utf8_all source.now) ≤ SOURCE_LIMIT }
+    ensures lexes { IfOk result (λ tokens. Lexes source.now tokens) }
+    ensures err { IfErr result (λ e. IsLexicalCause source.now e) }
 {
+    let bytes = source.as_str().len() as u32;
     let mut tokens = Seq::new(alloc);
     let mut rest = text;
     let mut start: u32 = 0;
@@ -127,7 +119,7 @@ fn token_pieces(alloc: Global, text: &[char], bytes: u32) -> Result<TokenStream,
         };
         let (front, more) = rest.split_at(len);
         let end = start + byte_len(front) as u32;
-        push_piece(alloc, &mut tokens, kind, front, Span { start, end })?;
+        push_piece(alloc, &mut tokens, kind, source, Span { start, end })?;
         rest = more;
         start = end;
     }
@@ -146,11 +138,14 @@ fn checked_tokens(alloc: Global, source: &str) -> Result<TokenStream, EduceError
     ensures ok { IfOk result (λ tokens. IsReading (chars source.now) tokens) }
     ensures err { IfErr result (λ e. IsLexicalCause (chars source.now) e) }
 {
+    let Ok(shared) = Spelling::from_str(alloc, source) else {
+        return Err(EduceError::alloc(alloc));
+    };
     let Ok(text) = chars_of(alloc, source) else {
         return Err(EduceError::alloc(alloc));
     };
     let bytes = source.len() as u32;
-    let tokens = token_pieces(alloc, &text, bytes)?;
+    let tokens = token_pieces(alloc, &shared, &text)?;
     check_brackets(alloc, &tokens, bytes)?;
     Ok(tokens)
 }
@@ -165,7 +160,7 @@ fn checked_tokens(alloc: Global, source: &str) -> Result<TokenStream, EduceError
 ///   where 128 are open (`TooDeep`, at that bracket), whichever comes first;
 /// - brackets are open at the end (`Syntax`, empty at the end of the text).
 ///
-/// Want of memory (`Alloc`) has no place.
+/// Out of memory (`Alloc`) has no place.
 pub fn lex(alloc: Global, source: &str) -> Result<TokenStream, EduceError>
     requires { length source.now ≤ SOURCE_LIMIT }
     ensures lexes { IfOk result (λ tokens. Lexes (chars source.now) tokens) }
@@ -176,6 +171,11 @@ pub fn lex(alloc: Global, source: &str) -> Result<TokenStream, EduceError>
     // Each span cuts the token's spelling out of the source.
     ensures slices { IfOk result (λ tokens. AllByRecursion (IsSlice source.now) tokens) }
     ensures err { IfErr result (λ e. IsLexicalCause (chars source.now) e) }
+    // The words are those that the message needs, and the place begins at a character or at the end.
+    ensures words { IfErr result (λ e. HasWords e.kind e.words) }
+    ensures place { IfErr result (λ e. IsCharBoundary source.now e.span.start) }
+    // Nothing in a text that is answered is a cause of a refusal.
+    ensures uncaused { IfOk result (λ _. (e : EduceError) → IsLexicalCause (chars source.now) e → e.kind ≡ Kind.Alloc) }
     // Where the text has such tokens they are answered, unless memory fails: there is no other
     // reading, and no other refusal.
     ensures only { (tokens : List Token) → Lexes (chars source.now) tokens →

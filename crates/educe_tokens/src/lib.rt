@@ -3,9 +3,11 @@
 
 mod boxed;
 mod brackets;
+mod citing;
 mod copied;
 mod error;
 mod growing;
+mod laws;
 mod lexer;
 mod printer;
 mod seq;
@@ -20,10 +22,12 @@ mod word;
 mod written;
 
 pub use boxed::Boxed;
+pub use brackets::NESTING;
 pub use copied::copying_laws;
 pub use educe_pieces::{Bracket, LiteralKind, TokenKind};
 pub use error::{EduceError, Kind, Texts};
 pub use growing::{append_written, push_word};
+pub use laws::{kind_laws, lexing_laws, limits, printing_laws};
 pub use lexer::lex;
 pub use printer::{have_no_doc, text};
 pub use seq::Seq;

@@ -1,5 +1,6 @@
 //! Lists that contracts see as lists.
 ghost use Rattle.std.specs.Prelude.{◌≡◌, ◌<◌, ◌≤◌, [], ◌∷◌, ◌++◌, length, slice_index_or, OnOk, OnErr, IfSome, IfNone};
+ghost use Rattle.educe_tokens.specs.Prefix.{HasPrefix};
 
 use std::alloc::{AllocError, Global};
 use std::marker::Model;
@@ -77,11 +78,12 @@ impl<T> Seq<T> {
         self.items
     }
 
-    /// Adds the items of another list at the end.
+    /// Adds the items of another list at the end. Where memory fails, some may be there.
     pub fn append(&mut self, other: Seq<T>) -> Result<(), AllocError>
     where
         T: Drop,
-        ensures { OnOk result (self.new ≡ self.old ++ other) }
+        ensures ok { OnOk result (self.new ≡ self.old ++ other) }
+        ensures prefix { HasPrefix self.old self.new }
     {
         for item in other.items {
             self.items.push(item)?;

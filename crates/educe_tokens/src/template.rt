@@ -1,9 +1,11 @@
 //! Printing from templates.
-ghost use Rattle.std.specs.Prelude.{◌≡◌, IsTrue, OnOk};
+ghost use Rattle.std.specs.Prelude.{◌≡◌, IsTrue, OnOk, [], ◌∷◌, chars};
+ghost use Rattle.educe_pieces.specs.Pieces.{spells};
 ghost use Rattle.educe_tokens.specs.Appends.{Appends, AppendsNowhere, HasPrefix};
 ghost use Rattle.educe_tokens.specs.Quote.{is_name_start, mark_kind, word_lexemes, is_template_word, quoted, is_template};
 
 use crate::growing::push_spelled;
+use crate::spelling::Spelling;
 use crate::token::TokenStream;
 use educe_pieces::{Bracket, TokenKind};
 use std::alloc::{AllocError, Global};
@@ -29,18 +31,31 @@ fn quote_word(alloc: Global, tokens: &mut TokenStream, word: &str) -> Result<(),
     ensures prefix { HasPrefix tokens.old tokens.new }
 {
     match word.as_bytes() {
-        [first, ..] if is_name_start(*first) => {
-            push_spelled(alloc, tokens, TokenKind::Ident, word)
-        }
-        [only] => push_spelled(alloc, tokens, mark_kind(*only), word),
+        [first, ..] if is_name_start(*first) => { push_text(alloc, tokens, TokenKind::Ident, word) }
+        [only] => push_text(alloc, tokens, mark_kind(*only), word),
         [first, second] => {
             let front = TokenKind::Punct(*first as char, true);
-            push_spelled(alloc, tokens, front, &word[..1])?;
+            push_text(alloc, tokens, front, &word[..1])?;
             let back = TokenKind::Punct(*second as char, false);
-            push_spelled(alloc, tokens, back, &word[1..])
+            push_text(alloc, tokens, back, &word[1..])
         }
         _ => Ok(()),
     }
+}
+
+/// Appends the token of this kind that the text spells.
+fn push_text(
+    alloc: Global,
+    tokens: &mut TokenStream,
+    kind: TokenKind,
+    text: &str,
+) -> Result<(), AllocError>
+    requires { IsTrue (spells kind (chars text.now)) }
+    ensures ok { OnOk result (Appends (record { kind = kind; spelling = chars text.now } ∷ []) tokens.old tokens.new) }
+    ensures nowhere { OnOk result (AppendsNowhere tokens.old tokens.new) }
+    ensures prefix { HasPrefix tokens.old tokens.new }
+{
+    push_spelled(tokens, kind, Spelling::from_str(alloc, text)?)
 }
 
 /// Whether a word that begins with this byte is an identifier.

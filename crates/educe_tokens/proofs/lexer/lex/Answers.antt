@@ -1,9 +1,9 @@
-use Rattle.std.proofs.lemmas.Result.{IfOk-weaker}
+use Rattle.std.proofs.lemmas.Result.{IfErr-weaker, IfOk-weaker}
 use Rattle.educe_tokens.specs.Lexes.{lexemes}
 use Rattle.educe_tokens.proofs.Few.{lexes_few_bytes}
 use Rattle.educe_tokens.proofs.Joined.{lexes_joins}
-use Rattle.educe_tokens.proofs.Places.{answer_sliced}
-use Rattle.educe_tokens.proofs.Uncaused.{gives_one, gives_aside, refuses_deep}
+use Rattle.educe_tokens.proofs.Places.{answer_sliced, cause_placed, cause_words}
+use Rattle.educe_tokens.proofs.Uncaused.{no_cause, gives_one, gives_aside, refuses_deep}
 use Rattle.educe_tokens.proofs.Unique.{lexes_aside}
 use Rattle.educe_tokens.proofs.lexer.lex.Goals as goal
 
@@ -24,3 +24,12 @@ returns-clause-back c = gives_aside _ c.checked_tokens.result c.checked_tokens.e
 
 pub returns-clause-deep : goal.returns-clause-deep
 returns-clause-deep c = refuses_deep _ c.checked_tokens.result c.checked_tokens.ensures.ok c.checked_tokens.ensures.err
+
+pub returns-clause-words : goal.returns-clause-words
+returns-clause-words c = IfErr-weaker c.checked_tokens.result _ _ (λ e cause. cause_words _ e cause) c.checked_tokens.ensures.err
+
+pub returns-clause-place : goal.returns-clause-place
+returns-clause-place c = IfErr-weaker c.checked_tokens.result _ _ (λ e cause. cause_placed c.args.source.now e c.utf8.source cause) c.checked_tokens.ensures.err
+
+pub returns-clause-uncaused : goal.returns-clause-uncaused
+returns-clause-uncaused c = IfOk-weaker c.checked_tokens.result _ _ (λ tokens reading. no_cause _ tokens reading.lexes reading.balanced reading.shallow) c.checked_tokens.ensures.ok

@@ -7,8 +7,7 @@ pub returns : goal.returns
 returns c =
     let own = c.as_str.result.now in
     let text = c.args.text.now in
-    let view = ap chars c.as_str.ensures.value ∙ c.self.view_is in
     let decides = bytes_eq-Decides own text in (
-      (λ same. sym view ∙ ap chars (decides.0 (sym c.eq.ensures ∙ same))),
-      (λ same. c.eq.ensures ∙ decides.1 (sym (encodes-chars own c.as_str.utf8) ∙ ap encode_utf8_all (view ∙ same) ∙ encodes-chars text c.utf8.text)),
+      (λ same. sym c.as_str.ensures.chars ∙ ap chars (decides.0 (sym c.eq.ensures ∙ same))),
+      (λ same. c.eq.ensures ∙ decides.1 (c.as_str.ensures.bytes ∙ ap encode_utf8_all same ∙ encodes-chars text c.utf8.text)),
     )

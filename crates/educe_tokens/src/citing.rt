@@ -1,0 +1,22 @@
+//! Refusals that cite a spelling.
+ghost use Rattle.educe_tokens.specs.Refusals.{Cites};
+
+use crate::error::{EduceError, Kind};
+use crate::span::Span;
+use crate::spelling::Spelling;
+use std::alloc::Global;
+
+impl EduceError {
+    /// A refusal whose one word is a spelling. Where memory for it fails, the refusal is that.
+    pub fn citing(alloc: Global, kind: Kind, span: Span, spelling: &Spelling) -> EduceError
+        ensures { Cites kind span spelling.now result }
+    {
+        let Ok(word) = spelling.duplicate(alloc) else {
+            return EduceError::alloc(alloc);
+        };
+        match EduceError::with_word(alloc, kind, span, word) {
+            Ok(error) => error,
+            Err(_) => EduceError::alloc(alloc),
+        }
+    }
+}
