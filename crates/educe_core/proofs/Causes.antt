@@ -138,7 +138,9 @@ pub one_defined : (source : List ℕ) (d other : DeriveInput) → Defines (chars
 one_defined source d other defines also = lawful_definition.one_reading d.tokens d other defines.whole (whole_of source d.tokens other defines.tokens_are also)
 
 -- what the parser reads is the definition
-pub parsed_defines : (source : List ℕ) (tokens : List Token) (r : Result DeriveInput EduceError) → IsReading (chars source) tokens → IfOk r (IsWhole definition tokens) → IfOk r AreNamesApart → IfOk r (Defines (chars source))
+pub parsed_defines :
+    (source : List ℕ) (tokens : List Token) (r : Result DeriveInput EduceError) → IsReading (chars source) tokens → IfOk r (IsWhole definition tokens)
+    → IfOk r AreNamesApart → IfOk r (Defines (chars source))
 parsed_defines source tokens (Ok found) are whole apart = defined_by source tokens found are whole apart
 parsed_defines source tokens (Err e) are whole apart = tt
 

@@ -57,6 +57,8 @@ get_mapped f (x ∷ xs) zero d e less = refl
 get_mapped f (x ∷ xs) (suc i) d e less = get_mapped f xs i d e (omega arith)
 
 -- the settings at the place of a field are its own
-pub own_settings : (fields : List Field) (all : List (List Setting)) (i : ℕ) (s : List Setting) (f : Field) → all ≡ map settings_of fields → i < length fields → s ≡ get_or all i s → f ≡ get_or fields i f → s ≡ settings_of f
+pub own_settings :
+    (fields : List Field) (all : List (List Setting)) (i : ℕ) (s : List Setting) (f : Field) → all ≡ map settings_of fields → i < length fields
+    → s ≡ get_or all i s → f ≡ get_or fields i f → s ≡ settings_of f
 own_settings fields all i s f are less here item =
     here ∙ ap (λ (xs : List (List Setting)). get_or xs i s) are ∙ get_mapped settings_of fields i s f less ∙ ap settings_of (sym item)

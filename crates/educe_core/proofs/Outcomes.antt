@@ -49,7 +49,9 @@ Usage-from_words words source sink notes WriteFault a wrong = inr tt
 Usage-from_words words source sink notes NoMemory a wrong = inr tt
 
 -- an input past the limit answers TooLong
-pub TooLong-from_length : (words : List (List ℕ)) (source sink notes : Change) (status : Status) → Answers words source sink notes status → words ≡ expand_words → IfSome source.before (λ input. 131_072 < length input → IsUnlessStopped TooLong status)
+pub TooLong-from_length :
+    (words : List (List ℕ)) (source sink notes : Change) (status : Status) → Answers words source sink notes status → words ≡ expand_words
+    → IfSome source.before (λ input. 131_072 < length input → IsUnlessStopped TooLong status)
 TooLong-from_length words source sink notes Done a right = whole-is source a.stands.input a.stands.whole (λ x is long. absurd (omega (arith, ap length is, a.stands.whole.limit)))
 TooLong-from_length words source sink notes (Refused error) a right = whole-is source a.stands.1.input a.stands.1.whole (λ x is long. absurd (omega (arith, ap length is, a.stands.1.whole.limit)))
 TooLong-from_length words source sink notes Usage a right = absurd (a.stands.0 right)
@@ -60,7 +62,9 @@ TooLong-from_length words source sink notes WriteFault a right = told-any source
 TooLong-from_length words source sink notes NoMemory a right = told-any source.before (λ x long. inr tt)
 
 -- an input that is not UTF-8 answers NotUtf8
-pub NotUtf8-from_bytes : (words : List (List ℕ)) (source sink notes : Change) (status : Status) → Answers words source sink notes status → words ≡ expand_words → IfSome source.before (λ input. length input ≤ 131_072 → (IsUtf8 input → ⊥) → IsUnlessStopped NotUtf8 status)
+pub NotUtf8-from_bytes :
+    (words : List (List ℕ)) (source sink notes : Change) (status : Status) → Answers words source sink notes status → words ≡ expand_words
+    → IfSome source.before (λ input. length input ≤ 131_072 → (IsUtf8 input → ⊥) → IsUnlessStopped NotUtf8 status)
 NotUtf8-from_bytes words source sink notes Done a right = whole-is source a.stands.input a.stands.whole (λ x is short not. absurd (not (subst IsUtf8 (sym is) a.stands.utf8)))
 NotUtf8-from_bytes words source sink notes (Refused error) a right = whole-is source a.stands.1.input a.stands.1.whole (λ x is short not. absurd (not (subst IsUtf8 (sym is) a.stands.1.utf8)))
 NotUtf8-from_bytes words source sink notes Usage a right = absurd (a.stands.0 right)
@@ -71,7 +75,9 @@ NotUtf8-from_bytes words source sink notes WriteFault a right = told-any source.
 NotUtf8-from_bytes words source sink notes NoMemory a right = told-any source.before (λ x short not. inr tt)
 
 -- valid input answers Done
-pub Done-from_valid : (words : List (List ℕ)) (source sink notes : Change) (status : Status) → Answers words source sink notes status → words ≡ expand_words → IfSome source.before (λ input. length input ≤ 131_072 → IsUtf8 input → IsValid input → IsUnlessStopped Done status)
+pub Done-from_valid :
+    (words : List (List ℕ)) (source sink notes : Change) (status : Status) → Answers words source sink notes status → words ≡ expand_words
+    → IfSome source.before (λ input. length input ≤ 131_072 → IsUtf8 input → IsValid input → IsUnlessStopped Done status)
 Done-from_valid words source sink notes Done a right = told-any source.before (λ x short utf8 valid. inl refl)
 Done-from_valid words source sink notes (Refused error) a right = whole-is source a.stands.1.input a.stands.1.whole (λ x is short utf8 valid. absurd (a.stands.1.invalid (subst IsValid is valid)))
 Done-from_valid words source sink notes Usage a right = absurd (a.stands.0 right)
@@ -82,7 +88,9 @@ Done-from_valid words source sink notes WriteFault a right = told-any source.bef
 Done-from_valid words source sink notes NoMemory a right = told-any source.before (λ x short utf8 valid. inr tt)
 
 -- input in which a cause stands never answers Done
-pub Done-without_cause : (words : List (List ℕ)) (source sink notes : Change) (status : Status) → Answers words source sink notes status → IfSome source.before (λ input. (e : EduceError) → e.kind ≢ Alloc → IsCause input e → status ≢ Done)
+pub Done-without_cause :
+    (words : List (List ℕ)) (source sink notes : Change) (status : Status) → Answers words source sink notes status
+    → IfSome source.before (λ input. (e : EduceError) → e.kind ≢ Alloc → IsCause input e → status ≢ Done)
 Done-without_cause words source sink notes Done a = whole-is source a.stands.input a.stands.whole (λ x is e kind cause done. a.stands.uncaused e kind (subst (λ y. IsCause y e) is cause))
 Done-without_cause words source sink notes (Refused error) a = told-any source.before (λ x e kind cause done. cc)
 Done-without_cause words source sink notes Usage a = told-any source.before (λ x e kind cause done. cc)

@@ -18,7 +18,9 @@ Answers-text source sink notes text status stands (fault fails) kept = inl (reco
 Answers-text source sink notes text status stands (short runs) kept = inr (inl (record { command = refl; text = text; stands = stands; gained = runs; kept = kept }))
 
 -- a line that goes to the notes
-pub Answers-line : (words : List (List ℕ)) (source sink notes : Change) (answer : Status) (line : List ℕ) (status : Status) → IsLine words source answer line → Delivers notes line answer status → IsUnchanged sink → Answers words source sink notes status
+pub Answers-line :
+    (words : List (List ℕ)) (source sink notes : Change) (answer : Status) (line : List ℕ) (status : Status) → IsLine words source answer line
+    → Delivers notes line answer status → IsUnchanged sink → Answers words source sink notes status
 Answers-line words source sink notes Usage line status stands (whole gains) kept = record { line = line; stands = stands; gained = gains; kept = kept }
 Answers-line words source sink notes (Refused error) line status stands (whole gains) kept = record { line = line; stands = stands; gained = gains; kept = kept }
 Answers-line words source sink notes TooLong line status stands (whole gains) kept = record { line = line; stands = stands; gained = gains; kept = kept }
@@ -31,7 +33,9 @@ Answers-line words source sink notes answer line status stands (fault fails) kep
 Answers-line words source sink notes answer line status stands (short runs) kept = inr (inr (answer, record { line = line; stands = stands; gained = runs; kept = kept }))
 
 -- a refusal of the whole input
-pub Answers-refusal : (source sink notes : Change) (input : List ℕ) (error : EduceError) (status : Status) → ReadsAll source input → IsUtf8 input → IsCause input error → (IsValid input → error.kind ≡ Alloc) → Refuses notes input error status → IsUnchanged sink → Answers expand_words source sink notes status
+pub Answers-refusal :
+    (source sink notes : Change) (input : List ℕ) (error : EduceError) (status : Status) → ReadsAll source input → IsUtf8 input → IsCause input error
+    → (IsValid input → error.kind ≡ Alloc) → Refuses notes input error status → IsUnchanged sink → Answers expand_words source sink notes status
 Answers-refusal source sink notes input error status reads utf8 cause valid (inl (kind, delivers)) kept =
     Answers-line expand_words source sink notes (Refused error) (refusal_line input error) status
     (refl, record { input = input; whole = reads; utf8 = utf8; kind = kind; cause = cause; alone = λ other differs stands. alone input error cause other kind differs stands; invalid = λ v. kind (valid v); is = refl }) delivers kept

@@ -1,4 +1,4 @@
-use Rattle.std.proofs.Common.{◌≡◌, ℕ, List, true, map, string_bytes, refl, sym, subst, inl, inr, ap, ◌∙◌}
+use Rattle.std.proofs.Common.{◌≡◌, ◌≢◌, ℕ, List, true, map, string_bytes, refl, sym, subst, inl, inr, ap, ◌∙◌}
 use Rattle.educe_devices.specs.declared.status.Status.TheVariants.{Usage}
 use Rattle.educe_devices.specs.Devices.{Change, change}
 use Rattle.educe_core.specs.Run.{Answers, expand_words, usage_line}
@@ -8,11 +8,14 @@ use Rattle.educe_core.proofs.program.run.Goals as goal
 
 pub returns-then-not-is_expand : goal.returns-then-not-is_expand
 returns-then-not-is_expand g c =
+    let was = c.args in
     let words : List (List ℕ) = map string_bytes c.args.words.now.items in
-    let source : Change = (change (g.S.Source.left c.args.source.now) (g.S.Source.left c.args.source.now) (g.S.Source.faults c.args.source.now) (g.S.Source.faults c.args.source.now) (g.S.Source.may_fail c.args.source.now)) in
-    let sink : Change = (change (g.K.Sink.held c.args.sink.now) (g.K.Sink.held c.args.sink.now) (g.K.Sink.faults c.args.sink.now) (g.K.Sink.faults c.args.sink.now) (g.K.Sink.may_fail c.args.sink.now)) in
-    let notes : Change = (change (g.E.Sink.held c.args.notes.now) (g.E.Sink.held c.deliver.new.sink) (g.E.Sink.faults c.args.notes.now) (g.E.Sink.faults c.deliver.new.sink) (g.E.Sink.may_fail c.args.notes.now)) in
-    let answer : Answers words source sink notes c.deliver.result = Answers-line words source sink notes Usage usage_line c.deliver.result (λ right. let found : c.is_expand.result ≡ true = c.is_expand.ensures.1 (ap (map string_bytes) c.deref.ensures.value ∙ right) in cc, record { bytes = refl; faults = refl }, refl) c.deliver.ensures (record { bytes = refl; faults = refl }) in
+    let source : Change = change (g.S.Source.left was.source.now) (g.S.Source.left was.source.now) (g.S.Source.faults was.source.now) (g.S.Source.faults was.source.now) (g.S.Source.may_fail was.source.now) in
+    let sink : Change = change (g.K.Sink.held was.sink.now) (g.K.Sink.held was.sink.now) (g.K.Sink.faults was.sink.now) (g.K.Sink.faults was.sink.now) (g.K.Sink.may_fail was.sink.now) in
+    let notes : Change = change (g.E.Sink.held was.notes.now) (g.E.Sink.held c.deliver.new.sink) (g.E.Sink.faults was.notes.now) (g.E.Sink.faults c.deliver.new.sink) (g.E.Sink.may_fail was.notes.now) in
+    let wrong : words ≢ expand_words = λ right. let found : c.is_expand.result ≡ true = c.is_expand.ensures.1 (ap (map string_bytes) c.deref.ensures.value ∙ right) in cc in
+    let answer : Answers words source sink notes c.deliver.result =
+    Answers-line words source sink notes Usage usage_line c.deliver.result (wrong, record { bytes = refl; faults = refl }, refl) c.deliver.ensures (record { bytes = refl; faults = refl }) in
     record {
       answer = answer;
       usage = Usage-from_words words source sink notes c.deliver.result answer;
@@ -30,11 +33,15 @@ returns-then-not-is_expand g c =
 
 pub returns : goal.returns
 returns g c =
+    let was = c.args in
+    let now = c.run_expand.new in
     let words : List (List ℕ) = map string_bytes c.args.words.now.items in
-    let source : Change = (change (g.S.Source.left c.args.source.now) (g.S.Source.left c.run_expand.new.source) (g.S.Source.faults c.args.source.now) (g.S.Source.faults c.run_expand.new.source) (g.S.Source.may_fail c.args.source.now)) in
-    let sink : Change = (change (g.K.Sink.held c.args.sink.now) (g.K.Sink.held c.run_expand.new.sink) (g.K.Sink.faults c.args.sink.now) (g.K.Sink.faults c.run_expand.new.sink) (g.K.Sink.may_fail c.args.sink.now)) in
-    let notes : Change = (change (g.E.Sink.held c.args.notes.now) (g.E.Sink.held c.run_expand.new.notes) (g.E.Sink.faults c.args.notes.now) (g.E.Sink.faults c.run_expand.new.notes) (g.E.Sink.may_fail c.args.notes.now)) in
-    let answer : Answers words source sink notes c.run_expand.result = let right : map string_bytes c.args.words.now.items ≡ expand_words = ap (map string_bytes) (sym c.deref.ensures.value) ∙ c.is_expand.ensures.0 c.if-not-is_expand.false in subst (λ spoken. Answers spoken source sink notes c.run_expand.result) (sym right) c.run_expand.ensures.answer in
+    let source : Change = change (g.S.Source.left was.source.now) (g.S.Source.left now.source) (g.S.Source.faults was.source.now) (g.S.Source.faults now.source) (g.S.Source.may_fail was.source.now) in
+    let sink : Change = change (g.K.Sink.held was.sink.now) (g.K.Sink.held now.sink) (g.K.Sink.faults was.sink.now) (g.K.Sink.faults now.sink) (g.K.Sink.may_fail was.sink.now) in
+    let notes : Change = change (g.E.Sink.held was.notes.now) (g.E.Sink.held now.notes) (g.E.Sink.faults was.notes.now) (g.E.Sink.faults now.notes) (g.E.Sink.may_fail was.notes.now) in
+    let right : words ≡ expand_words = ap (map string_bytes) (sym c.deref.ensures.value) ∙ c.is_expand.ensures.0 c.if-not-is_expand.false in
+    let answer : Answers words source sink notes c.run_expand.result =
+    subst (λ spoken. Answers spoken source sink notes c.run_expand.result) (sym right) c.run_expand.ensures.answer in
     record {
       answer = answer;
       usage = Usage-from_words words source sink notes c.run_expand.result answer;
