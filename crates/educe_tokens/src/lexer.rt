@@ -16,43 +16,22 @@ use crate::seq::Seq;
 use crate::span::{SOURCE_LIMIT, Span};
 use crate::spelling::Spelling;
 use crate::token::{Token, TokenStream};
-use educe_pieces::{PieceKind, TokenKind, UncarriedKind};
-use educe_scan::piece_at;
+use educe_pieces::{PieceKind, TokenKind, UncarriedKind, behind_blanks};
+use educe_scan::next_piece;
 use std::alloc::{AllocError, Global};
 
-fn spelling_of(alloc: Global, text: &[char]) -> Result<Spelling, AllocError>
-    ensures { IfOk result (λ spelling. spelling ≡ text.now) }
-{
-    let mut spelling = String::new(alloc);
-    for c in text {
-        spelling.push(*c)?;
-    }
-    Spelling::from_str(alloc, &spelling)
-}
-
-fn byte_len(text: &[char]) -> usize
-    requires { length (encode_utf8_all text.now) < 2 ^ 32 }
-    ensures { result ≡ length (encode_utf8_all text.now) }
-{
-    let mut len = 0;
-    for c in text {
-        len += c.len_utf8();
-    }
-    len
-}
-
-/// Adds the token of this kind that the characters spell.
+/// Adds the token of this kind that the text spells.
 fn push_token(
     alloc: Global,
     tokens: &mut TokenStream,
     kind: TokenKind,
-    front: &[char],
+    front: &str,
     span: Span,
 ) -> Result<(), AllocError>
-    requires { IsTrue (is_piece (PieceKind.Token kind) front.now) }
-    ensures { OnOk result (Adds (PieceKind.Token kind) front.now span tokens.old tokens.new) }
+    requires { IsTrue (is_piece (PieceKind.Token kind) (chars front.now)) }
+    ensures { OnOk result (Adds (PieceKind.Token kind) (chars front.now) span tokens.old tokens.new) }
 {
-    let spelling = spelling_of(alloc, front)?;
+    let spelling = Spelling::from_str(alloc, front)?;
     tokens.push(Token {
         kind,
         span,
@@ -60,11 +39,11 @@ fn push_token(
     })
 }
 
-/// The refusal of a literal that is not carried, or that for want of memory.
-fn not_carried(alloc: Global, kind: UncarriedKind, literal: &[char], span: Span) -> EduceError
-    ensures { IsCauseOfPiece literal.now span (PieceKind.Uncarried kind) result }
+/// The refusal of an unsupported literal, or that for out of memory.
+fn not_carried(alloc: Global, kind: UncarriedKind, literal: &str, span: Span) -> EduceError
+    ensures { IsCauseOfPiece (chars literal.now) span (PieceKind.Uncarried kind) result }
 {
-    let Ok(word) = spelling_of(alloc, literal) else {
+    let Ok(word) = Spelling::from_str(alloc, literal) else {
         return EduceError::alloc(alloc);
     };
     match EduceError::with_word(alloc, Kind::NotCarried, span, word) {
@@ -78,12 +57,12 @@ fn push_piece(
     alloc: Global,
     tokens: &mut TokenStream,
     kind: PieceKind,
-    front: &[char],
+    front: &str,
     span: Span,
 ) -> Result<(), EduceError>
-    requires { IsTrue (is_piece kind front.now) }
-    ensures ok { OnOk result (Adds kind front.now span tokens.old tokens.new) }
-    ensures err { IfErr result (λ e. IsCauseOfPiece front.now span kind e) }
+    requires { IsTrue (is_piece kind (chars front.now)) }
+    ensures ok { OnOk result (Adds kind (chars front.now) span tokens.old tokens.new) }
+    ensures err { IfErr result (λ e. IsCauseOfPiece (chars front.now) span kind e) }
 {
     match kind {
         PieceKind::Blank => Ok(()),
@@ -109,35 +88,30 @@ fn last_place(tokens: &[Token], end: u32) -> Span
     }
 }
 
-/// The tokens among the pieces of a text of so many bytes. It is refused where no piece fits, at the
-/// last token before, or at a literal that is not carried, whichever comes first.
-fn token_pieces(alloc: Global, text: &[char], bytes: u32) -> Result<TokenStream, EduceError>
-    requires bytes { length (encode_utf8_all text.now) ≡ bytes }
-    requires limit { bytes ≤ SOURCE_LIMIT }
-    ensures lexes { IfOk result (λ tokens. Lexes text.now tokens) }
-    ensures err { IfErr result (λ e. IsLexicalCause text.now e) }
+/// The tokens among the pieces of a text. It is refused where no piece fits, at the last token
+/// before, or at an unsupported literal, whichever comes first. Blanks are skipped in one step.
+fn token_pieces(alloc: Global, source: &str) -> Result<TokenStream, EduceError>
+    requires { length source.now ≤ SOURCE_LIMIT }
+    ensures lexes { IfOk result (λ tokens. Lexes (chars source.now) tokens) }
+    ensures err { IfErr result (λ e. IsLexicalCause (chars source.now) e) }
 {
     let mut tokens = Seq::new(alloc);
-    let mut rest = text;
-    let mut start: u32 = 0;
+    let mut rest = behind_blanks(source);
     while !rest.is_empty() {
-        let Some((kind, len)) = piece_at(rest) else {
-            let place = last_place(tokens.as_slice(), bytes);
+        let Ok(found) = next_piece(alloc, rest) else {
+            return Err(EduceError::alloc(alloc));
+        };
+        let Some((kind, len)) = found else {
+            let place = last_place(tokens.as_slice(), source.len() as u32);
             return Err(EduceError::new(alloc, Kind::Syntax, place));
         };
+        let start = (source.len() - rest.len()) as u32;
+        let end = start + len as u32;
         let (front, more) = rest.split_at(len);
-        let end = start + byte_len(front) as u32;
         push_piece(alloc, &mut tokens, kind, front, Span { start, end })?;
-        rest = more;
-        start = end;
+        rest = behind_blanks(more);
     }
     Ok(tokens)
-}
-
-fn chars_of(alloc: Global, source: &str) -> Result<Vec<char>, AllocError>
-    ensures { IfOk result (λ text. text.items ≡ chars source.now) }
-{
-    source.chars().collect(alloc)
 }
 
 /// The tokens of a text whose brackets close in order, not too deep.
@@ -146,12 +120,8 @@ fn checked_tokens(alloc: Global, source: &str) -> Result<TokenStream, EduceError
     ensures ok { IfOk result (λ tokens. IsReading (chars source.now) tokens) }
     ensures err { IfErr result (λ e. IsLexicalCause (chars source.now) e) }
 {
-    let Ok(text) = chars_of(alloc, source) else {
-        return Err(EduceError::alloc(alloc));
-    };
-    let bytes = source.len() as u32;
-    let tokens = token_pieces(alloc, &text, bytes)?;
-    check_brackets(alloc, &tokens, bytes)?;
+    let tokens = token_pieces(alloc, source)?;
+    check_brackets(alloc, &tokens, source.len() as u32)?;
     Ok(tokens)
 }
 
