@@ -23,3 +23,5 @@ pub mod BlockLaws
 pub mod NumberCuts
 pub mod FloatSpells
 pub mod IntegerSpells
+pub mod InPlace
+pub mod RawInPlace

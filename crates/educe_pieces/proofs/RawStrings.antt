@@ -27,7 +27,7 @@ mark_count-quote zero ys = refl
 mark_count-quote (suc n) ys = let more = mark_count-quote n ys in omega arith
 
 -- at least so many `#` stand in front of any text
-mark_count-marks : (n : ℕ) (ys : List ℕ) → n ≤ mark_count (marks_of n ++ ys)
+pub mark_count-marks : (n : ℕ) (ys : List ℕ) → n ≤ mark_count (marks_of n ++ ys)
 mark_count-marks zero ys = omega arith
 mark_count-marks (suc n) ys = let more = mark_count-marks n ys in omega arith
 
@@ -66,7 +66,7 @@ raw_split s h =
     (mark_count s, drop (mark_count s + 1) s, leb-true _ _ q.0, marks_split s q.1, p.1)
 
 -- some `#`, `"`, and a text that closes behind it are a raw text
-raw_joined : (n : ℕ) (ys : List ℕ) → n ≤ 255 → closes_raw n ys ≡ true → is_raw (marks_of n ++ 34 ∷ ys) ≡ true
+pub raw_joined : (n : ℕ) (ys : List ℕ) → n ≤ 255 → closes_raw n ys ≡ true → is_raw (marks_of n ++ 34 ∷ ys) ≡ true
 raw_joined n ys few h =
     let count = mark_count-quote n ys in
     let few = le-leb n 255 few in
@@ -88,7 +88,7 @@ mark_no_quote : (c : ℕ) → (c == 35) ≡ true → (c == 34) ≡ false
 mark_no_quote c h = grind (arith, nat_tests)
 
 -- as many `#` stand in front, whatever follows
-marks_stay : (n : ℕ) (s r : List ℕ) → n ≤ mark_count s → n ≤ mark_count (s ++ r)
+pub marks_stay : (n : ℕ) (s r : List ℕ) → n ≤ mark_count s → n ≤ mark_count (s ++ r)
 marks_stay n [] r h = omega arith
 marks_stay zero (c ∷ s) r h = omega arith
 marks_stay (suc n) (c ∷ s) r h =

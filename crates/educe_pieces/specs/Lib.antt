@@ -1,4 +1,5 @@
 pub mod Chars
+pub mod Fronts
 pub mod Words
 pub mod Integers
 pub mod Floats

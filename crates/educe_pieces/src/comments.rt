@@ -78,7 +78,8 @@ fn opens_block_doc(rest: &[char]) -> bool
     }
 }
 
-fn comment_kind(documents: bool) -> PieceKind
+/// What a comment is that documents what follows it, or doesn't.
+pub fn comment_kind(documents: bool) -> PieceKind
     ensures { result ≡ comment_kind documents }
 {
     if documents {

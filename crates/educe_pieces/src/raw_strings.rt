@@ -1,8 +1,10 @@
 //! Raw strings (Rust Reference, Raw string literals).
-ghost use Rattle.std.specs.Prelude.{◌≡◌, ◌≤◌, ◌==◌, ◌&&◌, true, length, nat_le, chars, IsTrue, IfSome};
-ghost use Rattle.educe_pieces.specs.RawStrings.{mark_count, raw_closing_len, raw_len, is_raw_str, raw_value, IsRawOf};
+ghost use Rattle.std.specs.Prelude.{◌≡◌, ◌≤◌, ◌==◌, ◌&&◌, ◌++◌, true, false, length, replicate, nat_le, chars, IsTrue, IfSome};
+ghost use Rattle.educe_pieces.specs.Fronts.{HasFront};
+ghost use Rattle.educe_pieces.specs.RawStrings.{mark_count, closes_raw, raw_closing_len, raw_len, is_raw, is_raw_str, raw_value, IsRawOf};
 
 use crate::chars::begins_with;
+use crate::in_place::behind_mark;
 
 fn mark_count(text: &[char]) -> usize
     ensures value { result ≡ mark_count text.now }
@@ -44,6 +46,58 @@ pub fn raw_len(text: &[char]) -> Option<usize>
     } else {
         None
     }
+}
+
+/// How many `#` stand at the front of a text, and what follows them.
+fn split_marks(text: &str) -> (usize, &str)
+    ensures { chars text.now ≡ replicate result.0 35 ++ chars result.1.now }
+{
+    let mut count: usize = 0;
+    let mut rest = text;
+    while let Some(more) = behind_mark(rest, '#') {
+        count += 1;
+        rest = more;
+    }
+    (count, rest)
+}
+
+/// What follows so many `#`, where the text begins with them.
+fn behind_marks(marks: usize, text: &str) -> Option<&str>
+    ensures parts { IfSome result (λ rest. chars text.now ≡ replicate marks 35 ++ chars rest.now) }
+    ensures none { result ≡ None → nat_le marks (mark_count (chars text.now)) ≡ false }
+{
+    let mut seen: usize = 0;
+    let mut rest = text;
+    while seen < marks {
+        rest = behind_mark(rest, '#')?;
+        seen += 1;
+    }
+    Some(rest)
+}
+
+/// What follows the raw text behind its opening quote, if it ends.
+fn behind_closing(marks: usize, text: &str) -> Option<&str>
+    ensures { IfSome result (λ rest. HasFront (closes_raw marks) (chars text.now) (chars rest.now)) }
+{
+    let mut rest = text;
+    while let Some((_, more)) = rest.split_once('"') {
+        if let Some(behind) = behind_marks(marks, more) {
+            return Some(behind);
+        }
+        rest = more;
+    }
+    None
+}
+
+/// What follows the raw text at the front, from its first `#` or `"` on, if it ends.
+pub fn behind_raw(text: &str) -> Option<&str>
+    ensures { IfSome result (λ rest. HasFront is_raw (chars text.now) (chars rest.now)) }
+{
+    let (marks, quoted) = split_marks(text);
+    if marks > 255 {
+        return None;
+    }
+    behind_closing(marks, behind_mark(quoted, '"')?)
 }
 
 /// The value of a raw string: the text between its quotes (Rust Reference, Raw string literals).

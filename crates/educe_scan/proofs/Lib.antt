@@ -6,3 +6,4 @@ pub mod Readings
 pub mod Following
 pub mod SpellLaws
 pub mod Wholes
+pub mod InPlace

@@ -1,3 +1,4 @@
 pub mod Joining
 pub mod Reading
 pub mod Scan
+pub mod InPlace

@@ -1,9 +1,13 @@
 //! The scan of Rust texts: the one piece at the front of a text, and whether a text is one piece.
 #![tactic(auto)]
 
+mod in_place;
+mod next;
 mod preceding;
 mod scan;
 mod spelling;
+mod windows;
 
+pub use next::next_piece;
 pub use scan::piece_at;
 pub use spelling::is_piece;

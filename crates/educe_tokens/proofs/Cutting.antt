@@ -6,6 +6,8 @@ use Rattle.std.specs.String.{string_bytes}
 use Rattle.std.specs.declared.rc.Rc.{Rc}
 use Rattle.std.proofs.lemmas.List.{take-take, length-take-le, length-drop}
 use Rattle.std.proofs.lemmas.Str.{IsCharBoundary-start, IsCharBoundary-end, IsCharBoundary-from_rest, IsCharBoundary-from_take, IsUtf8-between, IsUtf8-string_bytes, IsUtf8-drop, IsUtf8-take, chars_from_encodes, encodes-chars}
+use Rattle.educe_pieces.specs.declared.kind.PieceKind.{PieceKind}
+use Rattle.educe_scan.specs.InPlace.{IsFront}
 use Rattle.educe_tokens.specs.declared.span.Span.{Span}
 use Rattle.educe_tokens.specs.declared.token.Token.{Token}
 use Rattle.educe_tokens.specs.declared.spelling.Text.{Text}
@@ -13,7 +15,7 @@ use Rattle.educe_tokens.specs.declared.spelling.Text.TheVariants.{Short, Part}
 use Rattle.educe_tokens.specs.Kept.{bytes_of, characters_of, IsCut}
 use Rattle.educe_tokens.specs.Slices.{IsCutOut, IsPlace, cut_out}
 use Rattle.educe_tokens.proofs.Parts.{range-range}
-use Rattle.educe_tokens.proofs.Lexed.{Before}
+use Rattle.educe_tokens.proofs.Lexed.{Before, ends_there}
 use Rattle.educe_tokens.proofs.Places.{LiesAt, front_of, span_cut}
 
 -- what parts are of
@@ -130,3 +132,15 @@ module _ (source text rest : List ℕ) (tokens : List Token) (start n : ℕ) (sp
   next_cut =
       let utf8_front = subst IsUtf8 cut.cut (part_utf8 source span.start span.end utf8 cut.ordered cut.starts cut.ends) in
       ap (λ bs. chars (slice_range bs span.start span.end)) (sym whole) ∙ ap chars cut.cut ∙ sym (chars_from_encodes (take n rest) (encode_utf8_all (take n rest)) utf8_front refl)
+
+-- the same of a piece at the front of what is left of a source, in a text of the same characters
+module _ (source text rest : List ℕ) (tokens : List Token) (kind : PieceKind) (m : ℕ) (span : Span) (utf8 : IsUtf8 source) (more : IsUtf8 rest) (same : text ≡ chars source)
+    (b : Before (chars source) (chars rest) tokens (length source - length rest)) (f : IsFront rest (kind, m)) (starts : span.start ≡ length source - length rest) (ends : span.end ≡ length source - length rest + m) where
+  there : span.end ≡ length source - length rest + length (encode_utf8_all (take f.count (chars rest)))
+  there = ends_there source rest tokens kind m span more b f starts ends
+
+  pub front_place : IsPlace text span
+  front_place = subst (λ t. IsPlace t span) (sym same) (next_place source (chars source) (chars rest) tokens (length source - length rest) f.count span utf8 refl b starts there)
+
+  pub front_cut : cut_out text span ≡ chars (take m rest)
+  front_cut = ap (λ t. cut_out t span) same ∙ next_cut source (chars source) (chars rest) tokens (length source - length rest) f.count span utf8 refl b starts there ∙ sym f.front

@@ -1,6 +1,14 @@
 -- The tokens so far are those of the front of the text.
-use Rattle.std.proofs.Common.{◌≡◌, ◌≢◌, ℕ, ◌+◌, ◌-◌, ◌<◌, ◌≤◌, Bool, true, false, cond, IsTrue, Some, None, List, [], ◌∷◌, ◌++◌, length, take, drop, get_or, map, filter, refl, sym, ap, ◌∙◌, subst, arith, append-nil, take-append-drop, encode_utf8_all, inl, inr}
+use Rattle.std.proofs.Common.{◌≡◌, ◌≢◌, ℕ, ◌+◌, ◌-◌, ◌<◌, ◌≤◌, Bool, true, false, cond, IsTrue, Some, None, List, [], ◌∷◌, ◌++◌, length, take, drop, get_or, map, filter, refl, sym, ap, ◌∙◌, subst, arith, append-nil, take-append-drop, encode_utf8_all, chars, inl, inr}
 use Rattle.std.proofs.lemmas.Bool.{and_parts, and_from}
+use Rattle.std.specs.List.{list_all}
+use Rattle.std.specs.Str.{IsUtf8}
+use Rattle.std.proofs.lemmas.List.{length-take-le}
+use Rattle.std.proofs.lemmas.Str.{encodes-chars, length-le-encodes, IsUtf8-take}
+use Rattle.educe_pieces.specs.Pieces.{is_piece}
+use Rattle.educe_scan.specs.InPlace.{IsFront}
+use Rattle.educe_pieces.specs.Chars.{is_blank}
+use Rattle.educe_pieces.specs.Fronts.{HasFront}
 use Rattle.std.proofs.lemmas.List.{map-append}
 use Rattle.std.proofs.lemmas.List.Elements.{filter-append}
 use Rattle.educe_tokens.specs.declared.error.EduceError.{EduceError}
@@ -12,13 +20,13 @@ use Rattle.educe_pieces.specs.declared.kind.PieceKind.{PieceKind}
 use Rattle.educe_pieces.specs.declared.kind.PieceKind.TheVariants.{Blank, Comment, Token as TokenPiece, Uncarried}
 use Rattle.educe_scan.specs.Reading.{Piece, front_piece, Reads}
 use Rattle.educe_scan.specs.Scan.{piece_at}
-use Rattle.educe_scan.proofs.Readings.{IsFound, reads_push, fits_none}
+use Rattle.educe_scan.proofs.Readings.{IsFound, found_is, reads_push, fits_none}
 use Rattle.educe_tokens.specs.Causes.{empty_at, last_of, IsLexicalCause}
 use Rattle.educe_tokens.specs.Lexes.{lexeme_of, lexemes, Lexes, is_token, is_carried, are_carried, piece_of, end_of, span_at, spans}
 use Rattle.educe_tokens.specs.Refusals.{syntax_at, not_carried_at, Cites}
 use Rattle.educe_tokens.specs.Steps.{Adds, IsCauseOfPiece}
 use Rattle.educe_tokens.proofs.Tokens.{span_of}
-use Rattle.educe_tokens.proofs.Bytes.{bytes-append, bytes-take_le}
+use Rattle.educe_tokens.proofs.Bytes.{bytes-append}
 
 -- one more piece ends so many bytes later
 end_of-push : (start : ℕ) (ps : List Piece) (p : Piece) → end_of start (ps ++ p ∷ []) ≡ end_of start ps + length (encode_utf8_all p.spelling)
@@ -99,14 +107,6 @@ adds_places (TokenPiece kind) s span old new start a at =
     ap (λ p. map span_of old ++ p ∷ []) (sym at ∙ sym a.3) ∙ sym (map-append span_of old (a.0 ∷ [])) ∙ sym (ap (map span_of) a.1)
 adds_places (Uncarried kind) s span old new start a at = absurd a
 
--- a front of the rest ends within the text
-pub front_within : (text rest front : List ℕ) (tokens : List Token) (start n : ℕ) → Before text rest tokens start → front ≡ take n rest → start + length (encode_utf8_all front) ≤ length (encode_utf8_all text)
-front_within text rest front tokens start n b e =
-    let whole = start_bytes text rest tokens start b in
-    let part = bytes-take_le rest n in
-    let same = ap (λ t. length (encode_utf8_all t)) e in
-    omega arith
-
 -- a piece that was found at the offset, and its span
 module _ (text rest : List ℕ) (old : List Token) (start : ℕ) (kind : PieceKind) (n : ℕ) (span : Span) (b : Before text rest old start) (found : IsFound rest (Some (kind, n)))
     (starts : span.start ≡ start) (ends : span.end ≡ start + length (encode_utf8_all (take n rest))) where
@@ -147,6 +147,79 @@ pub cited_cause : (literal : List ℕ) (span : Span) (kind : UncarriedKind) (spe
 cited_cause literal span kind spelling e is (inl memory) = subst (IsCauseOfPiece literal span (Uncarried kind)) (sym memory) (IsCauseOfPiece.memory (Uncarried kind))
 cited_cause literal span kind spelling e is (inr cites) =
     subst (IsCauseOfPiece literal span (Uncarried kind)) (sym (cites ∙ ap (not_carried_at span) is)) (IsCauseOfPiece.not_carried kind)
+
+-- blanks add nothing
+blanks_go : (text : List ℕ) (tokens : List Token) (us rest : List ℕ) (start : ℕ) → list_all is_blank us ≡ true → Before text (us ++ rest) tokens start → (end : ℕ) × Before text rest tokens end
+blanks_go text tokens [] rest start h b = (start, b)
+blanks_go text tokens (c ∷ us) rest start h b =
+    let p = and_parts (is_blank c) _ h in
+    let span : Span = record { start = start; end = start + length (encode_utf8_all (c ∷ [])) } in
+    let found : IsFound (c ∷ (us ++ rest)) (Some (Blank, 1)) = (and_from _ _ p.0 refl, omega arith, omega arith) in
+    blanks_go text tokens us rest span.end p.1 (before_push text (c ∷ (us ++ rest)) tokens start Blank 1 span b found refl refl tokens refl)
+
+-- the bytes of a text
+pub bytes_of : (bs : List ℕ) → IsUtf8 bs → length (encode_utf8_all (chars bs)) ≡ length bs
+bytes_of bs u = ap length (encodes-chars bs u)
+
+-- behind blanks in a source, by the bytes that are left
+pub before_rest : (source more rest : List ℕ) (tokens : List Token) (start : ℕ) → IsUtf8 source → IsUtf8 rest → Before (chars source) (chars more) tokens start → HasFront (list_all is_blank) (chars more) (chars rest)
+    → Before (chars source) (chars rest) tokens (length source - length rest) × (length rest ≤ length source)
+before_rest source more rest tokens start u v b f =
+    let on = blanks_go (chars source) tokens f.front (chars rest) start f.passes (subst (λ t. Before (chars source) t tokens start) f.is b) in
+    let all = start_bytes (chars source) (chars rest) tokens on.0 on.1 in
+    let whole = bytes_of source u in
+    let left = bytes_of rest v in
+    (subst (Before (chars source) (chars rest) tokens) (omega (arith, all, whole, left)) on.1, omega (arith, all, whole, left))
+
+-- what follows blanks is no longer
+pub rest_no_longer : (p : ℕ → Bool) (more rest : List ℕ) → IsUtf8 more → IsUtf8 rest → HasFront (list_all p) (chars more) (chars rest) → length rest ≤ length more
+rest_no_longer p more rest u v f =
+    let parts = ap (λ t. length (encode_utf8_all t)) f.is ∙ bytes-append f.front (chars rest) in
+    omega (arith, parts, bytes_of more u, bytes_of rest v)
+
+-- characters have bytes
+some_bytes : (cs : List ℕ) → 0 < length cs → 0 < length (encode_utf8_all cs)
+some_bytes cs h = omega (arith, h, length-le-encodes cs)
+
+-- a text that is not empty has a character
+some_encoded : (cs bs : List ℕ) → encode_utf8_all cs ≡ bs → 0 < length bs → 0 < length cs
+some_encoded [] bs e h = absurd (omega (arith, h, ap length e))
+some_encoded (c ∷ cs) bs e h = omega arith
+
+pub some_chars : (bs : List ℕ) → IsUtf8 bs → 0 < length bs → 0 < length (chars bs)
+some_chars bs u h = some_encoded (chars bs) bs (encodes-chars bs u) h
+
+-- a piece that was found at the front of what is left of a source, and its span
+module _ (source rest : List ℕ) (old : List Token) (kind : PieceKind) (m : ℕ) (span : Span) (u : IsUtf8 rest) (b : Before (chars source) (chars rest) old (length source - length rest)) (f : IsFront rest (kind, m))
+    (starts : span.start ≡ length source - length rest) (ends : span.end ≡ length source - length rest + m) where
+  found : IsFound (chars rest) (Some (kind, f.count))
+  found = found_is (chars rest) (piece_at (chars rest)) kind f.count refl f.is
+
+  -- it has so many bytes
+  long : length (encode_utf8_all (take f.count (chars rest))) ≡ m
+  long = ap (λ cs. length (encode_utf8_all cs)) (sym f.front) ∙ bytes_of (take m rest) (IsUtf8-take rest m u f.boundary) ∙ length-take-le m rest f.boundary.0
+
+  pub ends_there : span.end ≡ length source - length rest + length (encode_utf8_all (take f.count (chars rest)))
+  ends_there = ends ∙ ap (λ k. length source - length rest + k) (sym long)
+
+  -- it is one
+  pub front_is_piece : IsTrue (is_piece kind (chars (take m rest)))
+  front_is_piece = rw f.front (and_parts (is_piece kind (take f.count (chars rest))) _ found.0).0
+
+  -- and not empty
+  pub front_some : 0 < m
+  front_some = omega (arith, long, some_bytes (take f.count (chars rest)) (omega (arith, found.1, length-take-le f.count (chars rest) found.2)))
+
+  -- the next piece, with what it adds
+  pub before_more : (new : List Token) → Adds kind (chars (take m rest)) span old new → Before (chars source) (chars (drop m rest)) new span.end
+  before_more new adds =
+      subst (λ t. Before (chars source) t new span.end) (sym f.back)
+      (before_push (chars source) (chars rest) old (length source - length rest) kind f.count span b found starts ends_there new (subst (λ t. Adds kind t span old new) f.front adds))
+
+  -- or why it adds nothing
+  pub front_cause : (e : EduceError) → IsCauseOfPiece (chars (take m rest)) span kind e → IsLexicalCause (chars source) e
+  front_cause e cause =
+      piece_cause (chars source) (chars rest) old (length source - length rest) kind f.count span b found starts ends_there e (subst (λ t. IsCauseOfPiece t span kind e) f.front cause)
 
 -- a list of length 0 is empty
 nil_from_length : (xs : List ℕ) → length xs ≡ 0 → xs ≡ []

@@ -18,20 +18,9 @@ use crate::seq::Seq;
 use crate::span::{SOURCE_LIMIT, Span};
 use crate::spelling::Spelling;
 use crate::token::{Token, TokenStream};
-use educe_pieces::{PieceKind, TokenKind, UncarriedKind};
-use educe_scan::piece_at;
+use educe_pieces::{PieceKind, TokenKind, UncarriedKind, behind_blanks};
+use educe_scan::next_piece;
 use std::alloc::{AllocError, Global};
-
-fn byte_len(text: &[char]) -> usize
-    requires { length (encode_utf8_all text.now) < 2 ^ 32 }
-    ensures { result ≡ length (encode_utf8_all text.now) }
-{
-    let mut len = 0;
-    for c in text {
-        len += c.len_utf8();
-    }
-    len
-}
 
 /// Adds the token of this kind that lies there.
 fn push_token(
@@ -100,36 +89,36 @@ fn last_place(tokens: &[Token], end: u32) -> Span
     }
 }
 
-/// The tokens among the pieces of a source, each a part of it. It is refused where no piece fits, at
-/// the last token before, or at an unsupported literal, whichever comes first.
-fn token_pieces(alloc: Global, source: &Spelling, text: &[char]) -> Result<TokenStream, EduceError>
-    requires text { text.now ≡ source.now }
-    requires limit { length (encode_utf8_all source.now) ≤ SOURCE_LIMIT }
-    ensures lexes { IfOk result (λ tokens. Lexes source.now tokens) }
-    ensures err { IfErr result (λ e. IsLexicalCause source.now e) }
+/// The tokens among the pieces of a source, each a part of the shared text, which is the same. It is
+/// refused where no piece fits, at the last token before, or at an unsupported literal, whichever
+/// comes first. Blanks are skipped in one step.
+fn token_pieces(
+    alloc: Global,
+    source: &str,
+    shared: &Spelling,
+) -> Result<TokenStream, EduceError>
+    requires limit { length source.now ≤ SOURCE_LIMIT }
+    requires shared { shared.now ≡ chars source.now }
+    ensures lexes { IfOk result (λ tokens. Lexes (chars source.now) tokens) }
+    ensures err { IfErr result (λ e. IsLexicalCause (chars source.now) e) }
 {
-    let bytes = source.as_str().len() as u32;
     let mut tokens = Seq::new(alloc);
-    let mut rest = text;
-    let mut start: u32 = 0;
+    let mut rest = behind_blanks(source);
     while !rest.is_empty() {
-        let Some((kind, len)) = piece_at(rest) else {
-            let place = last_place(tokens.as_slice(), bytes);
+        let Ok(found) = next_piece(alloc, rest) else {
+            return Err(EduceError::alloc(alloc));
+        };
+        let Some((kind, len)) = found else {
+            let place = last_place(tokens.as_slice(), source.len() as u32);
             return Err(EduceError::new(alloc, Kind::Syntax, place));
         };
-        let (front, more) = rest.split_at(len);
-        let end = start + byte_len(front) as u32;
-        push_piece(alloc, &mut tokens, kind, source, Span { start, end })?;
-        rest = more;
-        start = end;
+        let start = (source.len() - rest.len()) as u32;
+        let end = start + len as u32;
+        let (_, more) = rest.split_at(len);
+        push_piece(alloc, &mut tokens, kind, shared, Span { start, end })?;
+        rest = behind_blanks(more);
     }
     Ok(tokens)
-}
-
-fn chars_of(alloc: Global, source: &str) -> Result<Vec<char>, AllocError>
-    ensures { IfOk result (λ text. text.items ≡ chars source.now) }
-{
-    source.chars().collect(alloc)
 }
 
 /// The tokens of a text whose brackets close in order, not too deep.
@@ -141,12 +130,8 @@ fn checked_tokens(alloc: Global, source: &str) -> Result<TokenStream, EduceError
     let Ok(shared) = Spelling::from_str(alloc, source) else {
         return Err(EduceError::alloc(alloc));
     };
-    let Ok(text) = chars_of(alloc, source) else {
-        return Err(EduceError::alloc(alloc));
-    };
-    let bytes = source.len() as u32;
-    let tokens = token_pieces(alloc, &shared, &text)?;
-    check_brackets(alloc, &tokens, bytes)?;
+    let tokens = token_pieces(alloc, source, &shared)?;
+    check_brackets(alloc, &tokens, source.len() as u32)?;
     Ok(tokens)
 }
 

@@ -1,5 +1,0 @@
-use Rattle.std.proofs.Common.{◌≡◌, length, take, encode_utf8_all}
-use Rattle.educe_tokens.proofs.lexer.byte_len.Given as goal
-
-abbrev pub invariant-loop-c : goal.invariant-loop-c
-invariant-loop-c l = l.len ≡ length (encode_utf8_all (take l.c-index l.text))
