@@ -16,6 +16,7 @@ use crate::quotes::{Next, Quote, Within, step};
 use unicode_ident::is_xid_continue;
 
 /// The first character of a text, and what follows it.
+#[inline]
 pub fn first_of(text: &str) -> Option<(char, &str)>
     ensures parts { MatchOption result (chars text.now ≡ []) (λ x. chars text.now ≡ x.0 ∷ chars x.1.now) }
     ensures shorter { IfSome result (λ x. length x.1.now < length text.now) }

@@ -52,6 +52,7 @@ pub enum Next {
 }
 
 impl Quote {
+    #[inline(always)]
     fn closing(self) -> char
         ensures { result ≡ closing self }
     {
@@ -61,12 +62,14 @@ impl Quote {
         }
     }
 
+    #[inline(always)]
     fn is_single(self) -> bool
         ensures { result ≡ is_single self }
     {
         matches!(self, Quote::Char | Quote::Byte)
     }
 
+    #[inline(always)]
     fn is_bytes(self) -> bool
         ensures { result ≡ is_bytes self }
     {
@@ -82,6 +85,7 @@ impl Quote {
         }
     }
 
+    #[inline(always)]
     fn behind_part(self) -> Within
         ensures { result ≡ behind_part self }
     {
@@ -129,6 +133,7 @@ fn is_scalar(value: u32) -> bool
     value < 0xD800 || (0xE000 <= value && value < 0x11_0000)
 }
 
+#[inline(always)]
 fn is_plain(quote: Quote, c: char) -> bool
     ensures { result ≡ is_plain quote c }
 {
@@ -138,6 +143,7 @@ fn is_plain(quote: Quote, c: char) -> bool
         && !(quote.is_single() && is_line_control(c))
 }
 
+#[inline(always)]
 fn open_step(quote: Quote, c: char) -> Next
     ensures { result ≡ open_step quote c }
 {
@@ -223,6 +229,7 @@ fn code_step(quote: Quote, digits: u32, value: u32, c: char) -> Next
 }
 
 /// What a character does that stands there.
+#[inline(always)]
 pub(crate) fn step(within: Within, c: char) -> Next
     requires { IsTrue (is_reachable within) }
     ensures { result ≡ step within c }

@@ -96,11 +96,14 @@ fn word_front(text: &str) -> Option<(PieceKind, &str)>
     }
 }
 
-/// The piece of one character, by the next two.
+/// The piece of one character, by the next two. A digit seldom stands alone.
 fn single_front(text: &str) -> Option<(PieceKind, &str)>
     ensures { IfSome result (λ x. Stands x.0 (chars text.now) (chars x.1.now)) }
 {
     let (first, rest) = first_of(text)?;
+    if first.is_ascii_digit() {
+        return None;
+    }
     let (second, more) = first_of(rest)?;
     let (third, _) = first_of(more)?;
     let (kind, len) = piece_at(&[first, second, third])?;

@@ -61,16 +61,18 @@ fn front_of_all(alloc: Global, text: &str) -> Result<Option<(PieceKind, &str)>, 
     }
 }
 
-/// How many bytes to begin with: those of the word at the front, and a few more.
+/// How many bytes to begin with: those of the number, the lifetime or the character at the front,
+/// and a few more.
 fn first_size(text: &str) -> usize
     ensures { 0 < result }
 {
     let word = text
         .as_bytes()
         .iter()
+        .skip(1)
         .take_while(|b| b.is_ascii_alphanumeric())
         .count();
-    word.saturating_add(8)
+    word.saturating_add(4)
 }
 
 /// The piece at the front of a text; none where no piece stands there.

@@ -1,6 +1,6 @@
 use Rattle.std.proofs.Common.{◌-◌, length, chars, rules}
 use Rattle.std.specs.Str.{IsUtf8}
-use Rattle.educe_scan.specs.InPlace.{Stands, IsFront}
+use Rattle.educe_scan.specs.InPlace.{Stands}
 use Rattle.educe_scan.proofs.InPlace.{rest_within, front_is, front_stands, front_longest}
 use Rattle.educe_scan.proofs.Readings.{fits_none}
 use Rattle.educe_scan.proofs.next.next_piece.Goals as goal

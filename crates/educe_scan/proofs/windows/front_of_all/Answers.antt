@@ -1,4 +1,4 @@
-use Rattle.std.proofs.Common.{◌≡◌, [], ◌++◌, ℕ, List, length, drop, chars, sym, ap, ◌∙◌, arith, append-nil}
+use Rattle.std.proofs.Common.{◌≡◌, [], ℕ, List, length, drop, chars, sym, ap, ◌∙◌, arith, append-nil}
 use Rattle.educe_pieces.specs.Pieces.{may_precede}
 use Rattle.educe_scan.specs.Scan.{piece_at}
 use Rattle.educe_scan.proofs.InPlace.{stands_window}
