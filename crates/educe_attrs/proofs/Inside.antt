@@ -3,13 +3,13 @@ use Rattle.std.proofs.Common.{◌≡◌, List, [], ◌∷◌, Some, None, Ok, Er
 use Rattle.educe_tokens.specs.declared.token.Token.{Token}
 use Rattle.educe_tokens.specs.declared.error.EduceError.{EduceError}
 use Rattle.educe_tokens.specs.declared.error.Kind.TheVariants.{Alloc}
-use Rattle.educe_tree.specs.declared.attr.Meta.{Meta}
-use Rattle.educe_grammar.specs.declared.parse_error.ParseError.{ParseError}
-use Rattle.educe_grammar.specs.Steps.{Outcome}
-use Rattle.educe_grammar.specs.Reads.{read}
-use Rattle.educe_grammar.specs.Attributes.{metas}
-use Rattle.educe_grammar.specs.Parsed.{depth_limit, IsWhole, IsParseCause, syntax, too_deep, memory, stop_of}
-use Rattle.educe_parser.specs.Laws.{lawful_metas}
+use Rattle.educe_syntax.specs.Meta.{Meta}
+use Rattle.educe_syntax.specs.ParseError.{ParseError}
+use Rattle.educe_syntax.specs.Steps.{Outcome}
+use Rattle.educe_syntax.specs.Reads.{read}
+use Rattle.educe_syntax.specs.Attributes.{metas}
+use Rattle.educe_syntax.specs.Parsed.{depth_limit, IsWhole, IsParseCause, syntax, too_deep, memory, stop_of}
+use Rattle.educe_syntax.specs.Laws.{lawful_metas}
 use Rattle.educe_attrs.specs.Metas.{inside, whole_value, metas_in, AreMetasInside}
 
 -- what was read to its end

@@ -4,13 +4,13 @@ use Rattle.std.specs.Prelude.{◌↔◌}
 use Rattle.std.specs.Str.{bytes_eq}
 use Rattle.std.proofs.lemmas.Bool.{and_parts, and_from}
 use Rattle.std.proofs.lemmas.Slice.Eq.{bytes_eq-Decides}
-use Rattle.educe_pieces.specs.declared.kind.TokenKind.{TokenKind}
-use Rattle.educe_pieces.specs.declared.kind.TokenKind.TheVariants as kind
+use Rattle.educe_tokens.specs.TokenKind.{TokenKind}
+use Rattle.educe_tokens.specs.TokenKind.TheVariants as kind
 use Rattle.educe_tokens.specs.declared.token.Token.{Token}
-use Rattle.educe_tree.specs.Words.{IsOneWord}
-use Rattle.educe_grammar.specs.declared.terminal.Terminal.TheVariants.{AnyWord}
-use Rattle.educe_grammar.specs.Terminals.{accepts, all_words, set_of, token_in}
-use Rattle.educe_grammar.specs.Names.{word_kind}
+use Rattle.educe_syntax.specs.Words.{IsOneWord}
+use Rattle.educe_syntax.specs.Terminal.TheVariants.{AnyWord}
+use Rattle.educe_syntax.specs.Terminals.{accepts, all_words, set_of, token_in}
+use Rattle.educe_syntax.specs.Names.{word_kind}
 use Rattle.educe_attrs.specs.Words.{is_word, is_one_word}
 
 -- two tests that hold together are one

@@ -1,11 +1,11 @@
 -- The metas in a bracket pair.
 use Rattle.std.specs.Prelude.{◌≡◌, ◌↔◌, ◌-◌, List, [], ◌∷◌, length, take, drop, Option, Some, None, Ok, Err}
 use Rattle.educe_tokens.specs.declared.token.Token.{Token}
-use Rattle.educe_tree.specs.declared.attr.Meta.{Meta}
-use Rattle.educe_grammar.specs.Steps.{Outcome}
-use Rattle.educe_grammar.specs.Reads.{read}
-use Rattle.educe_grammar.specs.Attributes.{metas}
-use Rattle.educe_grammar.specs.Parsed.{depth_limit, IsWhole}
+use Rattle.educe_syntax.specs.Meta.{Meta}
+use Rattle.educe_syntax.specs.Steps.{Outcome}
+use Rattle.educe_syntax.specs.Reads.{read}
+use Rattle.educe_syntax.specs.Attributes.{metas}
+use Rattle.educe_syntax.specs.Parsed.{depth_limit, IsWhole}
 
 -- the tokens between the first and the last
 abbrev pub inside : List Token → List Token

@@ -1,8 +1,8 @@
 -- The traits that metas name.
 use Rattle.std.specs.Prelude.{if◌then◌else◌, List, Option, Some, None, option_and_then}
 use Rattle.educe_tokens.specs.declared.token.Token.{Token}
-use Rattle.educe_tree.specs.declared.attr.Meta.{Meta}
-use Rattle.educe_tree.specs.declared.attr.Meta.TheVariants as said
+use Rattle.educe_syntax.specs.Meta.{Meta}
+use Rattle.educe_syntax.specs.Meta.TheVariants as said
 use Rattle.educe_traits.specs.declared.traits.Trait.{Trait}
 use Rattle.educe_traits.specs.declared.traits.Trait.TheVariants.{PartialEq, PartialOrd, Ord}
 use Rattle.educe_attrs.specs.Gathered.{all_some}

@@ -5,10 +5,10 @@ use Rattle.std.specs.List.{list_any}
 use Rattle.educe_tokens.specs.declared.span.Span.{Span}
 use Rattle.educe_tokens.specs.declared.token.Token.{Token}
 use Rattle.educe_tokens.specs.Lexes.{lexeme_of}
-use Rattle.educe_tree.specs.declared.attr.Meta.{Meta}
-use Rattle.educe_tree.specs.declared.attr.Meta.TheVariants as said
-use Rattle.educe_grammar.specs.declared.terminal.Terminal.TheVariants.{Sign}
-use Rattle.educe_grammar.specs.Terminals.{accepts}
+use Rattle.educe_syntax.specs.Meta.{Meta}
+use Rattle.educe_syntax.specs.Meta.TheVariants as said
+use Rattle.educe_syntax.specs.Terminal.TheVariants.{Sign}
+use Rattle.educe_syntax.specs.Terminals.{accepts}
 use Rattle.educe_attrs.specs.declared.param.Param.{Param}
 use Rattle.educe_attrs.specs.declared.param.Param.TheVariants.{Ignore, Rank}
 use Rattle.educe_attrs.specs.Gathered.{all_some}

@@ -1,9 +1,9 @@
 -- What the attributes of a definition say.
 use Rattle.std.specs.Prelude.{if◌then◌else◌, List, [], codes, Option, Some, None}
-use Rattle.educe_tree.specs.declared.attr.Attribute.{Attribute}
-use Rattle.educe_tree.specs.declared.attr.Meta.{Meta}
-use Rattle.educe_tree.specs.declared.attr.Meta.TheVariants as said
-use Rattle.educe_tree.specs.declared.attr.MetaPath.{MetaPath}
+use Rattle.educe_syntax.specs.Attribute.{Attribute}
+use Rattle.educe_syntax.specs.Meta.{Meta}
+use Rattle.educe_syntax.specs.Meta.TheVariants as said
+use Rattle.educe_syntax.specs.MetaPath.{MetaPath}
 use Rattle.educe_attrs.specs.declared.setting.Setting.{Setting}
 use Rattle.educe_traits.specs.declared.traits.Trait.{Trait}
 use Rattle.educe_attrs.specs.Gathered.{all_joined}

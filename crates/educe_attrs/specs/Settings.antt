@@ -2,11 +2,11 @@
 use Rattle.std.specs.Prelude.{Bool, false, ◌&&◌, if◌then◌else◌, List, [], ◌∷◌, codes, Option, Some, None, option_and_then}
 use Rattle.std.specs.Option.{option_map}
 use Rattle.std.specs.List.{find}
-use Rattle.educe_pieces.specs.declared.kind.Bracket.TheVariants.{Round}
+use Rattle.educe_tokens.specs.Bracket.TheVariants.{Round}
 use Rattle.educe_tokens.specs.declared.token.Token.{Token}
-use Rattle.educe_tree.specs.declared.attr.Meta.{Meta}
-use Rattle.educe_tree.specs.declared.attr.Meta.TheVariants as said
-use Rattle.educe_grammar.specs.Ahead.{opens}
+use Rattle.educe_syntax.specs.Meta.{Meta}
+use Rattle.educe_syntax.specs.Meta.TheVariants as said
+use Rattle.educe_syntax.specs.Ahead.{opens}
 use Rattle.educe_attrs.specs.declared.param.Param.{Param}
 use Rattle.educe_attrs.specs.declared.param.Param.TheVariants.{Ignore}
 use Rattle.educe_attrs.specs.declared.setting.Setting.{Setting}

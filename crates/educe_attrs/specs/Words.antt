@@ -2,8 +2,8 @@
 use Rattle.std.specs.Prelude.{ℕ, Bool, false, ◌&&◌, List, [], ◌∷◌}
 use Rattle.std.specs.Str.{bytes_eq}
 use Rattle.educe_tokens.specs.declared.token.Token.{Token}
-use Rattle.educe_grammar.specs.declared.terminal.Terminal.TheVariants.{AnyWord}
-use Rattle.educe_grammar.specs.Terminals.{accepts}
+use Rattle.educe_syntax.specs.Terminal.TheVariants.{AnyWord}
+use Rattle.educe_syntax.specs.Terminals.{accepts}
 
 -- an identifier that is spelled so, with no `r#`
 abbrev pub is_word : List ℕ → Token → Bool

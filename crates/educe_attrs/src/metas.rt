@@ -2,9 +2,8 @@
 ghost use Rattle.std.specs.Prelude.{◌≡◌, IfOk};
 ghost use Rattle.educe_attrs.specs.Metas as spec;
 
-use educe_parser::parse_metas;
+use educe_syntax::{Metas, parse_metas};
 use educe_tokens::{Kind, TokenSlice};
-use educe_tree::Metas;
 use std::alloc::{AllocError, Global};
 
 /// The tokens between the first and the last, which share the list.

@@ -6,9 +6,9 @@ ghost use Rattle.educe_attrs.specs.Named as spec;
 use crate::gathered::{all_behind, one_more};
 use crate::metas::metas_in;
 use crate::word::is_one_word;
+use educe_syntax::{Meta, MetaPath};
 use educe_tokens::TokenSlice;
 use educe_traits::{Trait, Traits};
-use educe_tree::{Meta, MetaPath};
 use std::alloc::{AllocError, Global};
 
 /// The trait whose name the path is, as it is spelled.

@@ -6,9 +6,8 @@ use crate::gathered::{all_behind, one_more};
 use crate::metas::metas_in;
 use crate::rank::rank_value;
 use crate::word::is_one_word;
-use educe_grammar::Terminal;
+use educe_syntax::{Meta, Terminal};
 use educe_tokens::{Seq, Span, Token, TokenSlice};
-use educe_tree::Meta;
 use std::alloc::{AllocError, Global};
 
 /// A parameter of a trait at a field (documentation of `educe`, Ignore Fields; Ranking).

@@ -7,9 +7,9 @@ use crate::gathered::all_behind;
 use crate::named::add_traits;
 use crate::setting::{Settings, add_settings};
 use crate::word::is_one_word;
+use educe_syntax::{Attributes, Meta, MetaPath};
 use educe_tokens::Seq;
 use educe_traits::Traits;
-use educe_tree::{Attributes, Meta, MetaPath};
 use std::alloc::{AllocError, Global};
 
 /// The traits with those that one attribute of a type lists behind them; none where the attribute may

@@ -9,9 +9,9 @@ use crate::metas::metas_in;
 use crate::named::trait_named;
 use crate::param::{Param, Params, are_params, params_in};
 use crate::word::is_word;
+use educe_syntax::Meta;
 use educe_tokens::{Bracket, Seq, Token, TokenKind, TokenSlice};
 use educe_traits::{Trait, same_trait};
-use educe_tree::Meta;
 use std::alloc::{AllocError, Global};
 
 /// A trait, and its parameters at a field (documentation of `educe`, Traits).

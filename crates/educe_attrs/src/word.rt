@@ -2,9 +2,8 @@
 ghost use Rattle.std.specs.Prelude.{◌≡◌, chars};
 ghost use Rattle.educe_attrs.specs.Words as spec;
 
-use educe_grammar::Terminal;
+use educe_syntax::{MetaPath, Terminal, is_spelled};
 use educe_tokens::Token;
-use educe_tree::{MetaPath, is_spelled};
 
 /// Whether the token is the word as it is spelled, with no `r#`.
 pub fn is_word(token: &Token, word: &str) -> bool

@@ -4,10 +4,10 @@ use Rattle.std.specs.Char.{is_ascii_digit}
 use Rattle.std.specs.Fmt.{decimal}
 use Rattle.std.specs.List.{AllByRecursion}
 use Rattle.std.proofs.lemmas.Fmt.{decimal_injective}
-use Rattle.educe_pieces.specs.declared.kind.LiteralKind.TheVariants.{Int}
-use Rattle.educe_pieces.specs.declared.kind.TokenKind.TheVariants.{Ident as IdentKind, Literal}
-use Rattle.educe_pieces.specs.Chars.{begins}
-use Rattle.educe_pieces.specs.Pieces.{spells}
+use Rattle.educe_tokens.specs.LiteralKind.TheVariants.{Int}
+use Rattle.educe_tokens.specs.TokenKind.TheVariants.{Ident as IdentKind, Literal}
+use Rattle.educe_tokens.specs.Chars.{begins}
+use Rattle.educe_tokens.specs.Pieces.{spells}
 use Rattle.educe_tokens.proofs.Words.{word_is_int}
 use Rattle.educe_tree.specs.declared.ident.Ident.{Ident}
 use Rattle.educe_tree.specs.declared.data.Field.{Field}

@@ -14,15 +14,15 @@ use Rattle.std.proofs.lemmas.Bool.Decides.{nat_tests, same_from_decides}
 use Rattle.std.proofs.lemmas.Fmt.{decimal_is_IsNumeral, decimal_digit, first_decimal, decimal_injective, parse-decimal, decimal-digits_value, IsAscii-decimal}
 use Rattle.std.proofs.lemmas.Str.{chars-IsAscii, encodes-IsAscii}
 use Rattle.std.proofs.lemmas.Str.Parse.{IsNumeralModel, numerals_by_value, tells_digits, parse_plain, digit_from_value}
-use Rattle.educe_pieces.specs.declared.integers.Base.TheVariants.{Decimal}
-use Rattle.educe_pieces.specs.declared.kind.LiteralKind.TheVariants.{Int}
-use Rattle.educe_pieces.specs.declared.kind.TokenKind.TheVariants.{Ident, Literal}
-use Rattle.educe_pieces.specs.Chars.{begins}
-use Rattle.educe_pieces.specs.Integers.{is_digit_or_mark}
-use Rattle.educe_pieces.specs.Numbers.{has_digit, digits_number}
-use Rattle.educe_pieces.specs.Pieces.{spells, is_name_or_index}
-use Rattle.educe_pieces.specs.Spells.{IsIntegerOf}
-use Rattle.educe_pieces.proofs.IntegerSpells.{int_tested}
+use Rattle.educe_tokens.specs.Base.TheVariants.{Decimal}
+use Rattle.educe_tokens.specs.LiteralKind.TheVariants.{Int}
+use Rattle.educe_tokens.specs.TokenKind.TheVariants.{Ident, Literal}
+use Rattle.educe_tokens.specs.Chars.{begins}
+use Rattle.educe_tokens.specs.Integers.{is_digit_or_mark}
+use Rattle.educe_tokens.specs.Numbers.{has_digit, digits_number}
+use Rattle.educe_tokens.specs.Pieces.{spells, is_name_or_index}
+use Rattle.educe_tokens.specs.Spells.{IsIntegerOf}
+use Rattle.educe_tokens_pieces.proofs.IntegerSpells.{int_tested}
 use Rattle.educe_body.specs.Keys.{IsIndexOf, begins_plain}
 
 -- ---- digits are an integer

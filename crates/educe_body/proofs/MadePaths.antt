@@ -3,9 +3,9 @@ use mathlib.Core.HLevel.{is_prop→PathP}
 use Rattle.std.proofs.Common.{◌≡◌, ℕ, ◌&&◌, Bool, true, false, not, IsTrue, List, [], ◌∷◌, ◌++◌, map, Option, Some, None, refl, sym, ap, subst, ◌∙◌, inl, inr}
 use Rattle.std.specs.List.{list_all}
 use Rattle.std.proofs.lemmas.Bool.{and_parts}
-use Rattle.educe_pieces.specs.declared.kind.TokenKind.{TokenKind}
-use Rattle.educe_pieces.specs.declared.kind.TokenKind.TheVariants as kind
-use Rattle.educe_pieces.specs.Pieces.{spells}
+use Rattle.educe_tokens.specs.TokenKind.{TokenKind}
+use Rattle.educe_tokens.specs.TokenKind.TheVariants as kind
+use Rattle.educe_tokens.specs.Pieces.{spells}
 use Rattle.educe_tokens.specs.declared.span.Span.{Span}
 use Rattle.educe_tokens.specs.declared.token.Token.{Token}
 use Rattle.educe_tokens.specs.Appends.{no_place, LieNowhere}

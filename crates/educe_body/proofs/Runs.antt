@@ -5,7 +5,7 @@ use Rattle.std.specs.Str.{bytes_eq}
 use Rattle.std.proofs.lemmas.Bool.{and_parts, and_from, or_cases, or_left, or_right, cond-true, cond-false, false≢true}
 use Rattle.std.proofs.lemmas.Slice.Eq.{bytes_eq-Decides}
 use Rattle.unicode_ident.specs.Ident.{is_xid_continue}
-use Rattle.educe_pieces.specs.Pieces.{ends_word_before}
+use Rattle.educe_tokens.specs.Pieces.{ends_word_before}
 use Rattle.educe_body.specs.Words.{BeginsWithRun, IsRunOf, front, behind, parts}
 
 -- whether a character goes on with a word

@@ -2,17 +2,17 @@
 use Rattle.std.proofs.Common.{◌≡◌, ℕ, cond, List, [], drop, sym, ap, ◌∙◌}
 use Rattle.std.specs.Prelude.{◌==◌}
 use Rattle.std.proofs.lemmas.Bool.{cond-true}
-use Rattle.educe_pieces.specs.declared.kind.TokenKind.{TokenKind}
-use Rattle.educe_pieces.specs.declared.kind.TokenKind.TheVariants.{Ident, Lifetime, Literal, Punct, Start, Stop, Doc}
-use Rattle.educe_pieces.specs.declared.quotes.Quote.TheVariants.{Str}
-use Rattle.educe_pieces.specs.declared.quotes.Within.TheVariants.{Open}
-use Rattle.educe_pieces.specs.Chars.{begins}
-use Rattle.educe_pieces.specs.Comments.{doc_value}
-use Rattle.educe_pieces.specs.Machine.{given}
-use Rattle.educe_pieces.specs.RawStrings.{raw_value}
-use Rattle.educe_pieces.proofs.Bodies.{body_ends}
-use Rattle.educe_pieces.proofs.CommentLaws.{doc_value_is}
-use Rattle.educe_pieces.proofs.RawStrings.{raw_value_is}
+use Rattle.educe_tokens.specs.TokenKind.{TokenKind}
+use Rattle.educe_tokens.specs.TokenKind.TheVariants.{Ident, Lifetime, Literal, Punct, Start, Stop, Doc}
+use Rattle.educe_tokens.specs.QuoteKind.TheVariants.{Str}
+use Rattle.educe_tokens.specs.Within.TheVariants.{Open}
+use Rattle.educe_tokens.specs.Chars.{begins}
+use Rattle.educe_tokens.specs.Comments.{doc_value}
+use Rattle.educe_tokens.specs.Machine.{given}
+use Rattle.educe_tokens.specs.RawStrings.{raw_value}
+use Rattle.educe_tokens_pieces.proofs.Bodies.{body_ends}
+use Rattle.educe_tokens_pieces.proofs.CommentLaws.{doc_value_is}
+use Rattle.educe_tokens_pieces.proofs.RawStrings.{raw_value_is}
 use Rattle.educe_tokens.specs.Lexes.{Lexeme}
 use Rattle.educe_tokens.specs.StringValue.{IsString, IsStringValue}
 

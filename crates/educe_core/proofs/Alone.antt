@@ -11,9 +11,9 @@ use Rattle.educe_tokens.specs.Steps.{IsReading}
 use Rattle.educe_tokens.proofs.Alone.{cause_alone}
 use Rattle.educe_tokens.proofs.Uncaused.{no_cause}
 use Rattle.educe_tokens.proofs.Unique.{lexes_one}
-use Rattle.educe_tree.specs.declared.derive.DeriveInput.{DeriveInput}
-use Rattle.educe_grammar.specs.Refusal.{IsRefusalOf}
-use Rattle.educe_parser.specs.Laws.{lawful_definitions}
+use Rattle.educe_syntax.specs.DeriveInput.{DeriveInput}
+use Rattle.educe_syntax.specs.Refusal.{IsRefusalOf}
+use Rattle.educe_syntax.specs.Laws.{lawful_definitions}
 use Rattle.educe_traits.specs.declared.traits.Trait.{Trait}
 use Rattle.educe_traits.specs.declared.traits.Trait.TheVariants.{PartialEq, PartialOrd, Ord}
 use Rattle.educe_traits.specs.Traits.{is_listed}

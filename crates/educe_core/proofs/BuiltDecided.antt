@@ -1,8 +1,8 @@
 -- A definition that is not of another form than the one that is built so far is of that form.
 use Rattle.std.proofs.Common.{◌≡◌, Bool, true, false, List, [], ◌∷◌, refl, sym, ◌∙◌, subst, Option, Some, None, IsTrue}
 use Rattle.std.specs.List.{AllByRecursion}
-use Rattle.educe_tree.specs.declared.data.Field.{Field}
-use Rattle.educe_tree.specs.declared.derive.DeriveInput.{DeriveInput}
+use Rattle.educe_syntax.specs.Field.{Field}
+use Rattle.educe_syntax.specs.DeriveInput.{DeriveInput}
 use Rattle.educe_attrs.specs.Said.{listed_by, settings_by}
 use Rattle.educe_traits.specs.declared.traits.Trait.{Trait}
 use Rattle.educe_traits.specs.Traits.{each_once, all_listed}

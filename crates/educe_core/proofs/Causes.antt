@@ -17,13 +17,13 @@ use Rattle.educe_tokens.specs.Message.{HasWords}
 use Rattle.educe_tokens.proofs.Places as places
 use Rattle.educe_tokens.proofs.Unique.{lexes_one}
 use Rattle.educe_tokens.proofs.Uncaused.{no_cause}
-use Rattle.educe_tree.specs.declared.derive.DeriveInput.{DeriveInput}
-use Rattle.educe_grammar.specs.Definitions.{definition}
-use Rattle.educe_grammar.specs.Naming.{AreNamesApart}
-use Rattle.educe_grammar.specs.Parsed.{IsWhole}
-use Rattle.educe_grammar.specs.Reading.{Parses}
-use Rattle.educe_grammar.specs.Refusal.{IsRefusalOf}
-use Rattle.educe_parser.specs.Laws.{lawful_definition, lawful_definitions}
+use Rattle.educe_syntax.specs.DeriveInput.{DeriveInput}
+use Rattle.educe_syntax.specs.Definitions.{definition}
+use Rattle.educe_syntax.specs.Naming.{AreNamesApart}
+use Rattle.educe_syntax.specs.Parsed.{IsWhole}
+use Rattle.educe_syntax.specs.Reading.{Parses}
+use Rattle.educe_syntax.specs.Refusal.{IsRefusalOf}
+use Rattle.educe_syntax.specs.Laws.{lawful_definition, lawful_definitions}
 use Rattle.educe_traits.specs.declared.traits.Trait.{Trait}
 use Rattle.educe_traits.specs.declared.traits.Trait.TheVariants.{PartialEq, PartialOrd, Ord}
 use Rattle.educe_traits.specs.Traits.{is_listed}

@@ -10,9 +10,9 @@ use Rattle.educe_tokens.specs.Lexes.{Lexeme, lexemes}
 use Rattle.educe_tokens.specs.Quote.{quoted}
 use Rattle.educe_tokens.specs.WrittenLexemes.{written_lexemes}
 use Rattle.educe_tokens.proofs.Copying.{copied_spellings}
-use Rattle.educe_tree.specs.declared.data.Field.{Field}
-use Rattle.educe_tree.specs.declared.derive.DeriveInput.{DeriveInput}
-use Rattle.educe_tree.specs.declared.expr.ExprPath.{ExprPath}
+use Rattle.educe_syntax.specs.Field.{Field}
+use Rattle.educe_syntax.specs.DeriveInput.{DeriveInput}
+use Rattle.educe_syntax.specs.ExprPath.{ExprPath}
 use Rattle.educe_traits.specs.declared.traits.Trait.{Trait}
 use Rattle.educe_traits.specs.declared.traits.Trait.TheVariants.{PartialEq, PartialOrd, Ord}
 use Rattle.educe_body.specs.declared.value.FieldValue.{FieldValue}

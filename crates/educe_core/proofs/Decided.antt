@@ -8,11 +8,11 @@ use Rattle.educe_tokens.specs.Causes.{HasCause, IsLexicalCause}
 use Rattle.educe_tokens.specs.Refusals.{placeless}
 use Rattle.educe_tokens.specs.Steps.{IsReading}
 use Rattle.educe_tokens.proofs.Decided as tokens
-use Rattle.educe_tree.specs.declared.derive.DeriveInput.{DeriveInput}
-use Rattle.educe_grammar.specs.Definitions.{definition}
-use Rattle.educe_grammar.specs.Parsed.{IsWhole, IsParseCause}
-use Rattle.educe_grammar.specs.Refusal.{IsRefusalOf}
-use Rattle.educe_parser.specs.Laws.{lawful_definitions}
+use Rattle.educe_syntax.specs.DeriveInput.{DeriveInput}
+use Rattle.educe_syntax.specs.Definitions.{definition}
+use Rattle.educe_syntax.specs.Parsed.{IsWhole, IsParseCause}
+use Rattle.educe_syntax.specs.Refusal.{IsRefusalOf}
+use Rattle.educe_syntax.specs.Laws.{lawful_definitions}
 use Rattle.educe_core.specs.Headline.{Defines, IsValid, IsHandlerCause, IsCause, not_set_up_of, reuse_of}
 use Rattle.educe_core.proofs.Causes.{defined_by, done_uncaused}
 use Rattle.educe_core.proofs.BuiltDecided.{built_if}

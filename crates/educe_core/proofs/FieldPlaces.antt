@@ -5,20 +5,20 @@ use Rattle.std.specs.Option.{option_map}
 use Rattle.std.specs.List.{AllByRecursion, find}
 use Rattle.educe_tokens.specs.declared.span.Span.{Span}
 use Rattle.educe_tokens.specs.declared.token.Token.{Token}
-use Rattle.educe_tree.specs.declared.attr.Attribute.{Attribute}
-use Rattle.educe_tree.specs.declared.attr.Meta.{Meta}
-use Rattle.educe_tree.specs.declared.attr.Meta.TheVariants as said
-use Rattle.educe_tree.specs.declared.attr.MetaPath.{MetaPath}
-use Rattle.educe_tree.specs.declared.data.Field.{Field}
-use Rattle.educe_tree.specs.declared.derive.DeriveInput.{DeriveInput}
-use Rattle.educe_tree.specs.declared.derive.Shape.{Shape}
-use Rattle.educe_tree.specs.declared.derive.Shape.TheVariants.{Struct, Enum}
-use Rattle.educe_grammar.specs.Definitions.{definition}
-use Rattle.educe_grammar.specs.Few as every
-use Rattle.educe_grammar.specs.Parsed.{IsWhole}
-use Rattle.educe_grammar.specs.Placed.{HasPlace, AreWithin, IsMetaPlaced, IsFieldPlaced, AreFieldsPlaced}
-use Rattle.educe_grammar.specs.Steps.{Tokens}
-use Rattle.educe_parser.specs.Laws.{lawful_places, place_has, start_has}
+use Rattle.educe_syntax.specs.Attribute.{Attribute}
+use Rattle.educe_syntax.specs.Meta.{Meta}
+use Rattle.educe_syntax.specs.Meta.TheVariants as said
+use Rattle.educe_syntax.specs.MetaPath.{MetaPath}
+use Rattle.educe_syntax.specs.Field.{Field}
+use Rattle.educe_syntax.specs.DeriveInput.{DeriveInput}
+use Rattle.educe_syntax.specs.Shape.{Shape}
+use Rattle.educe_syntax.specs.Shape.TheVariants.{Struct, Enum}
+use Rattle.educe_syntax.specs.Definitions.{definition}
+use Rattle.educe_syntax.specs.Few as every
+use Rattle.educe_syntax.specs.Parsed.{IsWhole}
+use Rattle.educe_syntax.specs.Placed.{HasPlace, AreWithin, IsMetaPlaced, IsFieldPlaced, AreFieldsPlaced}
+use Rattle.educe_syntax.specs.Steps.{Tokens}
+use Rattle.educe_syntax.specs.Laws.{lawful_places, place_has, start_has}
 use Rattle.educe_attrs.specs.declared.param.Param.{Param}
 use Rattle.educe_attrs.specs.declared.param.Param.TheVariants.{Ignore, Rank}
 use Rattle.educe_attrs.specs.declared.setting.Setting.{Setting}

@@ -3,8 +3,8 @@ use Rattle.std.proofs.Common.{◌≡◌, ℕ, zero, suc, ◌<◌, ◌&&◌, Bool
 use Rattle.std.specs.Prelude.{◌==◌, codes, unwrap_or}
 use Rattle.std.proofs.lemmas.Bool.{false≢true}
 use Rattle.educe_tokens.proofs.Ascii.{chars-ascii}
-use Rattle.educe_tree.specs.declared.data.Field.{Field}
-use Rattle.educe_tree.specs.declared.derive.DeriveInput.{DeriveInput}
+use Rattle.educe_syntax.specs.Field.{Field}
+use Rattle.educe_syntax.specs.DeriveInput.{DeriveInput}
 use Rattle.educe_attrs.specs.declared.setting.Setting.{Setting}
 use Rattle.educe_traits.specs.declared.traits.Trait.{Trait}
 use Rattle.educe_attrs.specs.Said.{listed_by, settings_by}

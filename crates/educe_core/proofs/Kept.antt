@@ -4,7 +4,7 @@ use Rattle.std.specs.Prelude.{if◌then◌else◌}
 use Rattle.std.specs.List.{AllByRecursion}
 use Rattle.std.proofs.lemmas.Int.{ints}
 use Rattle.std.proofs.lemmas.List.{take_more, length-take-le, map-append}
-use Rattle.educe_tree.specs.declared.data.Field.{Field}
+use Rattle.educe_syntax.specs.Field.{Field}
 use Rattle.educe_traits.specs.declared.traits.Trait.{Trait}
 use Rattle.educe_core.specs.declared.ranked.Ranked.{Ranked}
 use Rattle.educe_core.specs.Ranks.{Rises}

@@ -3,10 +3,10 @@ use Rattle.std.proofs.Common.{◌≡◌, ◌≢◌, ◌⊎◌, ℕ, ◌<◌, ◌
 use Rattle.std.specs.Prelude.{IsUtf8}
 use Rattle.educe_tokens.specs.declared.error.EduceError.{EduceError}
 use Rattle.educe_tokens.specs.declared.error.Kind.TheVariants.{Alloc}
-use Rattle.educe_devices.specs.declared.status.Status.{Status}
-use Rattle.educe_devices.specs.declared.status.Status.TheVariants.{Done, Refused, Usage, ReadFault, WriteFault, TooLong, NotUtf8, NoMemory}
-use Rattle.educe_devices.specs.Devices.{Change, Fails, ahead, IsAtEnd, TakesAtMost}
-use Rattle.educe_devices.specs.Status.{IsUnlessStopped}
+use Rattle.educe_core_devices.specs.declared.status.Status.{Status}
+use Rattle.educe_core_devices.specs.declared.status.Status.TheVariants.{Done, Refused, Usage, ReadFault, WriteFault, TooLong, NotUtf8, NoMemory}
+use Rattle.educe_core_devices.specs.Devices.{Change, Fails, ahead, IsAtEnd, TakesAtMost}
+use Rattle.educe_core_devices.specs.Status.{IsUnlessStopped}
 use Rattle.educe_core.specs.Run.{Answers, IsLine, ReadsAll, ReadsTooMuch, expand_words}
 use Rattle.educe_core.specs.Headline.{IsCause, IsValid}
 

@@ -10,12 +10,12 @@ use Rattle.educe_tokens.specs.declared.span.Span.{Span}
 use Rattle.educe_tokens.specs.declared.token.Token.{Token}
 use Rattle.educe_tokens.specs.Lexes.{Lexes}
 use Rattle.educe_tokens.proofs.Places.{tokens_placed, tokens_ended}
-use Rattle.educe_tree.specs.declared.derive.DeriveInput.{DeriveInput}
-use Rattle.educe_grammar.specs.Definitions.{definition}
-use Rattle.educe_grammar.specs.Parsed.{IsWhole, end_of, end_place}
-use Rattle.educe_grammar.specs.Placed.{IsPlace}
-use Rattle.educe_grammar.specs.Refusal.{IsRefusalOf}
-use Rattle.educe_parser.specs.Laws.{lawful_definitions, place_has}
+use Rattle.educe_syntax.specs.DeriveInput.{DeriveInput}
+use Rattle.educe_syntax.specs.Definitions.{definition}
+use Rattle.educe_syntax.specs.Parsed.{IsWhole, end_of, end_place}
+use Rattle.educe_syntax.specs.Placed.{IsPlace}
+use Rattle.educe_syntax.specs.Refusal.{IsRefusalOf}
+use Rattle.educe_syntax.specs.Laws.{lawful_definitions, place_has}
 use Rattle.educe_traits.specs.declared.traits.Trait.{Trait}
 use Rattle.educe_core.specs.Settings.{ReusesARank}
 use Rattle.educe_core.proofs.FieldPlaces.{reuse_placed}

@@ -6,7 +6,7 @@ use Rattle.std.specs.Cmp.{signed_Decides}
 use Rattle.std.proofs.lemmas.Bool.{cases_Bool}
 use Rattle.std.proofs.lemmas.Int.{ints}
 use Rattle.educe_tokens.specs.declared.span.Span.{Span}
-use Rattle.educe_tree.specs.declared.derive.DeriveInput.{DeriveInput}
+use Rattle.educe_syntax.specs.DeriveInput.{DeriveInput}
 use Rattle.educe_traits.specs.declared.traits.Trait.{Trait}
 use Rattle.educe_traits.specs.declared.traits.Trait.TheVariants.{PartialEq, PartialOrd, Ord}
 use Rattle.educe_traits.specs.Traits.{is_listed}

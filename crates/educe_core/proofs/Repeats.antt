@@ -6,7 +6,7 @@ use Rattle.std.specs.List.Sorted.{IsStableByKey}
 use Rattle.std.specs.Ordering.{int_cmp}
 use Rattle.std.proofs.lemmas.Int.{ints}
 use Rattle.std.proofs.lemmas.List.Sorted.{IsPermutation-map, IsPermutation-sym}
-use Rattle.educe_tree.specs.declared.derive.DeriveInput.{DeriveInput}
+use Rattle.educe_syntax.specs.DeriveInput.{DeriveInput}
 use Rattle.educe_traits.specs.declared.traits.Trait.{Trait}
 use Rattle.educe_body.specs.Keys.{fields_of}
 use Rattle.educe_core.specs.declared.ranked.Ranked.{Ranked}

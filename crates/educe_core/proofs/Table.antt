@@ -3,10 +3,10 @@ use Rattle.std.proofs.Common.{◌≡◌, ℕ, List, inl, inr, refl, sym, subst}
 use Rattle.std.specs.Prelude.{IsUtf8}
 use Rattle.educe_tokens.specs.declared.error.EduceError.{EduceError}
 use Rattle.educe_tokens.specs.declared.error.Kind.TheVariants.{Alloc}
-use Rattle.educe_devices.specs.declared.status.Status.{Status}
-use Rattle.educe_devices.specs.declared.status.Status.TheVariants.{Done, Refused, Usage, ReadFault, WriteFault, TooLong, NotUtf8, NoMemory}
-use Rattle.educe_devices.specs.Devices.{Change, IsUnchanged}
-use Rattle.educe_devices.specs.Status.{Delivers, whole, fault, short}
+use Rattle.educe_core_devices.specs.declared.status.Status.{Status}
+use Rattle.educe_core_devices.specs.declared.status.Status.TheVariants.{Done, Refused, Usage, ReadFault, WriteFault, TooLong, NotUtf8, NoMemory}
+use Rattle.educe_core_devices.specs.Devices.{Change, IsUnchanged}
+use Rattle.educe_core_devices.specs.Status.{Delivers, whole, fault, short}
 use Rattle.educe_core.specs.Run.{Answers, IsLine, IsText, ReadsAll, Refuses, refusal_line, expand_words}
 use Rattle.educe_core.specs.Headline.{IsCause, IsValid}
 use Rattle.educe_core.proofs.Alone.{alone}

@@ -1,10 +1,10 @@
 -- The form of definitions that is built so far.
 use Rattle.std.specs.Prelude.{◌≡◌, Bool, true, false, IsTrue, List, [], map, Some, codes}
 use Rattle.std.specs.List.{AllByRecursion}
-use Rattle.educe_tree.specs.declared.data.Field.{Field}
-use Rattle.educe_tree.specs.declared.derive.DeriveInput.{DeriveInput}
-use Rattle.educe_tree.specs.declared.derive.Shape.{Shape}
-use Rattle.educe_tree.specs.declared.derive.Shape.TheVariants.{Struct, Enum}
+use Rattle.educe_syntax.specs.Field.{Field}
+use Rattle.educe_syntax.specs.DeriveInput.{DeriveInput}
+use Rattle.educe_syntax.specs.Shape.{Shape}
+use Rattle.educe_syntax.specs.Shape.TheVariants.{Struct, Enum}
 use Rattle.educe_attrs.specs.declared.setting.Setting.{Setting}
 use Rattle.educe_traits.specs.declared.traits.Trait.{Trait}
 use Rattle.educe_attrs.specs.Said.{listed_by, settings_by}

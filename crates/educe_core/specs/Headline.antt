@@ -9,11 +9,11 @@ use Rattle.educe_tokens.specs.Lexes.{LexesAside}
 use Rattle.educe_tokens.specs.Steps.{IsReading}
 use Rattle.educe_tokens.specs.Causes.{IsLexicalCause}
 use Rattle.educe_tokens.specs.Refusals.{placeless}
-use Rattle.educe_tree.specs.declared.derive.DeriveInput.{DeriveInput}
-use Rattle.educe_grammar.specs.Definitions as grammar
-use Rattle.educe_grammar.specs.Naming.{AreNamesApart}
-use Rattle.educe_grammar.specs.Parsed.{IsWhole, end_of}
-use Rattle.educe_grammar.specs.Refusal.{IsRefusalOf}
+use Rattle.educe_syntax.specs.DeriveInput.{DeriveInput}
+use Rattle.educe_syntax.specs.Definitions as grammar
+use Rattle.educe_syntax.specs.Naming.{AreNamesApart}
+use Rattle.educe_syntax.specs.Parsed.{IsWhole, end_of}
+use Rattle.educe_syntax.specs.Refusal.{IsRefusalOf}
 use Rattle.educe_body.specs.declared.body.Item.{Item}
 use Rattle.educe_body.specs.Tokens.{tokens_of, spelling}
 use Rattle.educe_core.specs.Blocks.{OneEach, EachEvaluates, HasNoCauses, ReusesListedRank}

@@ -10,12 +10,12 @@ pub mod Headline
 pub mod Expansion
 pub mod Run
 -- what clauses say of devices and of how a run ends, and the types that they name
-pub use Rattle.educe_devices.specs.Devices
-pub use Rattle.educe_devices.specs.Plan as Planned
-pub use Rattle.educe_devices.specs.Memory
-pub use Rattle.educe_devices.specs.Status as Statuses
-pub use Rattle.educe_devices.specs.declared.devices.Stopped
-pub use Rattle.educe_devices.specs.declared.memory.MemorySource
-pub use Rattle.educe_devices.specs.declared.memory.MemorySink
-pub use Rattle.educe_devices.specs.declared.plan.Plan
-pub use Rattle.educe_devices.specs.declared.status.Status
+pub use Rattle.educe_core_devices.specs.Devices
+pub use Rattle.educe_core_devices.specs.Plan as Planned
+pub use Rattle.educe_core_devices.specs.Memory
+pub use Rattle.educe_core_devices.specs.Status as Statuses
+pub use Rattle.educe_core_devices.specs.declared.devices.Stopped
+pub use Rattle.educe_core_devices.specs.declared.memory.MemorySource
+pub use Rattle.educe_core_devices.specs.declared.memory.MemorySink
+pub use Rattle.educe_core_devices.specs.declared.plan.Plan
+pub use Rattle.educe_core_devices.specs.declared.status.Status

@@ -1,6 +1,6 @@
 -- What is read of a definition once.
 use Rattle.std.specs.Prelude.{◌≡◌, ◌<◌, ◌^◌, map, length}
-use Rattle.educe_tree.specs.declared.derive.DeriveInput.{DeriveInput}
+use Rattle.educe_syntax.specs.DeriveInput.{DeriveInput}
 use Rattle.educe_body.specs.Keys.{fields_of}
 use Rattle.educe_core.specs.declared.built.Model.{Model}
 use Rattle.educe_core.specs.Built.{IsBuilt}

@@ -5,10 +5,10 @@ use Rattle.educe_tokens.specs.declared.error.Kind.TheVariants.{Alloc}
 use Rattle.educe_tokens.specs.Span.{line_of, column_of}
 use Rattle.educe_tokens.specs.Message.{message_of}
 use Rattle.educe_body.specs.declared.body.Item.{Item}
-use Rattle.educe_devices.specs.declared.status.Status.{Status}
-use Rattle.educe_devices.specs.declared.status.Status.TheVariants.{Done, Refused, Usage, ReadFault, WriteFault, TooLong, NotUtf8, NoMemory}
-use Rattle.educe_devices.specs.Devices.{Change, ahead, IsAtEnd, IsUnchanged, Fails, Gains, FailsWithin, RunsShortWithin}
-use Rattle.educe_devices.specs.Status.{Delivers}
+use Rattle.educe_core_devices.specs.declared.status.Status.{Status}
+use Rattle.educe_core_devices.specs.declared.status.Status.TheVariants.{Done, Refused, Usage, ReadFault, WriteFault, TooLong, NotUtf8, NoMemory}
+use Rattle.educe_core_devices.specs.Devices.{Change, ahead, IsAtEnd, IsUnchanged, Fails, Gains, FailsWithin, RunsShortWithin}
+use Rattle.educe_core_devices.specs.Status.{Delivers}
 use Rattle.educe_core.specs.Headline.{IsExpansion, IsCause, IsValid}
 
 -- the words of the command

@@ -10,9 +10,9 @@ ghost use Rattle.educe_core.specs.Settings.{settings_of};
 use crate::comparing::OTHER;
 use educe_attrs::{Setting, Settings, listed_by, settings_by};
 use educe_body::has_word;
+use educe_syntax::{DeriveInput, Field, Shape};
 use educe_tokens::Seq;
 use educe_traits::{Trait, Traits, all_listed, each_once};
-use educe_tree::{DeriveInput, Field, Shape};
 use std::alloc::{AllocError, Global};
 
 /// The traits that a definition lists, and the settings of its fields in their order.

@@ -14,9 +14,9 @@ use educe_body::{
     Body, Callee, Form, Forms, Function, Functions, ImplItem, Item, Known, Shared, built_in_path,
     key_word,
 };
+use educe_syntax::{DeriveInput, Duplicate, ExprPath, Field, Ident};
 use educe_tokens::{Boxed, Seq, Word, Written};
 use educe_traits::Trait;
-use educe_tree::{DeriveInput, Duplicate, ExprPath, Field, Ident};
 use std::alloc::{AllocError, Global};
 use std::cmp::Ordering;
 

@@ -1,16 +1,15 @@
 //! From the text of a definition to the text of its impls.
 ghost use Rattle.std.specs.Prelude.{◌≡◌, ◌≢◌, ◌≤◌, length, chars, IfOk, IfErr, IsCharBoundary};
-ghost use Rattle.educe_tree.specs.declared.derive.DeriveInput.{DeriveInput};
-ghost use Rattle.educe_grammar.specs.Parsed.{IsOnly};
+ghost use Rattle.educe_syntax.specs.DeriveInput.{DeriveInput};
+ghost use Rattle.educe_syntax.specs.Parsed.{IsOnly};
 ghost use Rattle.educe_tokens.specs.Message.{HasWords};
 ghost use Rattle.educe_core.specs.Headline.{Defines, IsExpansion, IsCause, IsValid};
 ghost use Rattle.educe_core.specs.Expansion.{text_of_expansion, items_of_expansion};
 
 use crate::handler::derive_input_handler;
 use educe_body::{Items, spell};
-use educe_parser::parse_derive_input;
+use educe_syntax::{DeriveInput, parse_derive_input};
 use educe_tokens::{EduceError, Kind, SOURCE_LIMIT, TokenSlice, lex};
-use educe_tree::DeriveInput;
 use std::alloc::Global;
 
 /// The impls of a definition, as text.

@@ -1,8 +1,8 @@
 //! From a definition to its items.
 ghost use Rattle.std.specs.Prelude.{◌≡◌, ◌≢◌, [], map, codes, IfOk, IfErr};
 ghost use Rattle.std.specs.List.{AllByRecursion};
-ghost use Rattle.educe_grammar.specs.Naming.{AreNamesApart};
-ghost use Rattle.educe_grammar.specs.Parsed as parsed;
+ghost use Rattle.educe_syntax.specs.Naming.{AreNamesApart};
+ghost use Rattle.educe_syntax.specs.Parsed as parsed;
 ghost use Rattle.educe_body.specs.Keys.{fields_of};
 ghost use Rattle.educe_body.specs.Words.{HasWord};
 ghost use Rattle.educe_core.specs.Blocks.{IsBlock, IsInOrder, HasNoCause, HasNoCauses, OneEach, EachEvaluates, IsTraitCause, IsListedCause};
@@ -21,9 +21,9 @@ use crate::ranked::Ranked;
 use crate::ranks::{by_rank, kept_fields};
 use educe_attrs::Settings;
 use educe_body::{Item, Items};
+use educe_syntax::DeriveInput;
 use educe_tokens::{EduceError, Kind, Seq, Span, Token};
 use educe_traits::{Trait, is_listed};
-use educe_tree::DeriveInput;
 use std::alloc::Global;
 
 /// The fields that take part in a trait, in the order in which it goes over them.

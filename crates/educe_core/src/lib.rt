@@ -13,7 +13,7 @@ mod ranks;
 mod refusing;
 mod settings;
 
-pub use educe_devices::{Failed, MemorySink, MemorySource, Sink, Source, Status, Stopped};
+pub use educe_core_devices::{Failed, MemorySink, MemorySource, Sink, Source, Status, Stopped};
 pub use expansion::{Expansion, expand};
 pub use handler::derive_input_handler;
 pub use program::run;

@@ -1,13 +1,13 @@
 //! The program as a function of its words and devices.
 ghost use Rattle.std.specs.Prelude.{◌≡◌, ◌≢◌, ◌⊎◌, ◌<◌, ◌≤◌, ◌↔◌, map, length, string_bytes, IsTrue, IsUtf8, IfSome};
-ghost use Rattle.educe_devices.specs.Devices.{Rose, TakesAtMost, change};
+ghost use Rattle.educe_core_devices.specs.Devices.{Rose, TakesAtMost, change};
 ghost use Rattle.educe_core.specs.Headline.{IsCause, IsValid};
 ghost use Rattle.educe_core.specs.Run.{Answers, expand_words};
-ghost use Rattle.educe_devices.specs.Status.{IsUnlessStopped};
+ghost use Rattle.educe_core_devices.specs.Status.{IsUnlessStopped};
 
 use crate::expansion::expand;
 use crate::refusing::refuse;
-use educe_devices::{Sink, Source, Status, Stopped, deliver, read_input};
+use educe_core_devices::{Sink, Source, Status, Stopped, deliver, read_input};
 use educe_tokens::{EduceError, Kind, SOURCE_LIMIT};
 use std::alloc::Global;
 

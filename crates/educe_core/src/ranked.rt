@@ -3,7 +3,7 @@ ghost use Rattle.std.specs.Prelude.{◌≡◌};
 ghost use Rattle.educe_core.specs.Settings.{settings_of};
 
 use educe_attrs::Setting;
-use educe_tree::Field;
+use educe_syntax::Field;
 
 /// A field that takes part in a trait, its settings, its place among all fields, counted from 0, and
 /// its rank.

@@ -14,8 +14,8 @@ use crate::handler_error::HandlerError;
 use crate::ranked::Ranked;
 use crate::settings::{is_kept, rank_of, rank_place};
 use educe_attrs::Settings;
+use educe_syntax::DeriveInput;
 use educe_traits::Trait;
-use educe_tree::DeriveInput;
 use std::alloc::{AllocError, Global};
 
 /// The fields that take part in a trait, in written order.

@@ -1,10 +1,10 @@
 //! How a refusal is shown.
 ghost use Rattle.std.specs.Prelude.{◌≡◌, ◌≢◌, ◌≤◌, length, IfOk, IsCharBoundary, string_bytes};
 ghost use Rattle.educe_tokens.specs.Message.{HasWords};
-ghost use Rattle.educe_devices.specs.Devices.{change};
+ghost use Rattle.educe_core_devices.specs.Devices.{change};
 ghost use Rattle.educe_core.specs.Run.{Refuses, refusal_line};
 
-use educe_devices::{Sink, Status, deliver};
+use educe_core_devices::{Sink, Status, deliver};
 use educe_tokens::{EduceError, Kind, SOURCE_LIMIT};
 use std::alloc::{AllocError, Global};
 

@@ -1,7 +1,7 @@
 -- What is by a rule is read, whatever follows that may: for each way to make a rule.
 use Rattle.std.proofs.Common.{◌≡◌, ◌≢◌, ℕ, zero, suc, ◌-◌, ◌<◌, Bool, true, false, not, ◌&&◌, [], ◌∷◌, ◌++◌, length, drop, refl, ap, sym, subst, ◌∙◌, ◌⊎◌, inl, inr, arith, Option, Some, None, Ok, IsTrue, append_assoc, length-append}
 use Rattle.std.proofs.Math.Seq.{take-append_seam}
-use Rattle.educe_pieces.specs.declared.kind.Bracket.{Bracket}
+use Rattle.educe_tokens.specs.Bracket.{Bracket}
 use Rattle.educe_tokens.specs.declared.token.Token.{Token}
 use Rattle.educe_tokens.specs.declared.written.Written.{Written}
 use Rattle.educe_tokens.specs.Lexes.{lexemes}

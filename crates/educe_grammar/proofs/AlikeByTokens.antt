@@ -1,10 +1,10 @@
 -- Tokens that are equal aside are alike types: expressions inside of them end at the same bracket, and the other rules decide the same.
 use Rattle.std.proofs.Common.{◌≡◌, ℕ, zero, suc, Bool, true, false, ◌&&◌, ◌||◌, List, [], ◌∷◌, ◌++◌, map, refl, ap, sym, subst, ◌∙◌, ◌⊎◌, inl, inr, ⊎_elim, Option, Some, None, Ok, arith}
 use Rattle.std.proofs.lemmas.Bool.{false≢true, both_ways, and_parts, or_cases}
-use Rattle.educe_pieces.specs.declared.kind.Bracket.{Bracket}
-use Rattle.educe_pieces.specs.declared.kind.Bracket.TheVariants.{Round, Square, Curly}
-use Rattle.educe_pieces.specs.declared.kind.TokenKind.{TokenKind}
-use Rattle.educe_pieces.specs.declared.kind.TokenKind.TheVariants as kind
+use Rattle.educe_tokens.specs.Bracket.{Bracket}
+use Rattle.educe_tokens.specs.Bracket.TheVariants.{Round, Square, Curly}
+use Rattle.educe_tokens.specs.TokenKind.{TokenKind}
+use Rattle.educe_tokens.specs.TokenKind.TheVariants as kind
 use Rattle.educe_tokens.specs.declared.token.Token.{Token}
 use Rattle.educe_tokens.specs.Brackets as brackets
 use Rattle.educe_tokens.specs.Lexes.{Lexeme}

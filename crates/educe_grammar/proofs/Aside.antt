@@ -2,9 +2,9 @@
 use Rattle.std.proofs.Common.{◌≡◌, ℕ, zero, suc, ◌-◌, Bool, true, false, ◌&&◌, ◌||◌, List, [], ◌∷◌, length, map, take, drop, refl, ap, sym, subst, ◌∙◌, ⊎_elim}
 use Rattle.std.specs.List.{list_all, list_any}
 use Rattle.std.proofs.lemmas.Bool.{false≢true, both_ways, and_parts, and_from, or_cases, or_left, or_right}
-use Rattle.educe_pieces.specs.declared.kind.Bracket.{Bracket}
-use Rattle.educe_pieces.specs.declared.kind.TokenKind.{TokenKind}
-use Rattle.educe_pieces.specs.declared.kind.TokenKind.TheVariants as kind
+use Rattle.educe_tokens.specs.Bracket.{Bracket}
+use Rattle.educe_tokens.specs.TokenKind.{TokenKind}
+use Rattle.educe_tokens.specs.TokenKind.TheVariants as kind
 use Rattle.educe_tokens.specs.declared.token.Token.{Token}
 use Rattle.educe_tokens.specs.Lexes.{Lexeme}
 use Rattle.educe_tokens.proofs.Tokens.{cons_parts, nil_not_cons}

@@ -1,10 +1,10 @@
 -- What a rule reads has whole bracket pairs; where it reads no documentation, it may be copied.
 use Rattle.std.proofs.Common.{◌≡◌, ℕ, ◌+◌, Bool, true, false, List, [], ◌∷◌, ◌++◌, refl, ap, sym, subst, ◌∙◌, inl, inr, arith, Ok, IsTrue, append_assoc, append-nil}
 use Rattle.std.proofs.lemmas.List.Folds.{list_all-append}
-use Rattle.educe_pieces.specs.declared.kind.Bracket.{Bracket}
-use Rattle.educe_pieces.specs.declared.kind.Bracket.TheVariants.{Round, Square, Curly}
-use Rattle.educe_pieces.specs.declared.kind.TokenKind.{TokenKind}
-use Rattle.educe_pieces.specs.declared.kind.TokenKind.TheVariants as kind
+use Rattle.educe_tokens.specs.Bracket.{Bracket}
+use Rattle.educe_tokens.specs.Bracket.TheVariants.{Round, Square, Curly}
+use Rattle.educe_tokens.specs.TokenKind.{TokenKind}
+use Rattle.educe_tokens.specs.TokenKind.TheVariants as kind
 use Rattle.educe_tokens.specs.declared.token.Token.{Token}
 use Rattle.educe_tokens.specs.Brackets.{same_bracket, kinds}
 use Rattle.educe_tokens.specs.Brackets as brackets

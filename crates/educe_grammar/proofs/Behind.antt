@@ -1,6 +1,6 @@
 -- The tokens behind a beginning, by their number.
 use Rattle.std.proofs.Common.{◌≡◌, ℕ, [], ◌∷◌, drop, refl}
-use Rattle.educe_pieces.specs.declared.kind.Bracket.{Bracket}
+use Rattle.educe_tokens.specs.Bracket.{Bracket}
 use Rattle.educe_grammar.specs.declared.terminal.Terminal.{Terminal}
 use Rattle.educe_grammar.specs.Steps.{Tokens}
 use Rattle.educe_grammar.specs.Ahead.{one, start, pair, behind}

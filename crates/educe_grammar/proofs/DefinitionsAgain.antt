@@ -1,7 +1,7 @@
 -- Definitions are read, whatever follows them.
 use Rattle.std.proofs.Common.{◌≡◌, ℕ, ◌-◌, ◌<◌, ◌≤◌, Bool, true, false, ◌&&◌, ◌||◌, [], ◌∷◌, ◌++◌, refl, arith}
 use Rattle.std.specs.List.{list_any}
-use Rattle.educe_pieces.specs.declared.kind.Bracket.TheVariants.{Round, Curly}
+use Rattle.educe_tokens.specs.Bracket.TheVariants.{Round, Curly}
 use Rattle.educe_tree.specs.declared.ty.Ty.{Ty}
 use Rattle.educe_grammar.specs.declared.terminal.Keyword.TheVariants as keyword
 use Rattle.educe_grammar.specs.declared.terminal.Terminal.TheVariants as terminal

@@ -1,6 +1,6 @@
 -- How types and expressions end, and what may stand behind them.
 use Rattle.std.proofs.Common.{◌≡◌, Bool, true, false, [], ◌∷◌, refl, sym, ◌∙◌}
-use Rattle.educe_pieces.specs.declared.kind.Bracket.TheVariants.{Round, Square, Curly}
+use Rattle.educe_tokens.specs.Bracket.TheVariants.{Round, Square, Curly}
 use Rattle.educe_grammar.specs.declared.ending.Ending.{Ending}
 use Rattle.educe_grammar.specs.declared.ending.Ending.TheVariants.{Closed, Arguments, Name}
 use Rattle.educe_grammar.specs.declared.terminal.Terminal.TheVariants.{Sign}

@@ -2,7 +2,7 @@
 use Rattle.std.proofs.Common.{◌≡◌, ℕ, zero, suc, ◌-◌, Bool, true, false, IsTrue, not, ◌&&◌, ◌||◌, List, [], ◌∷◌, ◌++◌, length, refl, sym, ap, subst, ◌∙◌, ⊎_elim, append_assoc}
 use Rattle.std.specs.Prelude.{if◌then◌else◌}
 use Rattle.std.proofs.lemmas.Bool.{false≢true, both_ways, and_parts, and_from, and_right, or_cases, or_left, false_from_ne_true}
-use Rattle.educe_pieces.specs.declared.kind.Bracket.{Bracket}
+use Rattle.educe_tokens.specs.Bracket.{Bracket}
 use Rattle.educe_tokens.specs.declared.token.Token.{Token}
 use Rattle.educe_grammar.specs.declared.terminal.Terminal.{Terminal}
 use Rattle.educe_grammar.specs.declared.terminal.Terminal.TheVariants.{Sign}

@@ -4,8 +4,8 @@ use Rattle.std.specs.List.{list_any, filter}
 use Rattle.std.specs.Prelude.{if◌then◌else◌}
 use Rattle.std.proofs.lemmas.Bool.{false≢true, and_parts, and_from, or_cases, or_left, or_right}
 use Rattle.std.proofs.lemmas.List.Folds.{list_any-append}
-use Rattle.educe_pieces.specs.declared.kind.TokenKind.{TokenKind}
-use Rattle.educe_pieces.specs.declared.kind.TokenKind.TheVariants as kind
+use Rattle.educe_tokens.specs.TokenKind.{TokenKind}
+use Rattle.educe_tokens.specs.TokenKind.TheVariants as kind
 use Rattle.educe_tokens.specs.declared.token.Token.{Token}
 use Rattle.educe_grammar.specs.declared.operator.Operator.{Operator}
 use Rattle.educe_grammar.specs.declared.operator.Operator.TheVariants.{Joins, Compares, Less, ShiftsLeft, Calculates}

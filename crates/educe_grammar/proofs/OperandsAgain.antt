@@ -1,6 +1,6 @@
 -- Operands are read, whatever follows that may.
 use Rattle.std.proofs.Common.{◌≡◌, ℕ, ◌≤◌, false, List, [], ◌∷◌, ◌++◌, refl, inl, inr}
-use Rattle.educe_pieces.specs.declared.kind.Bracket.TheVariants.{Curly}
+use Rattle.educe_tokens.specs.Bracket.TheVariants.{Curly}
 use Rattle.educe_tree.specs.declared.path.Segment.{Segment}
 use Rattle.educe_tree.specs.declared.expr.ExprForm.TheVariants as form
 use Rattle.educe_grammar.specs.declared.terminal.Terminal.TheVariants as terminal

@@ -2,7 +2,7 @@
 use Rattle.std.proofs.Common.{◌≡◌, ℕ, zero, suc, ◌-◌, Bool, true, false, ◌&&◌, ◌||◌, List, [], ◌∷◌, ◌++◌, length, map, drop, refl, ap, sym, subst, ◌∙◌, ◌⊎◌, inl, inr, ⊎_elim, Ok, Err, IsTrue, append_assoc, append-nil}
 use Rattle.std.specs.Prelude.{if◌then◌else◌}
 use Rattle.std.proofs.lemmas.Bool.{false≢true, both_ways, and_parts, or_cases}
-use Rattle.educe_pieces.specs.declared.kind.Bracket.TheVariants.{Round, Square, Curly}
+use Rattle.educe_tokens.specs.Bracket.TheVariants.{Round, Square, Curly}
 use Rattle.educe_tokens.specs.declared.token.Token.{Token}
 use Rattle.educe_tokens.specs.Copied.{may_be_copied}
 use Rattle.educe_tokens.specs.Lexes.{lexemes}

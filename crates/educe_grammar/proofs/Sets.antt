@@ -4,10 +4,10 @@ use Rattle.std.specs.List.{list_any, list_all}
 use Rattle.std.specs.Str.{bytes_eq}
 use Rattle.std.proofs.lemmas.Bool.{false≢true, both_ways, not-true, and_parts, and_left, or_cases, or_from, or_left, or_right, false_from_ne_true, eqb-true, eq-eqb}
 use Rattle.std.proofs.lemmas.Slice.Eq.{bytes_eq-Decides}
-use Rattle.educe_pieces.specs.declared.kind.TokenKind.{TokenKind}
-use Rattle.educe_pieces.specs.declared.kind.TokenKind.TheVariants as kind
-use Rattle.educe_pieces.specs.declared.kind.LiteralKind.{LiteralKind}
-use Rattle.educe_pieces.specs.declared.kind.LiteralKind.TheVariants as literal
+use Rattle.educe_tokens.specs.TokenKind.{TokenKind}
+use Rattle.educe_tokens.specs.TokenKind.TheVariants as kind
+use Rattle.educe_tokens.specs.LiteralKind.{LiteralKind}
+use Rattle.educe_tokens.specs.LiteralKind.TheVariants as literal
 use Rattle.educe_tree.specs.Names.{is_name, is_keyword}
 use Rattle.educe_grammar.specs.declared.terminal.Keyword.{Keyword}
 use Rattle.educe_grammar.specs.declared.terminal.Keyword.TheVariants.{As, Const, Crate, Dyn, Enum, Extern, False, Fn, For, In, Mut, Pub, SelfType, SelfValue, Struct, Super, True, Underscore, Unsafe, Where}

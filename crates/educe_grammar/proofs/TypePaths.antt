@@ -1,7 +1,7 @@
 -- Paths in types are read, whatever follows that may.
 use Rattle.std.proofs.Common.{◌≡◌, ◌≢◌, ℕ, ◌-◌, ◌≤◌, Bool, true, false, List, [], ◌∷◌, ◌++◌, map, Option, Some, None, refl, ap, sym, subst, ◌∙◌, inl, inr, cond, arith}
 use Rattle.std.proofs.lemmas.Bool.{and_parts, and_from, or_left}
-use Rattle.educe_pieces.specs.declared.kind.Bracket.TheVariants.{Round}
+use Rattle.educe_tokens.specs.Bracket.TheVariants.{Round}
 use Rattle.educe_tokens.specs.declared.token.Token.{Token}
 use Rattle.educe_tree.specs.declared.path.Path.{Path}
 use Rattle.educe_tree.specs.declared.ty.Ty.{Ty}

@@ -1,6 +1,6 @@
 -- Types and bounds are read, whatever follows that may.
 use Rattle.std.proofs.Common.{◌≡◌, ℕ, ◌-◌, ◌<◌, ◌≤◌, true, false, List, [], ◌∷◌, Option, Some, None, refl, arith}
-use Rattle.educe_pieces.specs.declared.kind.Bracket.TheVariants.{Round}
+use Rattle.educe_tokens.specs.Bracket.TheVariants.{Round}
 use Rattle.educe_tree.specs.declared.ty.Ty.{Ty}
 use Rattle.educe_grammar.specs.declared.ending.Ending.{Ending}
 use Rattle.educe_grammar.specs.declared.ending.Ending.TheVariants.{Closed, Name}

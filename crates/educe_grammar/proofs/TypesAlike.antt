@@ -1,7 +1,7 @@
 -- Types that are read of lists that are equal aside are alike.
 use Rattle.std.proofs.Common.{◌≡◌, ℕ, Bool, true, false, List, [], ◌++◌, map, refl, ap, sym, subst, ◌∙◌, inl, inr, Option, Some, None}
 use Rattle.std.specs.List.{cons_option}
-use Rattle.educe_pieces.specs.declared.kind.Bracket.{Bracket}
+use Rattle.educe_tokens.specs.Bracket.{Bracket}
 use Rattle.educe_tree.specs.declared.ident.Ident.{Ident}
 use Rattle.educe_tree.specs.declared.lifetime.Lifetime.{Lifetime}
 use Rattle.educe_tree.specs.declared.expr.Expr.{Expr}

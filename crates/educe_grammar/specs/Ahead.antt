@@ -2,9 +2,9 @@
 use Rattle.std.specs.Prelude.{◌≡◌, ℕ, ◌==◌, Bool, true, false, not, ◌&&◌, List, [], ◌∷◌}
 use Rattle.std.specs.List.{list_any}
 use denote.Ref.{Bor}
-use Rattle.educe_pieces.specs.declared.kind.TokenKind.{TokenKind}
-use Rattle.educe_pieces.specs.declared.kind.TokenKind.TheVariants as kind
-use Rattle.educe_pieces.specs.declared.kind.Bracket.{Bracket}
+use Rattle.educe_tokens.specs.TokenKind.{TokenKind}
+use Rattle.educe_tokens.specs.TokenKind.TheVariants as kind
+use Rattle.educe_tokens.specs.Bracket.{Bracket}
 use Rattle.educe_tokens.specs.declared.token.Token.{Token}
 use Rattle.educe_tokens.specs.Brackets.{same_bracket}
 use Rattle.educe_grammar.specs.declared.terminal.Terminal.{Terminal}

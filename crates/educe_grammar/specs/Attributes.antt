@@ -1,6 +1,6 @@
 -- Attributes and metas (Rust Reference, Attributes).
 use Rattle.std.specs.Prelude.{◌-◌, Bool, List, [], ◌∷◌, length, slice_get, Option, Some}
-use Rattle.educe_pieces.specs.declared.kind.Bracket.TheVariants.{Round, Square, Curly}
+use Rattle.educe_tokens.specs.Bracket.TheVariants.{Round, Square, Curly}
 use Rattle.educe_tokens.specs.declared.span.Span.{Span}
 use Rattle.educe_tokens.specs.declared.token.Token.{Token}
 use Rattle.educe_tokens.specs.declared.written.Written.{Written}

@@ -1,6 +1,6 @@
 -- What stands in brackets or behind a token, as a plain program.
 use Rattle.std.specs.Prelude.{ℕ, List, [], suc, length, if◌then◌else◌, Option, Some, None, Ok}
-use Rattle.educe_pieces.specs.declared.kind.Bracket.{Bracket}
+use Rattle.educe_tokens.specs.Bracket.{Bracket}
 use Rattle.educe_grammar.specs.declared.terminal.Terminal.{Terminal}
 use Rattle.educe_grammar.specs.declared.terminal.Terminal.TheVariants.{Sign}
 use Rattle.educe_grammar.specs.Terminals.{accepts}

@@ -1,6 +1,6 @@
 -- Rules made of others: the words in which productions are written.
 use Rattle.std.specs.Prelude.{ℕ, Bool, true, false, List, [], ◌∷◌, Option, Some, None}
-use Rattle.educe_pieces.specs.declared.kind.Bracket.TheVariants.{Round, Curly}
+use Rattle.educe_tokens.specs.Bracket.TheVariants.{Round, Curly}
 use Rattle.educe_grammar.specs.declared.terminal.Keyword.{Keyword}
 use Rattle.educe_grammar.specs.declared.terminal.Terminal.TheVariants.{Word, Sign}
 use Rattle.educe_grammar.specs.Ahead.{Ahead, one, stop, pair, lone, Look}

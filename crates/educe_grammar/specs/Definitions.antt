@@ -1,6 +1,6 @@
 -- Definitions of structs and enums (Rust Reference, Structs; Enumerations; Visibility and privacy).
 use Rattle.std.specs.Prelude.{List, [], ◌∷◌, Option, Some, None}
-use Rattle.educe_pieces.specs.declared.kind.Bracket.TheVariants.{Round, Curly}
+use Rattle.educe_tokens.specs.Bracket.TheVariants.{Round, Curly}
 use Rattle.educe_tree.specs.declared.attr.Attribute.{Attribute}
 use Rattle.educe_tree.specs.declared.data.Field.{Field}
 use Rattle.educe_tree.specs.declared.data.FieldForm.TheVariants.{Named, Unnamed, Unit as UnitForm}

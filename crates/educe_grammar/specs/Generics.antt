@@ -1,6 +1,6 @@
 -- Generic parameters and where-clauses (Rust Reference, Generic parameters).
 use Rattle.std.specs.Prelude.{Bool, List, [], ◌∷◌}
-use Rattle.educe_pieces.specs.declared.kind.Bracket.TheVariants.{Curly}
+use Rattle.educe_tokens.specs.Bracket.TheVariants.{Curly}
 use Rattle.educe_tokens.specs.declared.written.Written.{Written}
 use Rattle.educe_tree.specs.declared.ident.Ident.{Ident}
 use Rattle.educe_tree.specs.declared.lifetime.Lifetime.{Lifetime}

@@ -1,7 +1,7 @@
 -- Operators with two operands (Rust Reference, Operator expressions).
 use Rattle.std.specs.Prelude.{ℕ, ◌==◌, true, ◌&&◌, if◌then◌else◌, [], ◌∷◌, Option, Some, None}
-use Rattle.educe_pieces.specs.declared.kind.TokenKind.{TokenKind}
-use Rattle.educe_pieces.specs.declared.kind.TokenKind.TheVariants as kind
+use Rattle.educe_tokens.specs.TokenKind.{TokenKind}
+use Rattle.educe_tokens.specs.TokenKind.TheVariants as kind
 use Rattle.educe_grammar.specs.Steps.{Tokens}
 use Rattle.educe_grammar.specs.declared.operator.Operator.{Operator}
 use Rattle.educe_grammar.specs.declared.operator.Operator.TheVariants.{Joins, Compares, Less, ShiftsLeft, Calculates}

@@ -1,6 +1,6 @@
 -- Why the tokens of a definition are refused.
 use Rattle.std.specs.Prelude.{◌≡◌, List, [], ◌∷◌, ◌++◌, codes}
-use Rattle.educe_pieces.specs.declared.kind.TokenKind.TheVariants as kind
+use Rattle.educe_tokens.specs.TokenKind.TheVariants as kind
 use Rattle.educe_tokens.specs.declared.token.Token.{Token}
 use Rattle.educe_tokens.specs.declared.error.EduceError.{EduceError}
 use Rattle.educe_tokens.specs.declared.error.Kind.TheVariants.{NotCarried, Alloc}

@@ -1,6 +1,6 @@
 -- Rules: how the productions of a grammar are made of tokens, brackets, lists and parts.
 use Rattle.std.specs.Prelude.{ℕ, Bool, List}
-use Rattle.educe_pieces.specs.declared.kind.Bracket.{Bracket}
+use Rattle.educe_tokens.specs.Bracket.{Bracket}
 use Rattle.educe_tokens.specs.declared.written.Written.{Written}
 use Rattle.educe_tree.specs.declared.ty.Ty.{Ty}
 use Rattle.educe_tree.specs.declared.expr.Expr.{Expr}

@@ -2,10 +2,10 @@
 use Rattle.std.specs.Prelude.{ℕ, ◌==◌, Bool, true, false, ◌&&◌, ◌||◌, List, [], ◌∷◌, codes}
 use Rattle.std.specs.List.{list_any}
 use Rattle.std.specs.Str.{bytes_eq}
-use Rattle.educe_pieces.specs.declared.kind.TokenKind.{TokenKind}
-use Rattle.educe_pieces.specs.declared.kind.TokenKind.TheVariants as kind
-use Rattle.educe_pieces.specs.declared.kind.LiteralKind.{LiteralKind}
-use Rattle.educe_pieces.specs.declared.kind.LiteralKind.TheVariants as literal
+use Rattle.educe_tokens.specs.TokenKind.{TokenKind}
+use Rattle.educe_tokens.specs.TokenKind.TheVariants as kind
+use Rattle.educe_tokens.specs.LiteralKind.{LiteralKind}
+use Rattle.educe_tokens.specs.LiteralKind.TheVariants as literal
 use Rattle.educe_tokens.specs.declared.token.Token.{Token}
 use Rattle.educe_tree.specs.Names.{is_name}
 use Rattle.educe_grammar.specs.declared.terminal.Keyword.{Keyword}

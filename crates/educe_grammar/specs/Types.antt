@@ -2,7 +2,7 @@
 use Rattle.std.specs.Prelude.{ℕ, Bool, true, false, not, ◌&&◌, if◌then◌else◌, List, [], ◌∷◌, ◌++◌, map, Option, Some, None, codes}
 use Rattle.std.specs.List.{filter_map}
 use Rattle.std.specs.Str.{bytes_eq}
-use Rattle.educe_pieces.specs.declared.kind.Bracket.TheVariants.{Round, Square, Curly}
+use Rattle.educe_tokens.specs.Bracket.TheVariants.{Round, Square, Curly}
 use Rattle.educe_tokens.specs.declared.written.Written.{Written}
 use Rattle.educe_tree.specs.declared.ident.Ident.{Ident}
 use Rattle.educe_tree.specs.declared.expr.Expr.{Expr}

@@ -1,6 +1,6 @@
 //! What stands in brackets, an item or a list with commas, and what may stand behind a token.
 ghost use Rattle.std.specs.Prelude.{◌≡◌, ◌+◌, ◌-◌, ℕ};
-ghost use Rattle.educe_pieces.specs.declared.kind.Bracket.TheVariants as bracket;
+ghost use Rattle.educe_tokens.specs.Bracket.TheVariants as bracket;
 ghost use Rattle.educe_grammar.specs.Ahead.{sees_any, stop};
 ghost use Rattle.educe_grammar.specs.Bracketed as spec;
 ghost use Rattle.educe_grammar.specs.Bracketed.{comma_items};

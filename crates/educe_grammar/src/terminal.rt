@@ -2,7 +2,7 @@
 ghost use Rattle.std.specs.Prelude.{◌≡◌, chars};
 ghost use Rattle.std.specs.List.{list_any};
 ghost use Rattle.std.specs.Str.{bytes_eq};
-ghost use Rattle.educe_pieces.specs.declared.kind.TokenKind.TheVariants as kind;
+ghost use Rattle.educe_tokens.specs.TokenKind.TheVariants as kind;
 ghost use Rattle.educe_grammar.specs.Terminals as spec;
 
 use educe_tokens::{LiteralKind, Spelling, Token, TokenKind};

@@ -23,7 +23,7 @@ use crate::duplicate_names::first_duplicate;
 use crate::knot::{definition, expr_path, expression, metas, predicates};
 use crate::unions::{union_error, union_word};
 use crate::whole::whole;
-use educe_paths::name;
+use educe_parser_paths::name;
 use educe_tokens::{EduceError, Kind, TokenSlice};
 use educe_tree::{DeriveInput, Expr, ExprPath, Ident, Metas, Predicates};
 use std::alloc::Global;

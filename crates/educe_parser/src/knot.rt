@@ -36,7 +36,7 @@ macro_rules! parts {
 fn ty(alloc: Global, cursor: &mut Cursor<'_>, budget: u8) -> Result<Ty, ParseError>
     ensures { Gives (readers budget types cursor.old) result cursor.new }
 {
-    educe_types::any_type(&parts!(alloc), cursor, budget)
+    educe_parser_types::any_type(&parts!(alloc), cursor, budget)
 }
 
 /// A type whose `dyn` has one bound (Rust Reference, Type expressions).
@@ -45,7 +45,7 @@ fn ty(alloc: Global, cursor: &mut Cursor<'_>, budget: u8) -> Result<Ty, ParseErr
 fn plain(alloc: Global, cursor: &mut Cursor<'_>, budget: u8) -> Result<Typed, ParseError>
     ensures { Gives (readers budget plains cursor.old) result cursor.new }
 {
-    educe_types::plain_type(&parts!(alloc), cursor, budget)
+    educe_parser_types::plain_type(&parts!(alloc), cursor, budget)
 }
 
 /// An expression (Rust Reference, Expressions).
@@ -54,28 +54,28 @@ fn plain(alloc: Global, cursor: &mut Cursor<'_>, budget: u8) -> Result<Typed, Pa
 fn expr(alloc: Global, cursor: &mut Cursor<'_>, budget: u8) -> Result<Expr, ParseError>
     ensures { Gives (readers budget exprs cursor.old) result cursor.new }
 {
-    educe_expressions::expression(&parts!(alloc), cursor, budget)
+    educe_parser_expressions::expression(&parts!(alloc), cursor, budget)
 }
 
 /// The path of an expression, with the whole budget (Rust Reference, Path expressions).
 pub fn expr_path(alloc: Global, cursor: &mut Cursor<'_>) -> Result<ExprPath, ParseError>
     ensures { Gives (read depth_limit spec.expr_path cursor.old) result cursor.new }
 {
-    educe_expressions::expr_path(&parts!(alloc), cursor, DEPTH_LIMIT)
+    educe_parser_expressions::expr_path(&parts!(alloc), cursor, DEPTH_LIMIT)
 }
 
 /// An expression, with the whole budget (Rust Reference, Expressions).
 pub fn expression(alloc: Global, cursor: &mut Cursor<'_>) -> Result<Expr, ParseError>
     ensures { Gives (read depth_limit spec.expression cursor.old) result cursor.new }
 {
-    educe_expressions::expression(&parts!(alloc), cursor, DEPTH_LIMIT)
+    educe_parser_expressions::expression(&parts!(alloc), cursor, DEPTH_LIMIT)
 }
 
 /// The predicates of a where clause, with the whole budget (Rust Reference, Where clauses).
 pub fn predicates(alloc: Global, cursor: &mut Cursor<'_>) -> Result<Predicates, ParseError>
     ensures { Gives (read depth_limit generics.predicates cursor.old) result cursor.new }
 {
-    educe_items::predicates(&parts!(alloc), cursor, DEPTH_LIMIT)
+    educe_parser_definitions::predicates(&parts!(alloc), cursor, DEPTH_LIMIT)
 }
 
 /// The items of a list in an attribute, with the whole budget (Rust Reference, Meta item attribute
@@ -83,12 +83,12 @@ pub fn predicates(alloc: Global, cursor: &mut Cursor<'_>) -> Result<Predicates, 
 pub fn metas(alloc: Global, cursor: &mut Cursor<'_>) -> Result<Metas, ParseError>
     ensures { Gives (read depth_limit attributes.metas cursor.old) result cursor.new }
 {
-    educe_items::metas(&parts!(alloc), cursor, DEPTH_LIMIT)
+    educe_parser_definitions::metas(&parts!(alloc), cursor, DEPTH_LIMIT)
 }
 
 /// A definition, with the whole budget (Rust Reference, Items).
 pub fn definition(alloc: Global, cursor: &mut Cursor<'_>) -> Result<DeriveInput, ParseError>
     ensures { Gives (read depth_limit definitions.definition cursor.old) result cursor.new }
 {
-    educe_items::definition(&parts!(alloc), cursor, DEPTH_LIMIT)
+    educe_parser_definitions::definition(&parts!(alloc), cursor, DEPTH_LIMIT)
 }

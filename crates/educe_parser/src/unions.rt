@@ -13,7 +13,7 @@ ghost use Rattle.educe_grammar.specs.Steps.{Gives};
 
 use crate::knot::DEPTH_LIMIT;
 use educe_grammar::{Cursor, ParseError};
-use educe_items::{attributes, visibility};
+use educe_parser_definitions::{attributes, visibility};
 use educe_tokens::{EduceError, Kind, Token, TokenKind, TokenSlice};
 use std::alloc::{AllocError, Global};
 

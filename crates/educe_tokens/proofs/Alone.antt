@@ -1,14 +1,14 @@
 -- A text has one lexical cause to be refused, want of memory aside.
 use Rattle.std.proofs.Common.{◌≡◌, ◌≢◌, ℕ, ◌+◌, ◌≤◌, true, Option, Some, None, List, [], ◌∷◌, ◌++◌, length, refl, sym, ap, ◌∙◌, subst, arith, nat_le, encode_utf8_all}
 use Rattle.std.proofs.lemmas.Bool.{and_parts, false≢true}
-use Rattle.educe_pieces.specs.declared.kind.Bracket.{Bracket}
-use Rattle.educe_pieces.specs.declared.kind.TokenKind.{TokenKind}
-use Rattle.educe_pieces.specs.declared.kind.TokenKind.TheVariants.{Start}
-use Rattle.educe_pieces.specs.declared.kind.UncarriedKind.{UncarriedKind}
-use Rattle.educe_pieces.specs.declared.kind.PieceKind.TheVariants.{Uncarried}
-use Rattle.educe_scan.specs.Scan.{piece_at}
-use Rattle.educe_scan.specs.Reading.{Piece, IsPiece, Reads, FitsNone}
-use Rattle.educe_scan.proofs.Readings.{one_piece, piece_finds, none_not_found, no_piece_at_end}
+use Rattle.educe_tokens_pieces.specs.declared.kind.Bracket.{Bracket}
+use Rattle.educe_tokens_pieces.specs.declared.kind.TokenKind.{TokenKind}
+use Rattle.educe_tokens_pieces.specs.declared.kind.TokenKind.TheVariants.{Start}
+use Rattle.educe_tokens_pieces.specs.declared.kind.UncarriedKind.{UncarriedKind}
+use Rattle.educe_tokens_pieces.specs.declared.kind.PieceKind.TheVariants.{Uncarried}
+use Rattle.educe_tokens_scan.specs.Scan.{piece_at}
+use Rattle.educe_tokens_scan.specs.Reading.{Piece, IsPiece, Reads, FitsNone}
+use Rattle.educe_tokens_scan.proofs.Readings.{one_piece, piece_finds, none_not_found, no_piece_at_end}
 use Rattle.educe_tokens.specs.declared.error.EduceError.{EduceError}
 use Rattle.educe_tokens.specs.declared.error.Kind.TheVariants.{Alloc}
 use Rattle.educe_tokens.specs.declared.token.Token.{Token}

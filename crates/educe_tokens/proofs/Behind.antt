@@ -3,11 +3,11 @@ use Rattle.std.proofs.Common.{◌≡◌, ℕ, true, List, [], ◌∷◌, ◌++�
 use Rattle.std.proofs.lemmas.Bool.{and_parts, and_from}
 use Rattle.std.proofs.lemmas.List.{map-append}
 use Rattle.std.proofs.lemmas.List.Elements.{filter-append}
-use Rattle.educe_pieces.specs.declared.kind.PieceKind.TheVariants.{Blank}
-use Rattle.educe_pieces.specs.Pieces.{is_piece}
-use Rattle.educe_scan.specs.Reading.{Piece, IsPiece, Reads}
-use Rattle.educe_scan.proofs.Following.{may_precede-line_feed}
-use Rattle.educe_scan.proofs.Readings.{piece_longest}
+use Rattle.educe_tokens_pieces.specs.declared.kind.PieceKind.TheVariants.{Blank}
+use Rattle.educe_tokens_pieces.specs.Pieces.{is_piece}
+use Rattle.educe_tokens_scan.specs.Reading.{Piece, IsPiece, Reads}
+use Rattle.educe_tokens_scan.proofs.Following.{may_precede-line_feed}
+use Rattle.educe_tokens_scan.proofs.Readings.{piece_longest}
 use Rattle.educe_tokens.specs.Lexes.{Lexeme, LexesAside, is_token, is_carried, are_carried, piece_of}
 
 -- a piece stays a piece with a line feed behind the rest

@@ -2,7 +2,7 @@
 use Rattle.std.proofs.Common.{◌≡◌, ℕ, suc, ◌+◌, ◌<◌, ◌≤◌, true, Some, List, [], ◌∷◌, ◌++◌, length, take, drop, get_or, refl, sym, ap, ◌∙◌, subst, arith, encode_utf8_all, append-nil}
 use Rattle.std.proofs.Math.Seq.{split_at, take-suc}
 use Rattle.std.proofs.lemmas.List.{take_all}
-use Rattle.educe_pieces.specs.declared.kind.Bracket.{Bracket}
+use Rattle.educe_tokens_pieces.specs.declared.kind.Bracket.{Bracket}
 use Rattle.educe_tokens.specs.declared.brackets.BracketError.{BracketError}
 use Rattle.educe_tokens.specs.declared.brackets.BracketError.TheVariants.{WrongClose, TooDeep, Alloc}
 use Rattle.educe_tokens.specs.declared.error.EduceError.{EduceError}

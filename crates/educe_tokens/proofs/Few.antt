@@ -2,10 +2,10 @@
 use Rattle.std.proofs.Common.{◌≡◌, ℕ, ◌<◌, ◌≤◌, Bool, Option, Some, List, [], ◌∷◌, ◌++◌, length, map, filter, ap, ◌∙◌, subst, arith, length-append, IsUtf8, chars}
 use Rattle.std.proofs.lemmas.Bool.{cond_both}
 use Rattle.std.proofs.lemmas.Str.{length-le-encodes, encodes-chars}
-use Rattle.educe_pieces.specs.declared.kind.PieceKind.{PieceKind}
-use Rattle.educe_scan.specs.Reading.{Piece, IsPiece, Reads}
-use Rattle.educe_scan.specs.Scan.{piece_at}
-use Rattle.educe_scan.proofs.Readings.{IsFound, piece_is, piece_finds}
+use Rattle.educe_tokens_pieces.specs.declared.kind.PieceKind.{PieceKind}
+use Rattle.educe_tokens_scan.specs.Reading.{Piece, IsPiece, Reads}
+use Rattle.educe_tokens_scan.specs.Scan.{piece_at}
+use Rattle.educe_tokens_scan.proofs.Readings.{IsFound, piece_is, piece_finds}
 use Rattle.educe_tokens.specs.declared.token.Token.{Token}
 use Rattle.educe_tokens.specs.Lexes.{lexemes, piece_of, Lexes, is_token}
 

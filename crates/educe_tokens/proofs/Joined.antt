@@ -3,14 +3,14 @@ use Rattle.std.proofs.Common.{◌≡◌, ℕ, Bool, true, false, ◌&&◌, not, 
 use Rattle.std.specs.Prelude.{◌==◌}
 use Rattle.std.specs.Bool.{beq}
 use Rattle.std.proofs.lemmas.Bool.{false≢true, and_parts, and_from, eq-eqb}
-use Rattle.educe_pieces.specs.declared.kind.TokenKind.{TokenKind}
-use Rattle.educe_pieces.specs.declared.kind.TokenKind.TheVariants.{Ident, Lifetime, Literal, Punct, Start, Stop, Doc}
-use Rattle.educe_pieces.specs.declared.kind.PieceKind.{PieceKind}
-use Rattle.educe_pieces.specs.declared.kind.PieceKind.TheVariants.{Blank, Comment, Token as TokenPiece, Uncarried}
-use Rattle.educe_pieces.specs.Chars.{begins, is_punct, is_slash_or_star}
-use Rattle.educe_pieces.specs.Pieces.{is_joint, is_piece}
-use Rattle.educe_scan.specs.Reading.{Piece, IsPiece, Reads}
-use Rattle.educe_scan.proofs.Readings.{one_piece}
+use Rattle.educe_tokens_pieces.specs.declared.kind.TokenKind.{TokenKind}
+use Rattle.educe_tokens_pieces.specs.declared.kind.TokenKind.TheVariants.{Ident, Lifetime, Literal, Punct, Start, Stop, Doc}
+use Rattle.educe_tokens_pieces.specs.declared.kind.PieceKind.{PieceKind}
+use Rattle.educe_tokens_pieces.specs.declared.kind.PieceKind.TheVariants.{Blank, Comment, Token as TokenPiece, Uncarried}
+use Rattle.educe_tokens_pieces.specs.Chars.{begins, is_punct, is_slash_or_star}
+use Rattle.educe_tokens_pieces.specs.Pieces.{is_joint, is_piece}
+use Rattle.educe_tokens_scan.specs.Reading.{Piece, IsPiece, Reads}
+use Rattle.educe_tokens_scan.proofs.Readings.{one_piece}
 use Rattle.educe_tokens.specs.Lexes.{Lexeme, LexesAside, is_token}
 use Rattle.educe_tokens.specs.Brackets.{kinds, IsBalanced}
 use Rattle.educe_tokens.specs.Text.{is_punct_behind, punct_joins, puncts_join, joins_well, have_no_doc, IsWellFormed}

@@ -5,22 +5,22 @@ use Rattle.std.specs.List.{list_all}
 use Rattle.std.specs.Str.{IsUtf8}
 use Rattle.std.proofs.lemmas.List.{length-take-le}
 use Rattle.std.proofs.lemmas.Str.{encodes-chars, length-le-encodes, IsUtf8-take}
-use Rattle.educe_pieces.specs.Pieces.{is_piece}
-use Rattle.educe_scan.specs.InPlace.{IsFront}
-use Rattle.educe_pieces.specs.Chars.{is_blank}
-use Rattle.educe_pieces.specs.Fronts.{HasFront}
+use Rattle.educe_tokens_pieces.specs.Pieces.{is_piece}
+use Rattle.educe_tokens_scan.specs.InPlace.{IsFront}
+use Rattle.educe_tokens_pieces.specs.Chars.{is_blank}
+use Rattle.educe_tokens_pieces.specs.Fronts.{HasFront}
 use Rattle.std.proofs.lemmas.List.{map-append}
 use Rattle.std.proofs.lemmas.List.Elements.{filter-append}
 use Rattle.educe_tokens.specs.declared.error.EduceError.{EduceError}
 use Rattle.educe_tokens.specs.declared.error.Kind.TheVariants.{NotCarried}
 use Rattle.educe_tokens.specs.declared.span.Span.{Span}
-use Rattle.educe_pieces.specs.declared.kind.UncarriedKind.{UncarriedKind}
+use Rattle.educe_tokens_pieces.specs.declared.kind.UncarriedKind.{UncarriedKind}
 use Rattle.educe_tokens.specs.declared.token.Token.{Token}
-use Rattle.educe_pieces.specs.declared.kind.PieceKind.{PieceKind}
-use Rattle.educe_pieces.specs.declared.kind.PieceKind.TheVariants.{Blank, Comment, Token as TokenPiece, Uncarried}
-use Rattle.educe_scan.specs.Reading.{Piece, front_piece, Reads}
-use Rattle.educe_scan.specs.Scan.{piece_at}
-use Rattle.educe_scan.proofs.Readings.{IsFound, found_is, reads_push, fits_none}
+use Rattle.educe_tokens_pieces.specs.declared.kind.PieceKind.{PieceKind}
+use Rattle.educe_tokens_pieces.specs.declared.kind.PieceKind.TheVariants.{Blank, Comment, Token as TokenPiece, Uncarried}
+use Rattle.educe_tokens_scan.specs.Reading.{Piece, front_piece, Reads}
+use Rattle.educe_tokens_scan.specs.Scan.{piece_at}
+use Rattle.educe_tokens_scan.proofs.Readings.{IsFound, found_is, reads_push, fits_none}
 use Rattle.educe_tokens.specs.Causes.{empty_at, last_of, IsLexicalCause}
 use Rattle.educe_tokens.specs.Lexes.{lexeme_of, lexemes, Lexes, is_token, is_carried, are_carried, piece_of, end_of, span_at, spans}
 use Rattle.educe_tokens.specs.Refusals.{syntax_at, not_carried_at, Cites}

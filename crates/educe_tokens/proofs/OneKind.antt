@@ -1,15 +1,15 @@
 -- A spelling decides the kind of its token.
 use Rattle.std.proofs.Common.{◌≡◌, ℕ, true, false, List, [], ◌∷◌, map, refl, sym, ap, ◌∙◌, append-nil}
 use Rattle.std.proofs.lemmas.Bool.{and_from, and_right, not_from_false}
-use Rattle.educe_pieces.specs.declared.kind.TokenKind.{TokenKind}
-use Rattle.educe_pieces.specs.declared.kind.TokenKind.TheVariants.{Ident, Lifetime, Literal, Punct, Start, Stop, Doc}
-use Rattle.educe_pieces.specs.declared.kind.PieceKind.{PieceKind}
-use Rattle.educe_pieces.specs.declared.kind.PieceKind.TheVariants.{Token as TokenPiece}
-use Rattle.educe_pieces.specs.Comments.{is_line}
-use Rattle.educe_pieces.specs.Pieces.{spells}
-use Rattle.educe_scan.specs.Reading.{Piece, IsPiece}
-use Rattle.educe_scan.proofs.Following.{before_end}
-use Rattle.educe_scan.proofs.Readings.{one_piece}
+use Rattle.educe_tokens_pieces.specs.declared.kind.TokenKind.{TokenKind}
+use Rattle.educe_tokens_pieces.specs.declared.kind.TokenKind.TheVariants.{Ident, Lifetime, Literal, Punct, Start, Stop, Doc}
+use Rattle.educe_tokens_pieces.specs.declared.kind.PieceKind.{PieceKind}
+use Rattle.educe_tokens_pieces.specs.declared.kind.PieceKind.TheVariants.{Token as TokenPiece}
+use Rattle.educe_tokens_pieces.specs.Comments.{is_line}
+use Rattle.educe_tokens_pieces.specs.Pieces.{spells}
+use Rattle.educe_tokens_scan.specs.Reading.{Piece, IsPiece}
+use Rattle.educe_tokens_scan.proofs.Following.{before_end}
+use Rattle.educe_tokens_scan.proofs.Readings.{one_piece}
 use Rattle.educe_tokens.specs.declared.token.Token.{Token}
 use Rattle.educe_tokens.specs.Copied.{unjoined}
 use Rattle.educe_tokens.specs.Same.{lexeme_aside, AreSameTokens}

@@ -3,9 +3,9 @@ use Rattle.std.proofs.Common.{◌≡◌, ℕ, ◌≤◌, Bool, true, false, cond
 use Rattle.std.specs.Prelude.{nat_le}
 use Rattle.std.proofs.lemmas.Bool.{and_parts, and_from}
 use Rattle.std.proofs.lemmas.Bool.Decides.{nat_tests}
-use Rattle.educe_pieces.specs.declared.kind.Bracket.{Bracket}
-use Rattle.educe_pieces.specs.declared.kind.TokenKind.{TokenKind}
-use Rattle.educe_pieces.specs.declared.kind.TokenKind.TheVariants.{Ident, Lifetime, Literal, Punct, Start, Stop, Doc}
+use Rattle.educe_tokens_pieces.specs.declared.kind.Bracket.{Bracket}
+use Rattle.educe_tokens_pieces.specs.declared.kind.TokenKind.{TokenKind}
+use Rattle.educe_tokens_pieces.specs.declared.kind.TokenKind.TheVariants.{Ident, Lifetime, Literal, Punct, Start, Stop, Doc}
 use Rattle.educe_tokens.specs.Brackets.{same_bracket, open_after, closes, depth_after, nests}
 use Rattle.educe_tokens.specs.Causes.{open_behind}
 

@@ -9,9 +9,9 @@ use Rattle.std.proofs.lemmas.Str.Ascii.{IsAscii-from_all}
 use Rattle.std.proofs.lemmas.List.Sums.{AllPass-from_list_all}
 use Rattle.unicode_ident.specs.Ident.{is_xid_continue}
 use Rattle.unicode_ident.proofs.IdentLemmas.{is_xid_start-ascii, is_xid_continue-ascii}
-use Rattle.educe_pieces.specs.declared.kind.TokenKind.TheVariants.{Ident, Punct}
-use Rattle.educe_pieces.specs.Chars.{is_only, is_punct, is_word_start}
-use Rattle.educe_pieces.specs.Pieces.{spells}
+use Rattle.educe_tokens_pieces.specs.declared.kind.TokenKind.TheVariants.{Ident, Punct}
+use Rattle.educe_tokens_pieces.specs.Chars.{is_only, is_punct, is_word_start}
+use Rattle.educe_tokens_pieces.specs.Pieces.{spells}
 use Rattle.educe_tokens.specs.Quote.{is_name_start, is_name_part, is_ascii_name, is_bracket, is_joint_pair, is_mark, mark_kind, is_template_word, word_lexemes}
 
 -- each number below n passes

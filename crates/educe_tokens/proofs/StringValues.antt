@@ -3,15 +3,15 @@ use Rattle.std.proofs.Common.{◌≡◌, ℕ, true, false, List, [], ◌∷◌, 
 use Rattle.std.specs.Prelude.{◌==◌}
 use Rattle.std.proofs.lemmas.Bool.{or_cases, and_parts, false≢true}
 use Rattle.std.proofs.lemmas.Bool.Decides.{nat_tests}
-use Rattle.educe_pieces.specs.declared.kind.LiteralKind.TheVariants as literal
-use Rattle.educe_pieces.specs.declared.kind.TokenKind.TheVariants.{Literal}
-use Rattle.educe_pieces.specs.declared.quotes.Quote.TheVariants.{Str}
-use Rattle.educe_pieces.specs.Chars.{begins}
-use Rattle.educe_pieces.specs.Machine.{is_str}
-use Rattle.educe_pieces.specs.RawStrings.{is_raw_str}
-use Rattle.educe_pieces.specs.Quotes.{Part, IsBody, value_of}
-use Rattle.educe_pieces.specs.Pieces.{spells}
-use Rattle.educe_pieces.proofs.Quoted.{str_parts}
+use Rattle.educe_tokens_pieces.specs.declared.kind.LiteralKind.TheVariants as literal
+use Rattle.educe_tokens_pieces.specs.declared.kind.TokenKind.TheVariants.{Literal}
+use Rattle.educe_tokens_pieces.specs.declared.quotes.Quote.TheVariants.{Str}
+use Rattle.educe_tokens_pieces.specs.Chars.{begins}
+use Rattle.educe_tokens_pieces.specs.Machine.{is_str}
+use Rattle.educe_tokens_pieces.specs.RawStrings.{is_raw_str}
+use Rattle.educe_tokens_pieces.specs.Quotes.{Part, IsBody, value_of}
+use Rattle.educe_tokens_pieces.specs.Pieces.{spells}
+use Rattle.educe_tokens_pieces.proofs.Quoted.{str_parts}
 use Rattle.educe_tokens.specs.Lexes.{Lexeme}
 use Rattle.educe_tokens.specs.StringValue.{IsStringValue, parts as value_parts}
 

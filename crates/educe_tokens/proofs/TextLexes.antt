@@ -4,16 +4,16 @@ use Rattle.std.specs.Prelude.{◌==◌}
 use Rattle.std.specs.Bool.{beq}
 use Rattle.std.specs.List.{list_all}
 use Rattle.std.proofs.lemmas.Bool.{and_parts, and_from, and_right, not-true, not_from_false, false≢true}
-use Rattle.educe_pieces.specs.declared.kind.TokenKind.{TokenKind}
-use Rattle.educe_pieces.specs.declared.kind.TokenKind.TheVariants.{Ident, Lifetime, Literal, Punct, Start, Stop, Doc}
-use Rattle.educe_pieces.specs.declared.kind.PieceKind.TheVariants.{Blank, Token as TokenPiece}
-use Rattle.educe_pieces.specs.Chars.{begins, is_punct, is_slash_or_star}
-use Rattle.educe_pieces.specs.Pieces.{is_joint, spells, may_precede}
-use Rattle.educe_pieces.proofs.Classes.{only_is}
-use Rattle.educe_scan.specs.Reading.{Piece, IsPiece, Reads}
-use Rattle.educe_scan.specs.Joining.{stands_apart}
-use Rattle.educe_scan.proofs.Following.{before_space, before_end}
-use Rattle.educe_scan.proofs.Readings.{piece_longest}
+use Rattle.educe_tokens_pieces.specs.declared.kind.TokenKind.{TokenKind}
+use Rattle.educe_tokens_pieces.specs.declared.kind.TokenKind.TheVariants.{Ident, Lifetime, Literal, Punct, Start, Stop, Doc}
+use Rattle.educe_tokens_pieces.specs.declared.kind.PieceKind.TheVariants.{Blank, Token as TokenPiece}
+use Rattle.educe_tokens_pieces.specs.Chars.{begins, is_punct, is_slash_or_star}
+use Rattle.educe_tokens_pieces.specs.Pieces.{is_joint, spells, may_precede}
+use Rattle.educe_tokens_pieces.proofs.Classes.{only_is}
+use Rattle.educe_tokens_scan.specs.Reading.{Piece, IsPiece, Reads}
+use Rattle.educe_tokens_scan.specs.Joining.{stands_apart}
+use Rattle.educe_tokens_scan.proofs.Following.{before_space, before_end}
+use Rattle.educe_tokens_scan.proofs.Readings.{piece_longest}
 use Rattle.educe_tokens.specs.declared.token.Token.{Token}
 use Rattle.educe_tokens.specs.Brackets.{kinds}
 use Rattle.educe_tokens.specs.Lexes.{Lexeme, lexemes, LexesAside, is_token, are_carried, piece_of}

@@ -1,14 +1,14 @@
 -- A text with tokens whose brackets close in order, not too deep, has no cause to be refused.
 use Rattle.std.proofs.Common.{◌≡◌, ◌≢◌, ℕ, ◌+◌, ◌⊎◌, inl, inr, true, false, Some, None, List, [], ◌∷◌, ◌++◌, length, refl, sym, ap, ◌∙◌, subst, arith, append-nil, Result, Ok, Err, IfOk, IfErr}
 use Rattle.std.proofs.lemmas.Bool.{and_parts, false≢true}
-use Rattle.educe_pieces.specs.declared.kind.Bracket.{Bracket}
-use Rattle.educe_pieces.specs.declared.kind.TokenKind.{TokenKind}
-use Rattle.educe_pieces.specs.declared.kind.TokenKind.TheVariants.{Start}
-use Rattle.educe_pieces.specs.declared.kind.UncarriedKind.{UncarriedKind}
-use Rattle.educe_pieces.specs.declared.kind.PieceKind.{PieceKind}
-use Rattle.educe_pieces.specs.declared.kind.PieceKind.TheVariants.{Uncarried}
-use Rattle.educe_scan.specs.Reading.{Piece, Reads, FitsNone}
-use Rattle.educe_scan.proofs.Readings.{reads_on}
+use Rattle.educe_tokens_pieces.specs.declared.kind.Bracket.{Bracket}
+use Rattle.educe_tokens_pieces.specs.declared.kind.TokenKind.{TokenKind}
+use Rattle.educe_tokens_pieces.specs.declared.kind.TokenKind.TheVariants.{Start}
+use Rattle.educe_tokens_pieces.specs.declared.kind.UncarriedKind.{UncarriedKind}
+use Rattle.educe_tokens_pieces.specs.declared.kind.PieceKind.{PieceKind}
+use Rattle.educe_tokens_pieces.specs.declared.kind.PieceKind.TheVariants.{Uncarried}
+use Rattle.educe_tokens_scan.specs.Reading.{Piece, Reads, FitsNone}
+use Rattle.educe_tokens_scan.proofs.Readings.{reads_on}
 use Rattle.educe_tokens.specs.declared.error.EduceError.{EduceError}
 use Rattle.educe_tokens.specs.declared.error.Kind.TheVariants.{TooDeep, Alloc}
 use Rattle.educe_tokens.specs.declared.token.Token.{Token}

@@ -1,11 +1,11 @@
 -- A text has one reading, so one list of tokens.
 use Rattle.std.proofs.Common.{◌≡◌, ℕ, List, [], ◌∷◌, ◌++◌, filter, refl, sym, ap, ◌∙◌, append-nil}
 use Rattle.educe_tokens.specs.declared.token.Token.{Token}
-use Rattle.educe_scan.specs.Scan.{piece_at}
-use Rattle.educe_scan.specs.Reading.{Piece, Reads}
+use Rattle.educe_tokens_scan.specs.Scan.{piece_at}
+use Rattle.educe_tokens_scan.specs.Reading.{Piece, Reads}
 use Rattle.educe_tokens.specs.Lexes.{Lexeme, lexemes, Lexes, LexesAside, is_token, spans}
 use Rattle.educe_tokens.proofs.Tokens.{same_tokens, same_lexemes}
-use Rattle.educe_scan.proofs.Readings.{reads_on, piece_finds, none_not_found, no_piece_at_end}
+use Rattle.educe_tokens_scan.proofs.Readings.{reads_on, piece_finds, none_not_found, no_piece_at_end}
 
 -- nothing is left to read of nothing
 read_out : (us : List Piece) → Reads [] us [] → us ≡ []

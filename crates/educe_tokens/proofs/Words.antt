@@ -4,14 +4,14 @@ use Rattle.std.specs.Prelude.{◌==◌}
 use Rattle.std.specs.Char.{is_ascii_digit}
 use Rattle.std.proofs.lemmas.Bool.{or_cases, or_from, and_left, false≢true, cond-true}
 use Rattle.std.proofs.lemmas.Bool.Decides.{nat_tests}
-use Rattle.educe_pieces.specs.declared.kind.LiteralKind.TheVariants.{Int}
-use Rattle.educe_pieces.specs.declared.kind.TokenKind.TheVariants.{Ident, Literal}
-use Rattle.educe_pieces.specs.Chars.{begins}
-use Rattle.educe_pieces.specs.Words.{is_raw_word}
-use Rattle.educe_pieces.specs.Pieces.{spells, is_name_or_index}
+use Rattle.educe_tokens_pieces.specs.declared.kind.LiteralKind.TheVariants.{Int}
+use Rattle.educe_tokens_pieces.specs.declared.kind.TokenKind.TheVariants.{Ident, Literal}
+use Rattle.educe_tokens_pieces.specs.Chars.{begins}
+use Rattle.educe_tokens_pieces.specs.Words.{is_raw_word}
+use Rattle.educe_tokens_pieces.specs.Pieces.{spells, is_name_or_index}
 use Rattle.educe_tokens.specs.Quote.{word_lexeme}
-use Rattle.educe_pieces.proofs.Classes.{digit_no_word}
-use Rattle.educe_pieces.proofs.NumberLaws.{int_begins}
+use Rattle.educe_tokens_pieces.proofs.Classes.{digit_no_word}
+use Rattle.educe_tokens_pieces.proofs.NumberLaws.{int_begins}
 
 -- a digit is no `r`
 digit_no_r : (c : ℕ) → is_ascii_digit c ≡ true → (c == 114) ≡ false

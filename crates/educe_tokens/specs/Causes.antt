@@ -3,12 +3,12 @@
 -- piece before is carried; brackets count only where the whole text is pieces that are carried, and of these a later one
 -- only where those before close in order and nest no deeper.
 use Rattle.std.specs.Prelude.{◌≡◌, ◌≢◌, ℕ, IsTrue, Option, Some, None, List, [], ◌∷◌, ◌++◌, length, Result, Ok, Err, encode_utf8_all}
-use Rattle.educe_pieces.specs.declared.kind.Bracket.{Bracket}
-use Rattle.educe_pieces.specs.declared.kind.TokenKind.{TokenKind}
-use Rattle.educe_pieces.specs.declared.kind.TokenKind.TheVariants.{Start}
-use Rattle.educe_pieces.specs.declared.kind.UncarriedKind.{UncarriedKind}
-use Rattle.educe_pieces.specs.declared.kind.PieceKind.TheVariants.{Uncarried}
-use Rattle.educe_scan.specs.Reading.{Piece, Reads, FitsNone}
+use Rattle.educe_tokens_pieces.specs.declared.kind.Bracket.{Bracket}
+use Rattle.educe_tokens_pieces.specs.declared.kind.TokenKind.{TokenKind}
+use Rattle.educe_tokens_pieces.specs.declared.kind.TokenKind.TheVariants.{Start}
+use Rattle.educe_tokens_pieces.specs.declared.kind.UncarriedKind.{UncarriedKind}
+use Rattle.educe_tokens_pieces.specs.declared.kind.PieceKind.TheVariants.{Uncarried}
+use Rattle.educe_tokens_scan.specs.Reading.{Piece, Reads, FitsNone}
 use Rattle.educe_tokens.specs.declared.span.Span.{Span}
 use Rattle.educe_tokens.specs.declared.token.Token.{Token}
 use Rattle.educe_tokens.specs.declared.error.EduceError.{EduceError}

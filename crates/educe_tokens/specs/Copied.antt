@@ -1,7 +1,7 @@
 -- Tokens as they are copied to another place: what stands behind them there may be another token.
 use Rattle.std.specs.Prelude.{◌&&◌, Bool, false, List, [], ◌∷◌}
-use Rattle.educe_pieces.specs.declared.kind.TokenKind.{TokenKind}
-use Rattle.educe_pieces.specs.declared.kind.TokenKind.TheVariants.{Ident, Lifetime, Literal, Punct, Start, Stop, Doc}
+use Rattle.educe_tokens_pieces.specs.declared.kind.TokenKind.{TokenKind}
+use Rattle.educe_tokens_pieces.specs.declared.kind.TokenKind.TheVariants.{Ident, Lifetime, Literal, Punct, Start, Stop, Doc}
 use Rattle.educe_tokens.specs.Lexes.{Lexeme}
 use Rattle.educe_tokens.specs.Brackets.{kinds, closes}
 use Rattle.educe_tokens.specs.Text.{is_punct_behind, have_no_doc}

@@ -19,17 +19,17 @@ pub mod StringValue
 pub mod ToTokens
 pub mod WrittenLexemes
 -- The kinds of tokens, how each is spelled, and what literals and documentation say.
-pub use Rattle.educe_pieces.specs.declared.kind.Bracket
-pub use Rattle.educe_pieces.specs.declared.kind.LiteralKind
-pub use Rattle.educe_pieces.specs.declared.kind.TokenKind
-pub use Rattle.educe_pieces.specs.declared.integers.Base
-pub use Rattle.educe_pieces.specs.declared.quotes.Quote as QuoteKind
-pub use Rattle.educe_pieces.specs.declared.quotes.Within
-pub use Rattle.educe_pieces.specs.Chars
-pub use Rattle.educe_pieces.specs.Comments
-pub use Rattle.educe_pieces.specs.Integers
-pub use Rattle.educe_pieces.specs.Machine
-pub use Rattle.educe_pieces.specs.Numbers
-pub use Rattle.educe_pieces.specs.Pieces
-pub use Rattle.educe_pieces.specs.RawStrings
-pub use Rattle.educe_pieces.specs.Spells
+pub use Rattle.educe_tokens_pieces.specs.declared.kind.Bracket
+pub use Rattle.educe_tokens_pieces.specs.declared.kind.LiteralKind
+pub use Rattle.educe_tokens_pieces.specs.declared.kind.TokenKind
+pub use Rattle.educe_tokens_pieces.specs.declared.integers.Base
+pub use Rattle.educe_tokens_pieces.specs.declared.quotes.Quote as QuoteKind
+pub use Rattle.educe_tokens_pieces.specs.declared.quotes.Within
+pub use Rattle.educe_tokens_pieces.specs.Chars
+pub use Rattle.educe_tokens_pieces.specs.Comments
+pub use Rattle.educe_tokens_pieces.specs.Integers
+pub use Rattle.educe_tokens_pieces.specs.Machine
+pub use Rattle.educe_tokens_pieces.specs.Numbers
+pub use Rattle.educe_tokens_pieces.specs.Pieces
+pub use Rattle.educe_tokens_pieces.specs.RawStrings
+pub use Rattle.educe_tokens_pieces.specs.Spells

@@ -1,11 +1,11 @@
 -- What the steps of lexing do, and why they stop.
 use Rattle.std.specs.Prelude.{◌≡◌, ℕ, None, List, ◌∷◌, [], ◌++◌, length}
-use Rattle.educe_pieces.specs.declared.kind.Bracket.{Bracket}
-use Rattle.educe_pieces.specs.declared.kind.TokenKind.{TokenKind}
-use Rattle.educe_pieces.specs.declared.kind.TokenKind.TheVariants.{Start}
-use Rattle.educe_pieces.specs.declared.kind.UncarriedKind.{UncarriedKind}
-use Rattle.educe_pieces.specs.declared.kind.PieceKind.{PieceKind}
-use Rattle.educe_pieces.specs.declared.kind.PieceKind.TheVariants.{Blank, Comment, Token as TokenPiece, Uncarried}
+use Rattle.educe_tokens_pieces.specs.declared.kind.Bracket.{Bracket}
+use Rattle.educe_tokens_pieces.specs.declared.kind.TokenKind.{TokenKind}
+use Rattle.educe_tokens_pieces.specs.declared.kind.TokenKind.TheVariants.{Start}
+use Rattle.educe_tokens_pieces.specs.declared.kind.UncarriedKind.{UncarriedKind}
+use Rattle.educe_tokens_pieces.specs.declared.kind.PieceKind.{PieceKind}
+use Rattle.educe_tokens_pieces.specs.declared.kind.PieceKind.TheVariants.{Blank, Comment, Token as TokenPiece, Uncarried}
 use Rattle.educe_tokens.specs.declared.brackets.BracketError.{BracketError}
 use Rattle.educe_tokens.specs.declared.brackets.BracketError.TheVariants as bracket
 use Rattle.educe_tokens.specs.declared.error.EduceError.{EduceError}

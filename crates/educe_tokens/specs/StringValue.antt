@@ -1,13 +1,13 @@
 -- The value of a string literal, and the text of documentation (Rust Reference, String literals; Raw string literals; Doc
 -- comments).
 use Rattle.std.specs.Prelude.{ℕ, List, ◌∷◌}
-use Rattle.educe_pieces.specs.declared.kind.LiteralKind.TheVariants as literal
-use Rattle.educe_pieces.specs.declared.kind.TokenKind.{TokenKind}
-use Rattle.educe_pieces.specs.declared.kind.TokenKind.TheVariants.{Literal, Doc}
-use Rattle.educe_pieces.specs.declared.quotes.Quote.TheVariants.{Str}
-use Rattle.educe_pieces.specs.Quotes.{Part, IsBody, value_of}
-use Rattle.educe_pieces.specs.RawStrings.{IsRawOf}
-use Rattle.educe_pieces.specs.Comments.{IsDocOf}
+use Rattle.educe_tokens_pieces.specs.declared.kind.LiteralKind.TheVariants as literal
+use Rattle.educe_tokens_pieces.specs.declared.kind.TokenKind.{TokenKind}
+use Rattle.educe_tokens_pieces.specs.declared.kind.TokenKind.TheVariants.{Literal, Doc}
+use Rattle.educe_tokens_pieces.specs.declared.quotes.Quote.TheVariants.{Str}
+use Rattle.educe_tokens_pieces.specs.Quotes.{Part, IsBody, value_of}
+use Rattle.educe_tokens_pieces.specs.RawStrings.{IsRawOf}
+use Rattle.educe_tokens_pieces.specs.Comments.{IsDocOf}
 use Rattle.educe_tokens.specs.Lexes.{Lexeme}
 
 -- the tokens of this kind have a string as their value

@@ -8,7 +8,7 @@ ghost use Rattle.educe_tokens.specs.Steps.{IsCauseOfKind, refusal_of};
 use crate::error::{EduceError, Kind};
 use crate::span::Span;
 use crate::token::TokenStream;
-use educe_pieces::{Bracket, TokenKind};
+use educe_tokens_pieces::{Bracket, TokenKind};
 use std::alloc::Global;
 
 /// How many brackets may be open at once.

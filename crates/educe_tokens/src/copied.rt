@@ -8,7 +8,7 @@ ghost use Rattle.educe_tokens.specs.Text as text;
 ghost use Rattle.educe_tokens.specs.Text.{is_written};
 
 use crate::token::Token;
-use educe_pieces::TokenKind;
+use educe_tokens_pieces::TokenKind;
 use std::alloc::{AllocError, Global};
 
 /// What copying changes: the jointness of puncts alone, where they could not stand joint. It does

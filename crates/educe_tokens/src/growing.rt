@@ -1,6 +1,6 @@
 //! Growing a token list at its end.
 ghost use Rattle.std.specs.Prelude.{IsTrue, OnOk, [], ◌∷◌, map};
-ghost use Rattle.educe_pieces.specs.Pieces.{spells};
+ghost use Rattle.educe_tokens_pieces.specs.Pieces.{spells};
 ghost use Rattle.educe_tokens.specs.Appends.{Appends, AppendsAt, AppendsNowhere, HasPrefix};
 ghost use Rattle.educe_tokens.specs.Quote.{word_lexeme};
 ghost use Rattle.educe_tokens.specs.WrittenLexemes.{written_lexemes};
@@ -11,7 +11,7 @@ use crate::spelling::Spelling;
 use crate::token::{Token, TokenStream};
 use crate::word::Word;
 use crate::written::Written;
-use educe_pieces::TokenKind;
+use educe_tokens_pieces::TokenKind;
 use std::alloc::{AllocError, Global};
 
 /// Appends copies of tokens as they were written, their spans kept.

@@ -2,7 +2,7 @@
 ghost use Rattle.std.specs.Prelude.{◌≡◌, ◌<◌, ◌≤◌, ◌^◌, ◌⊎◌, length, map, IfOk, IfErr, OnOk, chars, encode_utf8_all, IsTrue, List};
 ghost use Rattle.std.specs.List.{AllByRecursion};
 ghost use Rattle.std.specs.Str.{IsCharBoundary};
-ghost use Rattle.educe_pieces.specs.Pieces.{is_piece};
+ghost use Rattle.educe_tokens_pieces.specs.Pieces.{is_piece};
 ghost use Rattle.educe_tokens.specs.Lexes.{Lexeme, Lexes, LexesAside, lexemes};
 ghost use Rattle.educe_tokens.specs.Brackets.{kinds, IsBalanced, IsShallow};
 ghost use Rattle.educe_tokens.specs.Text.{puncts_join};
@@ -18,8 +18,8 @@ use crate::seq::Seq;
 use crate::span::{SOURCE_LIMIT, Span};
 use crate::spelling::Spelling;
 use crate::token::{Token, TokenStream};
-use educe_pieces::{PieceKind, TokenKind, UncarriedKind, behind_blanks};
-use educe_scan::next_piece;
+use educe_tokens_pieces::{PieceKind, TokenKind, UncarriedKind, behind_blanks};
+use educe_tokens_scan::next_piece;
 use std::alloc::{AllocError, Global};
 
 /// Adds the token of this kind that lies there.
@@ -92,11 +92,7 @@ fn last_place(tokens: &[Token], end: u32) -> Span
 /// The tokens among the pieces of a source, each a part of the shared text, which is the same. It is
 /// refused where no piece fits, at the last token before, or at an unsupported literal, whichever
 /// comes first. Blanks are skipped in one step.
-fn token_pieces(
-    alloc: Global,
-    source: &str,
-    shared: &Spelling,
-) -> Result<TokenStream, EduceError>
+fn token_pieces(alloc: Global, source: &str, shared: &Spelling) -> Result<TokenStream, EduceError>
     requires limit { length source.now ≤ SOURCE_LIMIT }
     requires shared { shared.now ≡ chars source.now }
     ensures lexes { IfOk result (λ tokens. Lexes (chars source.now) tokens) }

@@ -24,7 +24,7 @@ mod written;
 pub use boxed::Boxed;
 pub use brackets::NESTING;
 pub use copied::copying_laws;
-pub use educe_pieces::{Bracket, LiteralKind, TokenKind};
+pub use educe_tokens_pieces::{Bracket, LiteralKind, TokenKind};
 pub use error::{EduceError, Kind, Texts};
 pub use growing::{append_written, push_word};
 pub use laws::{kind_laws, lexing_laws, limits, printing_laws};

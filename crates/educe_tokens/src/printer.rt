@@ -6,7 +6,7 @@ ghost use Rattle.educe_tokens.specs.Brackets.{kinds, IsBalanced};
 ghost use Rattle.educe_tokens.specs.Text.{joins_next, is_no_doc, have_no_doc, puncts_join, IsWellFormed, text_of};
 
 use crate::token::{Token, TokenStream};
-use educe_pieces::TokenKind;
+use educe_tokens_pieces::TokenKind;
 use std::alloc::{AllocError, Global};
 
 fn joins_next(kind: TokenKind) -> bool

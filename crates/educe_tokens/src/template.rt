@@ -1,13 +1,13 @@
 //! Printing from templates.
 ghost use Rattle.std.specs.Prelude.{◌≡◌, IsTrue, OnOk, [], ◌∷◌, chars};
-ghost use Rattle.educe_pieces.specs.Pieces.{spells};
+ghost use Rattle.educe_tokens_pieces.specs.Pieces.{spells};
 ghost use Rattle.educe_tokens.specs.Appends.{Appends, AppendsNowhere, HasPrefix};
 ghost use Rattle.educe_tokens.specs.Quote.{is_name_start, mark_kind, word_lexemes, is_template_word, quoted, is_template};
 
 use crate::growing::push_spelled;
 use crate::spelling::Spelling;
 use crate::token::TokenStream;
-use educe_pieces::{Bracket, TokenKind};
+use educe_tokens_pieces::{Bracket, TokenKind};
 use std::alloc::{AllocError, Global};
 
 /// Appends the tokens of a template, whose spans are `Span::NONE`.

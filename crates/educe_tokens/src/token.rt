@@ -1,11 +1,11 @@
 //! Tokens and their kinds.
 ghost use Rattle.std.specs.Prelude.{◌≡◌, IsTrue, IfOk};
-ghost use Rattle.educe_pieces.specs.Pieces.{spells};
+ghost use Rattle.educe_tokens_pieces.specs.Pieces.{spells};
 
 use crate::seq::Seq;
 use crate::span::Span;
 use crate::spelling::Spelling;
-use educe_pieces::TokenKind;
+use educe_tokens_pieces::TokenKind;
 use std::alloc::{AllocError, Global};
 
 /// A token, whose spelling is one piece of its kind.

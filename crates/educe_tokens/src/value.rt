@@ -1,14 +1,14 @@
 //! The values of literals and of documentation.
 ghost use Rattle.std.specs.Prelude.{◌≡◌, ◌==◌, IsTrue, IfOk, IfSome, IfNone, chars};
-ghost use Rattle.educe_pieces.specs.Chars.{begins};
-ghost use Rattle.educe_pieces.specs.Pieces.{spells};
+ghost use Rattle.educe_tokens_pieces.specs.Chars.{begins};
+ghost use Rattle.educe_tokens_pieces.specs.Pieces.{spells};
 ghost use Rattle.std.specs.String.{string_bytes};
 ghost use Rattle.educe_tokens.specs.Lexes.{lexeme_of};
 ghost use Rattle.educe_tokens.specs.IntValue.{int_value};
 ghost use Rattle.educe_tokens.specs.StringValue.{IsString, IsStringValue};
 
 use crate::token::Token;
-use educe_pieces::{LiteralKind, TokenKind, doc_value, raw_value, str_value};
+use educe_tokens_pieces::{LiteralKind, TokenKind, doc_value, raw_value, str_value};
 use std::alloc::{AllocError, Global};
 
 /// The value of an integer literal, its suffix aside, and none of any other token (Rust Reference,
@@ -17,7 +17,9 @@ pub fn int_value(token: &Token) -> Option<u128>
     ensures { result ≡ int_value (lexeme_of token.now) }
 {
     match token.kind {
-        TokenKind::Literal(LiteralKind::Int) => educe_pieces::int_value(token.spelling.as_str()),
+        TokenKind::Literal(LiteralKind::Int) => educe_tokens_pieces::int_value(
+            token.spelling.as_str(),
+        ),
         _ => None,
     }
 }

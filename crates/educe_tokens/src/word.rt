@@ -1,12 +1,12 @@
 //! Texts that are printed as one token.
 ghost use Rattle.std.specs.Prelude.{◌≡◌, IsTrue, IfOk, chars};
 ghost use Rattle.std.specs.Char.{is_ascii_digit};
-ghost use Rattle.educe_pieces.specs.Chars.{begins};
-ghost use Rattle.educe_pieces.specs.Pieces.{is_name_or_index};
+ghost use Rattle.educe_tokens_pieces.specs.Chars.{begins};
+ghost use Rattle.educe_tokens_pieces.specs.Pieces.{is_name_or_index};
 ghost use Rattle.educe_tokens.specs.Quote.{is_ascii_name, word_lexeme};
 
 use crate::spelling::Spelling;
-use educe_pieces::{LiteralKind, TokenKind};
+use educe_tokens_pieces::{LiteralKind, TokenKind};
 use std::alloc::{AllocError, Global};
 
 /// A text that spells one identifier or one integer: a name, or the index of a tuple's field.

@@ -1,8 +1,8 @@
 -- What is printed as one lifetime: it may stand side by side with other tokens, and its text lexes as it.
 use Rattle.std.proofs.Common.{ℕ, IsTrue, List, [], ◌∷◌, refl}
 use Rattle.std.proofs.lemmas.Bool.{and_from}
-use Rattle.educe_pieces.specs.declared.kind.TokenKind.TheVariants.{Lifetime}
-use Rattle.educe_pieces.specs.Pieces.{spells}
+use Rattle.educe_tokens.specs.TokenKind.TheVariants.{Lifetime}
+use Rattle.educe_tokens.specs.Pieces.{spells}
 use Rattle.educe_tokens.proofs.Printable.{IsPrintable}
 use Rattle.educe_tokens.proofs.Writing.{written-one}
 

@@ -1,7 +1,7 @@
 -- Tokens that are one word.
 use Rattle.std.specs.Prelude.{◌≡◌, ℕ, List, [], ◌∷◌}
 use Rattle.educe_tokens.specs.declared.token.Token.{Token}
-use Rattle.educe_pieces.specs.declared.kind.TokenKind.TheVariants as kind
+use Rattle.educe_tokens.specs.TokenKind.TheVariants as kind
 
 -- the tokens are this one word
 abbrev pub IsWord : List Token → Token → Type 0

@@ -1,7 +1,7 @@
 //! Identifiers (Rust Reference, Identifiers).
 ghost use Rattle.std.specs.Prelude.{◌≡◌, IsTrue, IfOk, OnOk, [], ◌∷◌, chars, encode_utf8_all};
-ghost use Rattle.educe_pieces.specs.declared.kind.TokenKind.TheVariants as token;
-ghost use Rattle.educe_pieces.specs.Pieces.{spells};
+ghost use Rattle.educe_tokens.specs.TokenKind.TheVariants as token;
+ghost use Rattle.educe_tokens.specs.Pieces.{spells};
 ghost use Rattle.educe_tokens.specs.Quote.{is_ascii_name};
 ghost use Rattle.educe_tokens.specs.Appends.{Appends, AppendsAt, HasPrefix};
 ghost use Rattle.educe_tokens.proofs.Printable.{printable-ident, well_formed_from, ends_apart_from, lexes_back_from};

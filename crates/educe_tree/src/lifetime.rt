@@ -1,7 +1,7 @@
 //! Lifetimes (Rust Reference, Lifetimes and loop labels).
 ghost use Rattle.std.specs.Prelude.{IsTrue, OnOk, [], ◌∷◌};
-ghost use Rattle.educe_pieces.specs.declared.kind.TokenKind.TheVariants as token;
-ghost use Rattle.educe_pieces.specs.Pieces.{spells};
+ghost use Rattle.educe_tokens.specs.TokenKind.TheVariants as token;
+ghost use Rattle.educe_tokens.specs.Pieces.{spells};
 ghost use Rattle.educe_tokens.specs.Appends.{Appends, AppendsAt, HasPrefix};
 ghost use Rattle.educe_tokens.proofs.Printable.{well_formed_from, ends_apart_from, lexes_back_from};
 ghost use Rattle.educe_tree.specs.Printed.{printable-lifetime};

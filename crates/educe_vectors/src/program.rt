@@ -1,8 +1,8 @@
 //! Of `educe_core`: runs over devices in memory, and bodies evaluated over tables.
 ghost use Rattle.std.specs.Prelude.{◌≤◌};
 
-use educe_checks::check_at;
 use educe_core::{MemorySink, MemorySource, Sink, Source, run};
+use educe_vectors_checks::check_at;
 use std::alloc::{AllocError, Global};
 use std::test::Fail;
 

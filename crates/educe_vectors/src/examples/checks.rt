@@ -4,8 +4,8 @@ use crate::examples::{Answer, Example};
 use crate::program::bodies::evaluated_first;
 use crate::program::{Case, check_notes};
 use educe_body::Outcome;
-use educe_checks::{check_at, lex_answer, lexed, printed_source};
 use educe_tokens::{EduceError, Kind, Token, int_value, string_value};
+use educe_vectors_checks::{check_at, lex_answer, lexed, printed_source};
 use std::alloc::Global;
 use std::test::Fail;
 

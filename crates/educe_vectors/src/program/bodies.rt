@@ -1,11 +1,11 @@
 //! What the functions of items evaluate to.
 
 use educe_body::{Answer, Body, Callee, FieldValue, Item, Items, Outcome, Row, eval};
-use educe_body_vectors::{scope, table, value};
-use educe_checks::{check_at, definition, found};
 use educe_core::{Expansion, expand};
+use educe_syntax::DeriveInput;
 use educe_tokens::SOURCE_LIMIT;
-use educe_tree::DeriveInput;
+use educe_vectors_body::{scope, table, value};
+use educe_vectors_checks::{check_at, definition, found};
 use std::alloc::Global;
 use std::cmp::Ordering;
 use std::test::Fail;

@@ -1,6 +1,6 @@
 use Rattle.std.proofs.Common.{◌≡◌, rules, List, subst}
 use Rattle.std.specs.Prelude.{IfOk}
-use Rattle.educe_tree.specs.declared.attr.Attribute.{Attribute}
+use Rattle.educe_syntax.specs.Attribute.{Attribute}
 use Rattle.educe_attrs.specs.Said.{listed_in, listed_by}
 use Rattle.educe_attrs.proofs.Joining.{nothing_before}
 use Rattle.educe_attrs.proofs.said.listed_by.Goals as goal

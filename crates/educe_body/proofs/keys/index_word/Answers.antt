@@ -1,5 +1,5 @@
 use Rattle.std.proofs.Common.{◌<◌, ◌^◌, ◌∙◌, List, ℕ, IsTrue, ap, sym, subst, arith, chars}
-use Rattle.educe_pieces.specs.Pieces.{is_name_or_index}
+use Rattle.educe_tokens.specs.Pieces.{is_name_or_index}
 use Rattle.educe_body.proofs.Indices.{decimal_is_index, chars_decimal}
 use Rattle.educe_body.proofs.keys.index_word.Goals as goal
 

@@ -1,7 +1,7 @@
 use Rattle.std.proofs.Common.{◌≡◌, ◌<◌, ◌^◌, List, Some, map, length, sym, ap, ◌∙◌, subst}
 use Rattle.std.specs.List.{AllByRecursion}
 use Rattle.std.proofs.lemmas.Bool.{false≢true}
-use Rattle.educe_tree.specs.declared.data.Field.{Field}
+use Rattle.educe_syntax.specs.Field.{Field}
 use Rattle.educe_traits.specs.declared.traits.Trait.{Trait}
 use Rattle.educe_attrs.specs.Said.{listed_by}
 use Rattle.educe_traits.specs.Traits.{each_once}

@@ -1,6 +1,6 @@
 use Rattle.std.proofs.Common.{[], rules, sym, ap, ◌∙◌}
 use Rattle.educe_tokens.specs.declared.error.Kind.TheVariants.{DeriveAttributeNotSetUpYet}
-use Rattle.educe_grammar.specs.Parsed.{end_of}
+use Rattle.educe_syntax.specs.Parsed.{end_of}
 use Rattle.educe_core.proofs.Causes.{handler_memory, handler_not_set_up, handler_reuse}
 use Rattle.educe_core.proofs.Forms.{nothing}
 use Rattle.educe_core.proofs.handler.items_of.Goals as goal

@@ -1,6 +1,6 @@
 use Rattle.std.proofs.Common.{◌≡◌, ◌≢◌, ℕ, List, true, map, string_bytes, refl, sym, subst, inl, inr, ap, ◌∙◌}
-use Rattle.educe_devices.specs.declared.status.Status.TheVariants.{Usage}
-use Rattle.educe_devices.specs.Devices.{Change, change}
+use Rattle.educe_core_devices.specs.declared.status.Status.TheVariants.{Usage}
+use Rattle.educe_core_devices.specs.Devices.{Change, change}
 use Rattle.educe_core.specs.Run.{Answers, expand_words, usage_line}
 use Rattle.educe_core.proofs.Table.{Answers-line}
 use Rattle.educe_core.proofs.Outcomes.{Usage-from_words, TooLong-from_length, NotUtf8-from_bytes, Done-from_valid, Done-without_cause, ReadFault-fails, ReadFault-from_faults, WriteFault-fails, WriteFault-from_sink, WriteFault-from_notes, TakesAtMost-none}

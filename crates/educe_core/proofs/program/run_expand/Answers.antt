@@ -1,6 +1,6 @@
 use Rattle.std.proofs.Common.{◌≡◌, ◌≤◌, length, refl, sym, subst, ◌∙◌, arith}
 use Rattle.std.specs.Prelude.{IsUtf8}
-use Rattle.educe_devices.specs.declared.status.Status.TheVariants.{TooLong, NotUtf8}
+use Rattle.educe_core_devices.specs.declared.status.Status.TheVariants.{TooLong, NotUtf8}
 use Rattle.educe_core.specs.Expansion.{items_of_expansion}
 use Rattle.educe_core.specs.Headline.{IsExpansion}
 use Rattle.educe_core.specs.Run.{expand_words, too_long_line, not_utf8_line}

@@ -1,6 +1,6 @@
 use Rattle.std.proofs.Common.{◌≡◌, ◌∙◌, ap}
-use Rattle.educe_pieces.specs.declared.kind.TokenKind.{TokenKind}
-use Rattle.educe_pieces.specs.Pieces.{spells}
+use Rattle.educe_tokens_pieces.specs.declared.kind.TokenKind.{TokenKind}
+use Rattle.educe_tokens_pieces.specs.Pieces.{spells}
 use Rattle.educe_tokens.specs.Brackets.{kinds}
 use Rattle.educe_tokens.specs.Lexes.{lexemes}
 use Rattle.educe_tokens.proofs.Copying.{spells-copied}

@@ -1,5 +1,5 @@
 use Rattle.std.proofs.Common.{sym, subst}
-use Rattle.educe_pieces.specs.declared.kind.PieceKind.TheVariants.{Uncarried}
+use Rattle.educe_tokens_pieces.specs.declared.kind.PieceKind.TheVariants.{Uncarried}
 use Rattle.educe_tokens.specs.Slices.{cut_out}
 use Rattle.educe_tokens.specs.Steps.{IsCauseOfPiece}
 use Rattle.educe_tokens.proofs.Lexed.{cited_cause}

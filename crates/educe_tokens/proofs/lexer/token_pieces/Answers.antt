@@ -2,9 +2,9 @@ use Rattle.std.proofs.Common.{◌+◌, ◌-◌, ℕ, [], List, length, map, char
 use Rattle.std.specs.Str.{IsUtf8}
 use Rattle.std.proofs.lemmas.Result.{err_from_is_err_and}
 use Rattle.std.proofs.lemmas.Str.{length-le-encodes, IsUtf8-drop}
-use Rattle.educe_pieces.specs.Chars.{is_blank}
-use Rattle.educe_pieces.specs.Pieces.{is_piece}
-use Rattle.educe_scan.specs.InPlace.{IsFront}
+use Rattle.educe_tokens_pieces.specs.Chars.{is_blank}
+use Rattle.educe_tokens_pieces.specs.Pieces.{is_piece}
+use Rattle.educe_tokens_scan.specs.InPlace.{IsFront}
 use Rattle.educe_tokens.specs.declared.span.Span.{Span}
 use Rattle.educe_tokens.specs.declared.token.Token.{Token}
 use Rattle.educe_tokens.specs.Causes.{empty_at, last_of, IsLexicalCause}

@@ -1,10 +1,10 @@
 use Rattle.std.proofs.Common.{◌∙◌, sym, ap, subst, true, false, OnOk, chars, List, ℕ, IsTrue, [], ◌∷◌, get_or, ◌&&◌}
 use Rattle.std.specs.Prelude.{slice_range}
 use Rattle.std.proofs.lemmas.Result.{on_ok_weaker}
-use Rattle.educe_pieces.specs.declared.kind.TokenKind.{TokenKind}
-use Rattle.educe_pieces.specs.declared.kind.TokenKind.TheVariants.{Punct}
-use Rattle.educe_pieces.specs.Chars.{is_punct, is_only}
-use Rattle.educe_pieces.specs.Pieces.{spells}
+use Rattle.educe_tokens_pieces.specs.declared.kind.TokenKind.{TokenKind}
+use Rattle.educe_tokens_pieces.specs.declared.kind.TokenKind.TheVariants.{Punct}
+use Rattle.educe_tokens_pieces.specs.Chars.{is_punct, is_only}
+use Rattle.educe_tokens_pieces.specs.Pieces.{spells}
 use Rattle.educe_tokens.specs.Lexes.{Lexeme}
 use Rattle.educe_tokens.specs.Appends.{Appends}
 use Rattle.educe_tokens.proofs.Appending.{Appends-append}

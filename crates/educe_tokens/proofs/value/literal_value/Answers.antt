@@ -1,6 +1,6 @@
 use Rattle.std.proofs.Common.{ℕ, List, sym, ap, ◌∙◌, subst, chars}
 use Rattle.std.proofs.lemmas.Result.{IfOk-weaker}
-use Rattle.educe_pieces.specs.RawStrings.{IsRawOf}
+use Rattle.educe_tokens_pieces.specs.RawStrings.{IsRawOf}
 use Rattle.educe_tokens.specs.StringValue.{raw}
 use Rattle.educe_tokens.proofs.StringValues.{raw_by_first, str_by_first, quoted_value}
 use Rattle.educe_tokens.proofs.value.literal_value.Goals as goal

@@ -1,7 +1,7 @@
 use Rattle.std.proofs.Common.{ℕ, List, sym, ap, subst, chars}
 use Rattle.std.specs.String.{string_bytes}
-use Rattle.educe_pieces.specs.declared.kind.TokenKind.{TokenKind}
-use Rattle.educe_pieces.specs.Comments.{IsDocOf}
+use Rattle.educe_tokens_pieces.specs.declared.kind.TokenKind.{TokenKind}
+use Rattle.educe_tokens_pieces.specs.Comments.{IsDocOf}
 use Rattle.educe_tokens.specs.StringValue.{IsStringValue, doc}
 use Rattle.educe_tokens.proofs.value.string_value.Goals as goal
 

@@ -1,6 +1,6 @@
 use Rattle.std.proofs.Common.{sym, ap, ◌∙◌}
 use Rattle.std.specs.Char.{is_ascii_digit}
-use Rattle.educe_pieces.specs.Chars.{begins}
+use Rattle.educe_tokens_pieces.specs.Chars.{begins}
 use Rattle.educe_tokens.proofs.Words.{word_is_int, word_is_ident}
 use Rattle.educe_tokens.proofs.word.Word.kind.Goals as goal
 

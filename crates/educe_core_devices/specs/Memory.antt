@@ -1,0 +1,21 @@
+-- What the devices over memory hold, and what is planned for their calls.
+use Rattle.std.specs.Prelude.{ℕ, List, Option, Some, drop}
+use Rattle.educe_core_devices.specs.declared.memory.MemorySource.{MemorySource}
+use Rattle.educe_core_devices.specs.declared.memory.MemorySink.{MemorySink}
+use Rattle.educe_core_devices.specs.declared.plan.Plan.{Plan}
+
+-- the bytes that are left
+abbrev pub source_left : MemorySource → Option (List ℕ)
+source_left source = Some (drop source.taken source.bytes.items)
+
+-- what is planned for the reads
+abbrev pub source_plan : MemorySource → Plan
+source_plan source = source.plan
+
+-- the bytes that are held
+abbrev pub sink_held : MemorySink → Option (List ℕ)
+sink_held sink = Some sink.bytes.items
+
+-- what is planned for the writes
+abbrev pub sink_plan : MemorySink → Plan
+sink_plan sink = sink.plan

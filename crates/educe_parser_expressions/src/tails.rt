@@ -1,0 +1,130 @@
+//! What stands behind a path in an expression: the fields of a struct, or what a macro is called with
+//! (Rust Reference, Struct expressions; Macro invocation).
+ghost use Rattle.std.specs.Prelude.{◌≡◌, ◌+◌};
+ghost use Rattle.educe_grammar.specs.Expressions as spec;
+ghost use Rattle.educe_grammar.specs.Reads.{read};
+ghost use Rattle.educe_grammar.specs.Steps.{Gives};
+
+use crate::expr_paths::is_mod_path;
+use crate::lookahead::{BehindFields, at_value};
+use educe_grammar::{Cursor, Inside, ParseError, Parts, Production, Tail, Terminal, list, nested};
+use educe_parser_paths::group;
+use educe_tokens::{Bracket, TokenSlice, unit};
+use educe_tree::{ExprForm, ExprPath};
+use std::alloc::Global;
+
+/// Whether such a tail may stand behind the path: the path of a macro has no arguments (Rust
+/// Reference, Macro invocation).
+pub fn fits_tail(path: &ExprPath, tail: Tail) -> bool
+    ensures { result ≡ spec.fits_tail (path.now, tail) }
+{
+    match tail {
+        Tail::Nothing | Tail::Fields => true,
+        Tail::Call => is_mod_path(path),
+    }
+}
+
+/// The form of an expression that is a path with this tail.
+pub fn tail_form(tail: Tail) -> ExprForm
+    ensures { result ≡ spec.tail_form tail }
+{
+    match tail {
+        Tail::Nothing => ExprForm::Path,
+        Tail::Fields | Tail::Call => ExprForm::Other,
+    }
+}
+
+/// Whether each `self` stands before `::`.
+#[tactic(auto, unfolding(educe_grammar::specs::Expressions::self_begins_paths))]
+fn self_begins_paths(group: &TokenSlice) -> bool
+    ensures { result ≡ spec.self_begins_paths group.now }
+{
+    let cursor = Cursor::new(group);
+    let tokens = group.as_slice();
+    for index in 0..tokens.len() {
+        let is_self = tokens[index].spelling.spells("self");
+        if is_self && !cursor.behind(index + 1).begins_pair(':', ':') {
+            return false;
+        }
+    }
+    true
+}
+
+/// What a macro is called with (Rust Reference, Macro invocation).
+#[tactic(auto, unfolding(educe_grammar::proofs::Opened::rules, educe_grammar::specs::Expressions::macro_group))]
+fn macro_group(alloc: Global, cursor: &mut Cursor<'_>, budget: u8) -> Result<(), ParseError>
+    ensures { Gives (read budget spec.macro_group cursor.old) result cursor.new }
+{
+    let start = cursor.mark();
+    group(alloc, cursor, budget)?;
+    let tokens = cursor.since(&start)?;
+    if !self_begins_paths(&tokens) {
+        return Err(cursor.refuse());
+    }
+    Ok(())
+}
+
+/// The value of a field, or its name alone (Rust Reference, Field struct expression).
+struct FieldInit;
+
+impl<R: Inside> Production<Parts<R>> for FieldInit {
+    type Tree = ();
+
+    ghost ready = { λ parts budget. R.nests parts.inside (budget + 1) };
+
+    ghost reads = { λ budget. read budget spec.init };
+
+    #[tactic(auto, unfolding(educe_grammar::proofs::Opened::rules, educe_grammar::specs::Expressions::init))]
+    fn parse(parts: &Parts<R>, cursor: &mut Cursor<'_>, budget: u8) -> Result<(), ParseError> {
+        if !at_value(cursor) {
+            return unit(cursor.expect(Terminal::Name));
+        }
+        cursor.expect(Terminal::NameOrIndex)?;
+        cursor.skip_lone(':', ':')?;
+        unit(parts.expr(cursor, budget))
+    }
+}
+
+/// The fields of a struct, and what the others are taken from (Rust Reference, Functional update
+/// syntax).
+struct FieldInits;
+
+impl<R: Inside> Production<Parts<R>> for FieldInits {
+    type Tree = ();
+
+    ghost ready = { λ parts budget. R.nests parts.inside (budget + 1) };
+
+    ghost reads = { λ budget. read budget spec.inits };
+
+    #[tactic(auto, unfolding(educe_grammar::proofs::Opened::rules, educe_grammar::specs::Expressions::inits))]
+    fn parse(parts: &Parts<R>, cursor: &mut Cursor<'_>, budget: u8) -> Result<(), ParseError> {
+        let comma = Terminal::Sign(',');
+        unit(list::<Parts<R>, FieldInit, BehindFields>(parts, cursor, budget, comma))?;
+        if !cursor.eat_pair('.', '.') {
+            return Ok(());
+        }
+        unit(parts.expr(cursor, budget))
+    }
+}
+
+/// Nothing, the fields of a struct, or the call of a macro (Rust Reference, Struct expressions;
+/// Macro invocation).
+#[tactic(auto, unfolding(educe_grammar::proofs::Opened::rules, educe_grammar::specs::Expressions::path_tail))]
+pub fn path_tail<R: Inside>(
+    parts: &Parts<R>,
+    cursor: &mut Cursor<'_>,
+    budget: u8,
+) -> Result<Tail, ParseError>
+    requires { R.nests parts.now.inside budget }
+    ensures { Gives (read budget spec.path_tail cursor.old) result cursor.new }
+{
+    if cursor.opens(Bracket::Curly) {
+        nested::<Parts<R>, FieldInits>(parts, cursor, budget, Bracket::Curly)?;
+        return Ok(Tail::Fields);
+    }
+    if !cursor.eat_lone('!', '=') {
+        return Ok(Tail::Nothing);
+    }
+    macro_group(parts.alloc, cursor, budget)?;
+    Ok(Tail::Call)
+}

@@ -1,0 +1,197 @@
+-- Scans of a text where it stands.
+use Rattle.std.proofs.Common.{◌≡◌, ◌≢◌, ℕ, ◌+◌, ◌-◌, ◌<◌, Bool, true, false, List, [], ◌∷◌, ◌++◌, length, take, drop, get_or, chars, refl, sym, ap, ◌∙◌, subst, arith, append_assoc, take-append-drop, length-append, length-drop, lit<}
+use Rattle.std.specs.Prelude.{◌==◌, encode_utf8_all}
+use Rattle.std.specs.List.{list_all}
+use Rattle.std.specs.Str.{IsUtf8, IsCharBoundary, NonePass, NoCharPasses}
+use Rattle.std.specs.Str.Pattern.{HasCharAt}
+use Rattle.std.proofs.Math.Seq.{take-append_seam, get_or-append_seam}
+use Rattle.std.proofs.lemmas.Bool.{and_from, and_right, false≢true, eqb-true, eq-eqb, ne_eqb}
+use Rattle.std.proofs.lemmas.List.Folds.{list_all-append}
+use Rattle.std.proofs.lemmas.Str.{IsUtf8-take, IsUtf8-drop, IsCharBoundary-before_ascii, chars-append, chars_past_char, chars_from_encodes, encodes-chars, encodes-append, encode_ascii}
+use Rattle.educe_tokens_pieces.specs.Chars.{begins, is_in_line, is_word_start}
+use Rattle.educe_tokens_pieces.specs.Words.{is_word}
+use Rattle.unicode_ident.specs.Ident.{is_xid_continue}
+use Rattle.educe_tokens_pieces.specs.Comments.{closes_comment}
+use Rattle.educe_tokens_pieces.specs.Fronts.{HasFront, is_last}
+use Rattle.educe_tokens_pieces.specs.declared.quotes.Within.{Within}
+use Rattle.educe_tokens_pieces.specs.declared.quotes.Next.TheVariants.{Go, End}
+use Rattle.educe_tokens_pieces.specs.Machine.{step, ends}
+
+-- behind a front of the text, the test goes on as another one
+pub record Goes (test later : List ℕ → Bool) (text rest : List ℕ) : Type 0 where
+  pub front : List ℕ
+  pub is : text ≡ front ++ rest
+  pub on : (cs zs : List ℕ) → rest ≡ cs ++ zs → test (front ++ cs) ≡ later cs
+
+-- before anything it is the same test
+pub goes_at : (test : List ℕ → Bool) (text : List ℕ) → Goes test test text text
+goes_at test text = record { front = []; is = refl; on = λ cs zs e. refl }
+
+-- what stands behind more characters
+further : (text front rest us more : List ℕ) → text ≡ front ++ rest → rest ≡ us ++ more → text ≡ (front ++ us) ++ more
+further text front rest us more f e = f ∙ ap (λ cs. front ++ cs) e ∙ sym (append_assoc front us more)
+
+-- it goes on behind more characters
+pub goes_on : (test later next : List ℕ → Bool) (text rest more us : List ℕ) → Goes test later text rest → rest ≡ us ++ more → ((cs zs : List ℕ) → more ≡ cs ++ zs → later (us ++ cs) ≡ next cs) → Goes test next text more
+goes_on test later next text rest more us g e h = record {
+  front = g.front ++ us;
+  is = further text g.front rest us more g.is e;
+  on = λ cs zs f. ap test (append_assoc g.front us cs) ∙ g.on (us ++ cs) zs (further rest us more cs zs e f) ∙ h cs zs f;
+}
+
+-- what passes the later test ends a front that passes the test
+pub goes_to : (test later : List ℕ → Bool) (text rest more us : List ℕ) → Goes test later text rest → rest ≡ us ++ more → later us ≡ true → HasFront test text more
+goes_to test later text rest more us g e h = record {
+  front = g.front ++ us;
+  is = further text g.front rest us more g.is e;
+  passes = g.on us more e ∙ h;
+}
+
+-- one more character passes
+pub one_more_passes : (p : ℕ → Bool) (text rest more : List ℕ) (c : ℕ) → HasFront (list_all p) text rest → rest ≡ c ∷ more → p c ≡ true → HasFront (list_all p) text more
+one_more_passes p text rest more c f e h = record {
+  front = f.front ++ c ∷ [];
+  is = f.is ∙ ap (λ cs. f.front ++ cs) e ∙ sym (append_assoc f.front (c ∷ []) more);
+  passes = list_all-append p f.front (c ∷ []) ∙ and_from _ _ f.passes (and_from _ _ h refl);
+}
+
+-- a word is its first character and those that go on with it
+pub word_front : (text more rest : List ℕ) (c : ℕ) → is_word_start c ≡ true → text ≡ c ∷ more → HasFront (list_all is_xid_continue) more rest → HasFront is_word text rest
+word_front text more rest c e is f = record {
+  front = c ∷ f.front;
+  is = is ∙ ap (λ cs. c ∷ cs) f.is;
+  passes = and_from _ _ e f.passes;
+}
+
+-- a step with which the literal goes on
+pub step_goes : (w more : Within) (c : ℕ) → step w c ≡ Go more → (cs : List ℕ) → ends w (c ∷ cs) ≡ ends more cs
+step_goes w more c e cs = rw (e, ends) refl
+
+-- a step at which it ends
+pub step_ends : (w : Within) (c : ℕ) → step w c ≡ End → ends w (c ∷ []) ≡ true
+step_ends w c e = rw (e, ends) refl
+
+-- a list with no line feed
+line_from_none : (cs : List ℕ) → NonePass (λ d. d == 10) cs → list_all is_in_line cs ≡ true
+line_from_none [] h = refl
+line_from_none (c ∷ cs) h = and_from (is_in_line c) _ (rw h.0 refl) (line_from_none cs h.1)
+
+-- the characters of a text in two parts
+pub chars_split : (bs : List ℕ) (n : ℕ) → IsUtf8 bs → IsCharBoundary bs n → chars bs ≡ chars (take n bs) ++ chars (drop n bs)
+chars_split bs n u b = ap chars (sym (take-append-drop n bs)) ∙ chars-append (take n bs) (drop n bs) (IsUtf8-take bs n u b)
+
+-- a text with no line feed is a line
+pub line_in : (bs : List ℕ) → IsUtf8 bs → NoCharPasses (λ d. d == 10) bs → list_all is_in_line (chars bs) ≡ true
+line_in bs u h = subst (λ cs. list_all is_in_line cs ≡ true) (chars_from_encodes h.0 bs u h.1) (line_from_none h.0 h.2)
+
+-- behind a line the feed stands first
+pub feed_behind : (bs : List ℕ) (n j : ℕ) → IsUtf8 bs → IsCharBoundary bs n → HasCharAt 10 bs n j → begins is_in_line (chars (drop n bs)) ≡ false
+feed_behind bs n j u b h = ap (begins is_in_line) (chars_past_char (drop n bs) (drop j bs) 10 (IsUtf8-drop bs n u b) h.split)
+
+-- a mark at the end
+is_last-append : (cs : List ℕ) (c : ℕ) → is_last c (cs ++ c ∷ []) ≡ true
+is_last-append [] c = eq-eqb c c refl
+is_last-append (d ∷ []) c = eq-eqb c c refl
+is_last-append (d ∷ e ∷ cs) c = is_last-append (e ∷ cs) c
+
+last_parts : (c : ℕ) (cs : List ℕ) → is_last c cs ≡ true → (us : List ℕ) × (cs ≡ us ++ c ∷ [])
+last_parts c [] h = absurd (false≢true h)
+last_parts c (d ∷ []) h = ([], ap (λ x. x ∷ []) (eqb-true d c h))
+last_parts c (d ∷ e ∷ cs) h = let p = last_parts c (e ∷ cs) h in (d ∷ p.0, ap (λ xs. d ∷ xs) p.1)
+
+-- the bytes of a slash
+slash_bytes : encode_utf8_all (47 ∷ []) ≡ 47 ∷ []
+slash_bytes = ap (λ xs. xs ++ []) (encode_ascii 47 (lit< tt))
+
+slash_text : IsUtf8 (47 ∷ [])
+slash_text = (47 ∷ [], (refl, slash_bytes))
+
+-- what stands before a slash at the end is a text
+before_slash : (fs : List ℕ) → IsUtf8 (fs ++ 47 ∷ []) → IsUtf8 fs
+before_slash fs u =
+    let at = get_or-append_seam fs 47 [] 0 in
+    let long = length-append fs (47 ∷ []) in
+    let small : get_or (fs ++ 47 ∷ []) (length fs) 0 < 128 = omega (arith, at) in
+    subst IsUtf8 (take-append_seam fs (47 ∷ [])) (IsUtf8-take (fs ++ 47 ∷ []) (length fs) u (IsCharBoundary-before_ascii (fs ++ 47 ∷ []) (length fs) (omega (arith, long)) small))
+
+-- its characters
+chars_before_slash : (fs : List ℕ) → IsUtf8 (fs ++ 47 ∷ []) → chars (fs ++ 47 ∷ []) ≡ chars fs ++ 47 ∷ []
+chars_before_slash fs u =
+    chars-append fs (47 ∷ []) (before_slash fs u)
+    ∙ ap (λ cs. chars fs ++ cs) (sym (chars_from_encodes (47 ∷ []) (47 ∷ []) slash_text slash_bytes))
+
+-- two tests that imply each other
+same_test : (a b : Bool) → (a ≡ true → b ≡ true) → (b ≡ true → a ≡ true) → a ≡ b
+same_test true b f g = sym (f refl)
+same_test false true f g = g refl
+same_test false false f g = refl
+
+-- the text ends with the byte of a slash where its characters end with one
+pub slash_ends : (bs : List ℕ) (r : Bool) → IsUtf8 bs → (r ≡ true → bs ≡ take (length bs - 1) bs ++ (47 ∷ [])) × ((front : List ℕ) → bs ≡ front ++ (47 ∷ []) → r ≡ true) → r ≡ is_last 47 (chars bs)
+slash_ends bs r u h =
+    same_test r (is_last 47 (chars bs))
+    (λ e. ap (λ xs. is_last 47 (chars xs)) (h.0 e) ∙ ap (is_last 47) (chars_before_slash (take (length bs - 1) bs) (subst IsUtf8 (h.0 e) u)) ∙ is_last-append (chars (take (length bs - 1) bs)) 47)
+    (λ e. let p = last_parts 47 (chars bs) e in
+    h.1 (encode_utf8_all p.0) (sym (encodes-chars bs u) ∙ ap encode_utf8_all p.1 ∙ encodes-append p.0 (47 ∷ []) ∙ ap (λ xs. encode_utf8_all p.0 ++ xs) slash_bytes))
+
+-- the parts around the first such mark
+pub mark_split : (mark : ℕ) (bs front back : List ℕ) (i j : ℕ) → mark < 128 → IsUtf8 bs → NoCharPasses (λ d. d == mark) (take i bs) → HasCharAt mark bs i j → front ≡ take i bs → back ≡ drop j bs
+    → (chars bs ≡ chars front ++ mark ∷ chars back) × NonePass (λ d. d == mark) (chars front)
+mark_split mark bs front back i j small u none at f b =
+    let first = at.split ∙ ap (λ xs. xs ++ drop j bs) (encode_ascii mark small) in
+    let long : i < length bs = omega (arith, ap length first, length-drop i bs) in
+    let low : get_or bs i 0 < 128 = omega (arith, at.byte small, small) in
+    let cut = IsCharBoundary-before_ascii bs i long low in
+    let behind = chars_past_char (drop i bs) (drop j bs) mark (IsUtf8-drop bs i u cut) at.split in (
+      chars_split bs i u cut ∙ ap (λ cs. chars (take i bs) ++ cs) behind ∙ (λ k. chars (sym f k) ++ mark ∷ chars (sym b k)),
+      subst (NonePass (λ d. d == mark)) (chars_from_encodes none.0 (take i bs) (IsUtf8-take bs i u cut) none.1 ∙ ap chars (sym f)) none.2,
+    )
+
+-- where a star stands behind characters that are none, they end with the slash that opens a comment with it, or are skipped
+star_opens : (inner : ℕ) (xs ys : List ℕ) → NonePass (λ d. d == 42) xs → is_last 47 xs ≡ true → closes_comment inner (xs ++ 42 ∷ ys) ≡ closes_comment (inner + 1) ys
+star_opens inner [] ys h l = absurd (false≢true l)
+star_opens inner (c ∷ []) ys h l = rw (h.0, l) refl
+star_opens inner (c ∷ d ∷ xs) ys h l = rw (h.0, h.1.0, and_right (c == 47) false refl) (star_opens inner (d ∷ xs) ys h.1 l)
+
+star_stays : (inner : ℕ) (xs ys : List ℕ) → NonePass (λ d. d == 42) xs → is_last 47 xs ≡ false → closes_comment inner (xs ++ 42 ∷ ys) ≡ closes_comment inner (42 ∷ ys)
+star_stays inner [] ys h l = refl
+star_stays inner (c ∷ []) ys h l = rw (h.0, l) refl
+star_stays inner (c ∷ d ∷ xs) ys h l = rw (h.0, h.1.0, and_right (c == 47) false refl) (star_stays inner (d ∷ xs) ys h.1 l)
+
+-- a star that no slash follows is skipped
+star_skips : (inner : ℕ) (cs zs more : List ℕ) → more ≡ cs ++ zs → begins (λ d. d == 47) more ≡ false → closes_comment inner (42 ∷ cs) ≡ closes_comment inner cs
+star_skips inner [] zs more e h = refl
+star_skips inner (c ∷ cs) zs more e h =
+    let other : (c == 47) ≡ false = sym (ap (begins (λ d. d == 47)) e) ∙ h in
+    rw other refl
+
+-- within a comment, at the next star: it opens a block with the slash before it,
+module _ (inner : ℕ) (text rest front more : List ℕ) (goes : Goes (closes_comment 0) (closes_comment inner) text rest) (is : rest ≡ front ++ 42 ∷ more) (none : NonePass (λ d. d == 42) front) where
+  one_is : rest ≡ (front ++ 42 ∷ []) ++ more
+  one_is = is ∙ sym (append_assoc front (42 ∷ []) more)
+
+  two_are : (behind : List ℕ) → more ≡ 47 ∷ behind → rest ≡ (front ++ 42 ∷ 47 ∷ []) ++ behind
+  two_are behind e = is ∙ ap (λ cs. front ++ 42 ∷ cs) e ∙ sym (append_assoc front (42 ∷ 47 ∷ []) behind)
+
+  pub block_opens : is_last 47 front ≡ true → Goes (closes_comment 0) (closes_comment (inner + 1)) text more
+  block_opens l =
+      goes_on (closes_comment 0) (closes_comment inner) (closes_comment (inner + 1)) text rest more (front ++ 42 ∷ []) goes one_is
+      (λ cs zs e. ap (closes_comment inner) (append_assoc front (42 ∷ []) cs) ∙ star_opens inner front cs none l)
+
+  -- closes one with the slash behind it,
+  pub block_closes : (behind : List ℕ) → is_last 47 front ≡ false → more ≡ 47 ∷ behind → inner ≢ 0 → Goes (closes_comment 0) (closes_comment (inner - 1)) text behind
+  block_closes behind l e some =
+      goes_on (closes_comment 0) (closes_comment inner) (closes_comment (inner - 1)) text rest behind (front ++ 42 ∷ 47 ∷ []) goes (two_are behind e)
+      (λ cs zs f. ap (closes_comment inner) (append_assoc front (42 ∷ 47 ∷ []) cs) ∙ star_stays inner front (47 ∷ cs) none l ∙ rw (ne_eqb inner 0 some) refl)
+
+  -- closes the outermost,
+  pub block_ends : (behind : List ℕ) → is_last 47 front ≡ false → more ≡ 47 ∷ behind → inner ≡ 0 → HasFront (closes_comment 0) text behind
+  block_ends behind l e zero =
+      goes_to (closes_comment 0) (closes_comment inner) text rest behind (front ++ 42 ∷ 47 ∷ []) goes (two_are behind e)
+      (ap (λ n. closes_comment n (front ++ 42 ∷ 47 ∷ [])) zero ∙ star_stays 0 front (47 ∷ []) none l)
+
+  -- or does nothing
+  pub block_stays : is_last 47 front ≡ false → begins (λ d. d == 47) more ≡ false → Goes (closes_comment 0) (closes_comment inner) text more
+  block_stays l h =
+      goes_on (closes_comment 0) (closes_comment inner) (closes_comment inner) text rest more (front ++ 42 ∷ []) goes one_is
+      (λ cs zs e. ap (closes_comment inner) (append_assoc front (42 ∷ []) cs) ∙ star_stays inner front cs none l ∙ star_skips inner cs zs more e h)

@@ -1,0 +1,109 @@
+-- Literals between quotes, character by character. What they are is said in `Quotes`; that both agree is proved.
+use Rattle.std.specs.Prelude.{ℕ, ◌+◌, ◌*◌, ◌==◌, Bool, false, cond, ◌&&◌, ◌||◌, not, Option, Some, None, List, [], ◌∷◌, ◌++◌, nat_lt, nat_le}
+use Rattle.std.specs.Char.{digit_value}
+use Rattle.educe_tokens_pieces.specs.declared.quotes.Quote.{Quote}
+use Rattle.educe_tokens_pieces.specs.declared.quotes.Quote.TheVariants.{Str, ByteStr, CStr, Char, Byte}
+use Rattle.educe_tokens_pieces.specs.declared.quotes.Within.{Within}
+use Rattle.educe_tokens_pieces.specs.declared.quotes.Within.TheVariants.{Open, Break, Escape, Return, High, Low, Brace, Code, Close}
+use Rattle.educe_tokens_pieces.specs.declared.quotes.Next.{Next}
+use Rattle.educe_tokens_pieces.specs.declared.quotes.Next.TheVariants.{Go, End, Stop}
+use Rattle.educe_tokens_pieces.specs.Chars.{is_empty}
+use Rattle.educe_tokens_pieces.specs.Quotes.{closing, is_single, is_bytes, top_digit, is_escape, escape_value, is_hex, is_scalar, is_plain}
+
+-- behind a part
+abbrev pub behind_part : Quote → Within
+behind_part quote = cond (is_single quote) (Close quote) (Open quote)
+
+-- space, tab, line feed and carriage return
+abbrev pub is_space_character : ℕ → Bool
+is_space_character c = (c == 32) || (c == 9) || (c == 10) || (c == 13)
+
+-- before a part or the mark at the end
+abbrev pub open_step : Quote → ℕ → Next
+open_step quote c =
+    cond ((c == closing quote) && not (is_single quote)) End
+    (cond (c == 92) (Go (Escape quote))
+    (cond (is_plain quote c) (Go (behind_part quote)) Stop))
+
+-- behind a `\`
+abbrev pub escape_step : Quote → ℕ → Next
+escape_step quote c =
+    cond (is_escape c) (Go (behind_part quote))
+    (cond (c == 120) (Go (High quote))
+    (cond ((c == 117) && not (is_bytes quote)) (Go (Brace quote))
+    (cond ((c == 10) && not (is_single quote)) (Go (Break quote))
+    (cond ((c == 13) && not (is_single quote)) (Go (Return quote)) Stop))))
+
+-- behind `\u{` and digits
+abbrev pub code_step : Quote → ℕ → ℕ → ℕ → Next
+code_step quote digits value c =
+    cond (c == 125) (cond (nat_lt 0 digits && is_scalar value) (Go (behind_part quote)) Stop)
+    (cond (c == 95) (cond (nat_lt 0 digits) (Go (Code quote digits value)) Stop)
+    (cond (is_hex c && nat_lt digits 6) (Go (Code quote (digits + 1) (value * 16 + digit_value c))) Stop))
+
+abbrev pub step : Within → ℕ → Next
+step (Open quote) c = open_step quote c
+step (Break quote) c = cond (is_space_character c) (Go (Break quote)) (open_step quote c)
+step (Escape quote) c = escape_step quote c
+step (Return quote) c = cond (c == 10) (Go (Break quote)) Stop
+step (High quote) c = cond (is_hex c && nat_le (digit_value c) (top_digit quote)) (Go (Low quote (digit_value c))) Stop
+step (Low quote high) c = cond (is_hex c) (Go (behind_part quote)) Stop
+step (Brace quote) c = cond (c == 123) (Go (Code quote 0 0)) Stop
+step (Code quote digits value) c = code_step quote digits value c
+step (Close quote) c = cond (c == closing quote) End Stop
+
+-- the characters of the value that a character completes
+abbrev pub gives : Within → ℕ → List ℕ
+gives (Open quote) c = cond ((c == closing quote) || (c == 92)) [] (c ∷ [])
+gives (Break quote) c = cond (is_space_character c || ((c == closing quote) || (c == 92))) [] (c ∷ [])
+gives (Escape quote) c = cond (is_escape c) (escape_value c ∷ []) []
+gives (Return quote) c = []
+gives (High quote) c = []
+gives (Low quote high) c = (high * 16 + digit_value c) ∷ []
+gives (Brace quote) c = []
+gives (Code quote digits value) c = cond (c == 125) (value ∷ []) []
+gives (Close quote) c = []
+
+-- the last of these characters is the first at which the literal ends
+abbrev pub ends : Within → List ℕ → Bool
+ends within [] = false
+ends within (c ∷ cs) = elim (step within c) [ Go more ↦ ends more cs | End ↦ is_empty cs | Stop ↦ false ]
+
+-- what they give together, up to the end
+abbrev pub given : Within → List ℕ → List ℕ
+given within [] = []
+given within (c ∷ cs) = elim (step within c) [ Go more ↦ gives within c ++ given more cs | End ↦ [] | Stop ↦ [] ]
+
+abbrev pub plus : ℕ → Option ℕ → Option ℕ
+plus k None = None
+plus k (Some n) = Some (k + n)
+
+-- how many characters it takes until the literal ends
+abbrev pub end_at : Within → List ℕ → Option ℕ
+end_at within [] = None
+end_at within (c ∷ cs) = elim (step within c) [ Go more ↦ plus 1 (end_at more cs) | End ↦ Some 1 | Stop ↦ None ]
+
+-- a quote, and the rest of the literal
+abbrev pub is_quoted : Quote → ℕ → List ℕ → Bool
+is_quoted quote mark [] = false
+is_quoted quote mark (c ∷ cs) = (c == mark) && ends (Open quote) cs
+
+-- a `b` or `c`, a quote, and the rest of the literal
+abbrev pub is_prefixed : ℕ → Quote → ℕ → List ℕ → Bool
+is_prefixed letter quote mark [] = false
+is_prefixed letter quote mark (c ∷ cs) = (c == letter) && is_quoted quote mark cs
+
+abbrev pub is_str : List ℕ → Bool
+is_str cs = is_quoted Str 34 cs
+
+abbrev pub is_byte_str : List ℕ → Bool
+is_byte_str cs = is_prefixed 98 ByteStr 34 cs
+
+abbrev pub is_c_str : List ℕ → Bool
+is_c_str cs = is_prefixed 99 CStr 34 cs
+
+abbrev pub is_char : List ℕ → Bool
+is_char cs = is_quoted Char 39 cs
+
+abbrev pub is_byte : List ℕ → Bool
+is_byte cs = is_prefixed 98 Byte 39 cs

@@ -1,0 +1,168 @@
+//! Pieces where they stand in a text, with no list of its characters. Each function answers what
+//! follows the piece.
+ghost use Rattle.std.specs.Prelude.{◌≡◌, ◌<◌, ◌++◌, ◌∷◌, ◌==◌, [], false, chars, length, IsTrue, IfSome, MatchOption};
+ghost use Rattle.std.specs.List.{list_all};
+ghost use Rattle.educe_tokens_pieces.specs.Chars.{begins, is_blank, is_in_line};
+ghost use Rattle.educe_tokens_pieces.specs.Words.{is_word, touches_word};
+ghost use Rattle.unicode_ident.specs.Ident.{is_xid_continue};
+ghost use Rattle.educe_tokens_pieces.specs.Comments.{closes_comment};
+ghost use Rattle.educe_tokens_pieces.specs.Fronts.{HasFront, is_last};
+ghost use Rattle.educe_tokens_pieces.specs.Machine.{ends};
+ghost use Rattle.educe_tokens_pieces.specs.Pieces.{ends_word_before};
+ghost use Rattle.educe_tokens_pieces.specs.declared.quotes.Within.{Within};
+
+use crate::chars::{is_blank, is_word_start};
+use crate::quotes::{Next, Quote, Within, step};
+use unicode_ident::is_xid_continue;
+
+/// The first character of a text, and what follows it.
+#[inline]
+pub fn first_of(text: &str) -> Option<(char, &str)>
+    ensures parts { MatchOption result (chars text.now ≡ []) (λ x. chars text.now ≡ x.0 ∷ chars x.1.now) }
+    ensures shorter { IfSome result (λ x. length x.1.now < length text.now) }
+{
+    let mut rest = text.chars();
+    let first = rest.next()?;
+    Some((first, rest.as_str()))
+}
+
+/// Whether a text begins with the mark.
+pub fn text_begins(text: &str, mark: char) -> bool
+    ensures { result ≡ begins (λ c. c == mark) (chars text.now) }
+{
+    match first_of(text) {
+        Some((c, _)) => c == mark,
+        None => false,
+    }
+}
+
+/// Whether no character stands at the front that goes on with a word (Rust Reference, Identifiers).
+pub fn ends_word(rest: &str) -> bool
+    ensures { result ≡ ends_word_before (chars rest.now) }
+{
+    match first_of(rest) {
+        Some((c, _)) => !is_xid_continue(c),
+        None => true,
+    }
+}
+
+/// Whether a character stands at the front that makes a word before it no piece (Rust Reference,
+/// Reserved prefixes).
+pub fn text_touches_word(rest: &str) -> bool
+    ensures { result ≡ begins touches_word (chars rest.now) }
+{
+    match first_of(rest) {
+        Some((c, _)) => is_xid_continue(c) || matches!(c, '"' | '\'' | '#'),
+        None => false,
+    }
+}
+
+/// What follows the mark, where a text begins with it.
+pub fn behind_mark(text: &str, mark: char) -> Option<&str>
+    ensures parts { IfSome result (λ rest. chars text.now ≡ mark ∷ chars rest.now) }
+    ensures none { result ≡ None → begins (λ c. c == mark) (chars text.now) ≡ false }
+    ensures shorter { IfSome result (λ rest. length rest.now < length text.now) }
+{
+    let (c, rest) = first_of(text)?;
+    if c == mark { Some(rest) } else { None }
+}
+
+/// What follows the blanks at the front.
+pub fn behind_blanks(text: &str) -> &str
+    ensures { HasFront (list_all is_blank) (chars text.now) (chars result.now) }
+{
+    let mut rest = text;
+    while let Some((c, more)) = first_of(rest) {
+        if is_blank(c) {
+            rest = more;
+        } else {
+            return rest;
+        }
+    }
+    rest
+}
+
+/// What follows the characters at the front that go on with a word.
+fn behind_continues(text: &str) -> &str
+    ensures { HasFront (list_all is_xid_continue) (chars text.now) (chars result.now) }
+{
+    let mut rest = text;
+    while let Some((c, more)) = first_of(rest) {
+        if is_xid_continue(c) {
+            rest = more;
+        } else {
+            return rest;
+        }
+    }
+    rest
+}
+
+/// What follows the word at the front, if one is there.
+pub fn behind_word(text: &str) -> Option<&str>
+    ensures { IfSome result (λ rest. HasFront is_word (chars text.now) (chars rest.now)) }
+{
+    let (first, rest) = first_of(text)?;
+    if is_word_start(first) {
+        Some(behind_continues(rest))
+    } else {
+        None
+    }
+}
+
+/// The line at the front, and what follows it: nothing, or a line feed first.
+pub fn split_line(text: &str) -> (&str, &str)
+    ensures line { IsTrue (list_all is_in_line (chars result.0.now)) }
+    ensures parts { chars text.now ≡ chars result.0.now ++ chars result.1.now }
+    ensures ends { begins is_in_line (chars result.1.now) ≡ false }
+{
+    match text.find('\n') {
+        Some(end) => text.split_at(end),
+        None => (text, ""),
+    }
+}
+
+fn ends_in_slash(text: &str) -> bool
+    ensures { result ≡ is_last 47 (chars text.now) }
+{
+    text.ends_with('/')
+}
+
+/// What follows the block comment that the text is in, if it closes.
+pub fn behind_block(text: &str) -> Option<&str>
+    ensures { IfSome result (λ rest. HasFront (closes_comment 0) (chars text.now) (chars rest.now)) }
+{
+    let mut inner: usize = 0;
+    let mut rest = text;
+    while let Some((front, more)) = rest.split_once('*') {
+        if ends_in_slash(front) {
+            inner += 1;
+            rest = more;
+        } else if let Some(behind) = behind_mark(more, '/') {
+            if inner == 0 {
+                return Some(behind);
+            }
+            inner -= 1;
+            rest = behind;
+        } else {
+            rest = more;
+        }
+    }
+    None
+}
+
+/// What follows the literal behind its opening quote, if it ends.
+pub fn behind_quoted(quote: Quote, text: &str) -> Option<&str>
+    ensures { IfSome result (λ rest. HasFront (ends (Within.Open quote)) (chars text.now) (chars rest.now)) }
+{
+    let mut within = Within::Open(quote);
+    let mut rest = text;
+    while let Some((c, more)) = first_of(rest) {
+        rest = more;
+        match step(within, c) {
+            Next::Go(next) => within = next,
+            Next::End => return Some(rest),
+            Next::Stop => return None,
+        }
+    }
+    None
+}

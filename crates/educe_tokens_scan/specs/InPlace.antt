@@ -1,0 +1,26 @@
+-- The piece at the front of a text, where it stands.
+use Rattle.std.specs.Prelude.{◌≡◌, ℕ, IsTrue, Some, List, ◌++◌, take, drop, chars}
+use Rattle.std.specs.Str.{IsCharBoundary}
+use Rattle.educe_tokens_pieces.specs.declared.kind.PieceKind.{PieceKind}
+use Rattle.educe_tokens_pieces.specs.Pieces.{is_piece, may_precede}
+use Rattle.educe_tokens_scan.specs.Reading.{Piece}
+use Rattle.educe_tokens_scan.specs.Scan.{piece_at}
+
+-- the characters are a piece of the kind that may stand before the rest, and the rest
+pub record Stands (kind : PieceKind) (text rest : List ℕ) : Type 0 where
+  pub spelling : List ℕ
+  pub is : text ≡ spelling ++ rest
+  pub piece : IsTrue (is_piece kind spelling)
+  pub before : IsTrue (may_precede kind spelling rest)
+
+-- so many bytes at the front of the text are the piece there
+pub record IsFront (text : List ℕ) (found : PieceKind × ℕ) : Type 0 where
+  pub count : ℕ
+  pub is : piece_at (chars text) ≡ Some (found.0, count)
+  pub front : chars (take found.1 text) ≡ take count (chars text)
+  pub back : chars (drop found.1 text) ≡ drop count (chars text)
+  pub boundary : IsCharBoundary text found.1
+
+-- the piece that is so many bytes at the front of the text
+abbrev pub byte_piece : List ℕ → PieceKind × ℕ → Piece
+byte_piece text found = record { kind = found.0; spelling = chars (take found.1 text) }

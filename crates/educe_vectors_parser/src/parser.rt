@@ -1,0 +1,88 @@
+//! What `parse_derive_input` and the calls for parts of a definition answer: for each production of
+//! the grammar texts that it allows, and texts that differ by a token and are none. Where `rustc`
+//! reads the syntax that is carried, it answers the same but for the differences in the documents.
+
+use educe_syntax::{parse_derive_input, parse_expr, parse_metas, parse_path, parse_predicates};
+use educe_tokens::{EduceError, Kind, TokenSlice};
+use educe_vectors_checks::{check_at, lex_answer};
+use std::alloc::Global;
+use std::test::Fail;
+
+mod calls;
+mod definitions;
+mod expressions;
+mod generics;
+mod limits;
+mod names;
+mod parts;
+mod types;
+
+/// The calls of the parser that read more than a name.
+#[derive(Clone, Copy)]
+enum Call {
+    Derive,
+    Metas,
+    Path,
+    Expr,
+    Predicates,
+}
+
+/// The kind and the place of a refusal, where there is one.
+type Refusal = Option<(Kind, (u32, u32))>;
+
+/// What the refusal is called.
+fn kind_name(kind: Kind) -> &'static str {
+    match kind {
+        Kind::Syntax => "Syntax",
+        Kind::TooDeep => "TooDeep",
+        Kind::NotCarried => "NotCarried",
+        Kind::DuplicateName => "DuplicateName",
+        _ => "another",
+    }
+}
+
+/// What an answer is called: `Ok`, or what the refusal is called.
+fn answer_name<T: Drop>(answer: Result<T, EduceError>) -> &'static str {
+    match answer {
+        Ok(_) => "Ok",
+        Err(error) => kind_name(error.kind),
+    }
+}
+
+/// The kind and the place of the refusal that is answered, if one is.
+fn refusal<T: Drop>(answer: Result<T, EduceError>) -> Refusal {
+    match answer {
+        Ok(_) => None,
+        Err(error) => Some((error.kind, (error.span.start, error.span.end))),
+    }
+}
+
+/// How a call refuses the tokens, if it does.
+fn refusal_of(alloc: Global, call: Call, tokens: &TokenSlice) -> Refusal {
+    match call {
+        Call::Derive => refusal(parse_derive_input(alloc, tokens)),
+        Call::Metas => refusal(parse_metas(alloc, tokens)),
+        Call::Path => refusal(parse_path(alloc, tokens)),
+        Call::Expr => refusal(parse_expr(alloc, tokens)),
+        Call::Predicates => refusal(parse_predicates(alloc, tokens)),
+    }
+}
+
+/// What is answered for a source.
+fn answer(alloc: Global, source: &str) -> Result<&'static str, Fail> {
+    match lex_answer(alloc, source)? {
+        Ok(tokens) => {
+            let tokens = TokenSlice::new(alloc, tokens)?;
+            Ok(answer_name(parse_derive_input(alloc, &tokens)))
+        }
+        Err(error) => Ok(kind_name(error.kind)),
+    }
+}
+
+/// Each of the sources gets this answer.
+fn check(alloc: Global, expected: &str, sources: &[&str]) -> Result<(), Fail> {
+    for source in sources {
+        check_at(*source, answer(alloc, source)?, expected)?;
+    }
+    Ok(())
+}

@@ -1,0 +1,12 @@
+//! Tests of `educe_tokens_pieces`, `educe_tokens_scan` and `educe_tokens`: texts, and the pieces, tokens and values
+//! that they are.
+#![tactic(auto)]
+
+#[cfg(test)]
+mod common;
+#[cfg(test)]
+mod pieces;
+#[cfg(test)]
+mod scan;
+#[cfg(test)]
+mod tokens;
