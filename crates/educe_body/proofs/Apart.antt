@@ -8,7 +8,7 @@ use Rattle.educe_tokens.specs.LiteralKind.TheVariants.{Int}
 use Rattle.educe_tokens.specs.TokenKind.TheVariants.{Ident as IdentKind, Literal}
 use Rattle.educe_tokens.specs.Chars.{begins}
 use Rattle.educe_tokens.specs.Pieces.{spells}
-use Rattle.educe_tokens.proofs.Words.{word_is_int}
+use Rattle.educe_tree.specs.TokenLaws.{lawful_kinds}
 use Rattle.educe_tree.specs.declared.ident.Ident.{Ident}
 use Rattle.educe_tree.specs.declared.data.Field.{Field}
 use Rattle.educe_tree.specs.declared.derive.DeriveInput.{DeriveInput}
@@ -23,7 +23,7 @@ use Rattle.educe_body.proofs.Indices.{decimal_begins}
 name_no_digit : (text : List ℕ) → IsTrue (spells IdentKind text) → begins is_ascii_digit text ≡ true → ⊥
 name_no_digit text h digit =
     let here : cond (spells IdentKind text) IdentKind (Literal Int) ≡ IdentKind = ap (λ (b : Bool). cond b IdentKind (Literal Int)) h in
-    let there : IdentKind ≡ Literal Int = sym here ∙ word_is_int text digit in
+    let there : IdentKind ≡ Literal Int = sym here ∙ lawful_kinds.index text digit in
     cc
 
 -- a name is no index

@@ -12,7 +12,7 @@ use Rattle.educe_tokens.specs.Lexes.{Lexeme, lexeme_of}
 use Rattle.educe_tokens.specs.StringValue.{IsString, IsStringValue}
 use Rattle.educe_tree.specs.Names.{unraw}
 use Rattle.educe_body.specs.Words.{IsRunOf, IsWordOf, ident, lifetime, run, HasWord}
-use Rattle.educe_body.proofs.Strings.{string_value-one, string_value-kind}
+use Rattle.educe_tree.specs.TokenLaws.{lawful_values}
 
 -- the value of the token has the word as a run
 record HasRun (word : List ℕ) (token : Lexeme) : Type 0 where
@@ -39,7 +39,7 @@ means_run kind word token IsString.doc has = has
 word_means : (word : List ℕ) (token : Lexeme) → IsWordOf word token → Means token.kind word token
 word_means word token (ident text) = refl
 word_means word token (lifetime w) = refl
-word_means word token (run w value t holds own) = means_run t.kind w t (string_value-kind t value holds) (record { value = value; holds = holds; own = own })
+word_means word token (run w value t holds own) = means_run t.kind w t (lawful_values.kind t value holds) (record { value = value; holds = holds; own = own })
 
 -- the words of a name
 pub ident_word : (word text : List ℕ) → IsWordOf word (record { kind = Ident; spelling = text }) ↔ (unraw text ≡ word)
@@ -58,12 +58,12 @@ lifetime_word word text = (
 -- the words of a token with a value are its runs
 pub value_word : (word value : List ℕ) (token : Lexeme) → IsStringValue token value → IsWordOf word token ↔ IsRunOf word value
 value_word word value token holds = (
-  (λ h. by_kind token.kind (string_value-kind token value holds) (word_means word token h)),
+  (λ h. by_kind token.kind (lawful_values.kind token value holds) (word_means word token h)),
   (λ own. run word value token holds own),
 )
   where
     runs : HasRun word token → IsRunOf word value
-    runs has = subst (IsRunOf word) (string_value-one token has.value value has.holds holds) has.own
+    runs has = subst (IsRunOf word) (lawful_values.one_value token has.value value has.holds holds) has.own
 
     by_kind : (kind : TokenKind) → IsString kind → Means kind word token → IsRunOf word value
     by_kind kind IsString.str means = runs means
@@ -71,7 +71,7 @@ value_word word value token holds = (
 
 -- other tokens have none
 pub no_word : (word : List ℕ) (token : Lexeme) → ¬ IsString token.kind → token.kind ≢ Ident → token.kind ≢ Lifetime → ¬ IsWordOf word token
-no_word word token none no_ident no_lifetime h = by_kind token.kind none no_ident no_lifetime (λ has. none (string_value-kind token has.value has.holds)) (word_means word token h)
+no_word word token none no_ident no_lifetime h = by_kind token.kind none no_ident no_lifetime (λ has. none (lawful_values.kind token has.value has.holds)) (word_means word token h)
   where
     by_kind : (kind : TokenKind) → ¬ IsString kind → kind ≢ Ident → kind ≢ Lifetime → ¬ HasRun word token → Means kind word token → ⊥
     by_kind Ident none a b runs means = a refl
@@ -89,7 +89,8 @@ has_word-at (u ∷ tokens) zero t word inside is own = inl (subst (λ x. IsWordO
 has_word-at (u ∷ tokens) (suc i) t word inside is own = inr (has_word-at tokens i t word (omega arith) is own)
 
 -- a token without the word may be left out
-pub has_word-past : (tokens : List Token) (i : ℕ) (t : Token) (word : List ℕ) → i < length tokens → t ≡ get_or tokens i t → ¬ IsWordOf word (lexeme_of t) → HasWord (drop i tokens) word → HasWord (drop (suc i) tokens) word
+pub has_word-past : (tokens : List Token) (i : ℕ) (t : Token) (word : List ℕ) → i < length tokens → t ≡ get_or tokens i t
+    → ¬ IsWordOf word (lexeme_of t) → HasWord (drop i tokens) word → HasWord (drop (suc i) tokens) word
 has_word-past [] i t word inside is none has = absurd (omega arith)
 has_word-past (u ∷ tokens) zero t word inside is none has = ⊎_elim (λ here. absurd (none (subst (λ x. IsWordOf word (lexeme_of x)) (sym is) here))) (λ there. there) has
 has_word-past (u ∷ tokens) (suc i) t word inside is none has = has_word-past tokens i t word (omega arith) is none has

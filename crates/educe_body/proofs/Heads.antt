@@ -6,7 +6,7 @@ use Rattle.std.proofs.lemmas.Bool.Decides.{same_from_decides}
 use Rattle.std.proofs.lemmas.Slice.Eq.{bytes_eq-Decides}
 use Rattle.educe_tokens.specs.Lexes.{Lexeme}
 use Rattle.educe_tokens.specs.declared.word.Word.{Word}
-use Rattle.educe_tokens.proofs.Ascii.{chars-ascii}
+use Rattle.educe_tree.specs.TokenLaws.{ascii_chars}
 use Rattle.educe_traits.specs.declared.traits.Trait.{Trait}
 use Rattle.educe_traits.specs.declared.traits.Trait.TheVariants.{PartialEq, PartialOrd, Ord}
 use Rattle.educe_body.specs.declared.body.Function.{Function}
@@ -31,9 +31,9 @@ is_name name text same ascii tells =
 
 -- the test whether a text is the name of the function of a trait
 is_own : (which : Trait) (text : List ℕ) (same : Bool) → IsTrue same ↔ (text ≡ chars (own_name which)) → bytes_eq text (own_name which) ≡ same
-is_own PartialEq text same tells = is_name (codes "eq") text same (chars-ascii (codes "eq") refl) tells
-is_own PartialOrd text same tells = is_name (codes "partial_cmp") text same (chars-ascii (codes "partial_cmp") refl) tells
-is_own Ord text same tells = is_name (codes "cmp") text same (chars-ascii (codes "cmp") refl) tells
+is_own PartialEq text same tells = is_name (codes "eq") text same (ascii_chars (codes "eq") refl) tells
+is_own PartialOrd text same tells = is_name (codes "partial_cmp") text same (ascii_chars (codes "partial_cmp") refl) tells
+is_own Ord text same tells = is_name (codes "cmp") text same (ascii_chars (codes "cmp") refl) tells
 
 -- the head of the function of the trait
 pub function_head-own : (which : Trait) (f : Function) (same : Bool) → IsTrue same ↔ (f.name.text ≡ chars (own_name which)) → same ≡ true → function_head which f ≡ own_head which f.body.params

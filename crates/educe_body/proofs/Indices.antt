@@ -22,7 +22,7 @@ use Rattle.educe_tokens.specs.Integers.{is_digit_or_mark}
 use Rattle.educe_tokens.specs.Numbers.{has_digit, digits_number}
 use Rattle.educe_tokens.specs.Pieces.{spells, is_name_or_index}
 use Rattle.educe_tokens.specs.Spells.{IsIntegerOf}
-use Rattle.educe_tokens_pieces.proofs.IntegerSpells.{int_tested}
+use Rattle.educe_tree.specs.TokenLaws.{lawful_kinds}
 use Rattle.educe_body.specs.Keys.{IsIndexOf, begins_plain}
 
 -- ---- digits are an integer
@@ -67,7 +67,7 @@ decimal_is_index n small =
       typed = inl refl;
     } in
     let value : digits_number Decimal ds ≡ n = ap (digits_value 10) (digits_kept ds own.0.1) ∙ own.1 in
-    or_right (spells Ident ds) (spells (Literal Int) ds) (int_tested ds (Decimal, ds, int, omega arith))
+    or_right (spells Ident ds) (spells (Literal Int) ds) (lawful_kinds.integer ds (Decimal, ds, int, omega arith))
 
 -- ---- digits that are read
 

@@ -7,7 +7,6 @@ pub mod Spelled
 pub mod Fields
 pub mod Indices
 pub mod Runs
-pub mod Strings
 pub mod Having
 pub mod Apart
 pub mod MadePaths

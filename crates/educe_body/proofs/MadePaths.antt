@@ -11,7 +11,7 @@ use Rattle.educe_tokens.specs.declared.token.Token.{Token}
 use Rattle.educe_tokens.specs.Appends.{no_place, LieNowhere}
 use Rattle.educe_tokens.specs.Lexes.{Lexeme, lexeme_of, lexemes}
 use Rattle.educe_tokens.specs.Quote.{quoted}
-use Rattle.educe_tokens.proofs.Tokens.{cons_parts, nil_not_cons}
+use Rattle.educe_tokens.proofs.Lists.{cons_parts, nil_not_cons}
 use Rattle.educe_tree.specs.Names.{is_keyword}
 use Rattle.educe_tree.specs.declared.ident.Ident.{Ident}
 use Rattle.educe_tree.specs.declared.expr.ExprPath.{ExprPath}

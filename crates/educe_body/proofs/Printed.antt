@@ -61,7 +61,8 @@ unfolding hidden-the_row-Form-1 hidden
 form_lexemes-SomeOf inner = ap in_some (append-nil (form_lexemes inner))
 
 -- a match on an order, by the tokens of what is matched
-pub form_lexemes-MatchOrdering : (matched : Form) (partial : Bool) (greater less : Ordering) → form_lexemes (MatchOrdering matched partial greater less) ≡ quoted (codes "match") ++ form_lexemes matched ++ in_curly (step_arms partial greater less)
+pub form_lexemes-MatchOrdering : (matched : Form) (partial : Bool) (greater less : Ordering) → form_lexemes (MatchOrdering matched partial greater less)
+    ≡ quoted (codes "match") ++ form_lexemes matched ++ in_curly (step_arms partial greater less)
 unfolding hidden-the_row-Form-1 hidden
 form_lexemes-MatchOrdering matched partial greater less = ap (λ found. quoted (codes "match") ++ found ++ in_curly (step_arms partial greater less)) (append-nil (form_lexemes matched))
 
@@ -86,7 +87,8 @@ separated-last (y ∷ ys) x =
     ∙ ap (λ comma. separated (y ∷ ys) ++ (comma ++ x)) (sym (comma_before-suc (length ys)))
 
 -- the forms up to one more, with commas between
-pub separated-take : (forms : List Form) (i : ℕ) (d : Form) → i < length forms → separated (map form_lexemes (take (i + 1) forms)) ≡ separated (map form_lexemes (take i forms)) ++ (comma_before i ++ form_lexemes (get_or forms i d))
+pub separated-take : (forms : List Form) (i : ℕ) (d : Form) → i < length forms
+    → separated (map form_lexemes (take (i + 1) forms)) ≡ separated (map form_lexemes (take i forms)) ++ (comma_before i ++ form_lexemes (get_or forms i d))
 separated-take forms i d h =
     let few : length (map form_lexemes (take i forms)) ≡ i = length-map (take i forms) form_lexemes ∙ length-take-le i forms (omega arith) in
     ap (λ forms. separated (map form_lexemes forms)) (take_more forms i d h)

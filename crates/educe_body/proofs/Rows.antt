@@ -67,7 +67,8 @@ module _ (scene : Scene) (names : List Binding) where
   unfolding hidden-the_row-Form-1 hidden
   form_value-SomeOf inner = refl
 
-  pub form_value-MatchOrdering : (matched : Form) (partial : Bool) (greater less : Ordering) → form_value scene names (MatchOrdering matched partial greater less) ≡ match_ordering partial greater less (form_value scene names matched)
+  pub form_value-MatchOrdering : (matched : Form) (partial : Bool) (greater less : Ordering) → form_value scene names (MatchOrdering matched partial greater less)
+      ≡ match_ordering partial greater less (form_value scene names matched)
   unfolding hidden-the_row-Form-1 hidden
   form_value-MatchOrdering matched partial above below = refl
 

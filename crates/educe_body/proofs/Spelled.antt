@@ -7,8 +7,8 @@ use Rattle.std.proofs.lemmas.Str.Ascii.{IsAscii-nil, IsAscii-cons}
 use Rattle.std.proofs.lemmas.List.{take_more}
 use Rattle.educe_tokens.specs.Lexes.{LexesAside}
 use Rattle.educe_tokens.specs.Text.{text_of}
-use Rattle.educe_tokens.proofs.Behind.{lexes_behind}
 use Rattle.educe_tokens.proofs.Printed.{put_text}
+use Rattle.educe_tree.specs.TokenLaws.{lawful_printing}
 use Rattle.educe_body.specs.declared.body.Item.{Item}
 use Rattle.educe_body.specs.Tokens.{item_lexemes, tokens_of, spelling}
 
@@ -22,7 +22,7 @@ spelling_lexes [] each = record { pieces = []; reads = refl; carried = refl; tok
 spelling_lexes (item ∷ items) each =
     let text = text_of (item_lexemes item) in
     subst (λ (whole : List ℕ). LexesAside whole (tokens_of (item ∷ items))) (sym (append_assoc text (10 ∷ []) (spelling items)))
-    (lexes_behind text (spelling items) (item_lexemes item) (tokens_of items) each.0 (spelling_lexes items each.1))
+    (lawful_printing.behind text (spelling items) (item_lexemes item) (tokens_of items) each.0 (spelling_lexes items each.1))
 
 -- one more item
 pub spelling-take : (items : List Item) (i : ℕ) (d : Item) → i < length items → spelling (take (i + 1) items) ≡ spelling (take i items) ++ (text_of (item_lexemes (get_or items i d)) ++ 10 ∷ [])

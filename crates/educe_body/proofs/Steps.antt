@@ -4,7 +4,7 @@ use Rattle.std.specs.Prelude.{codes, slice_index_or}
 use Rattle.std.specs.Cmp.Lexicographic.{pointwise}
 use Rattle.std.specs.Str.{bytes_eq}
 use Rattle.std.proofs.lemmas.List.{drop_more}
-use Rattle.educe_tokens.proofs.Ascii.{chars-ascii}
+use Rattle.educe_tree.specs.TokenLaws.{ascii_chars}
 use Rattle.educe_tokens.specs.declared.token.Token.{Token}
 use Rattle.educe_tokens.specs.declared.word.Word.{Word}
 use Rattle.educe_tree.specs.declared.data.Field.{Field}
@@ -86,7 +86,7 @@ abbrev bound_to : List ℕ → Referent → Binding
 bound_to name referent = record { name = name; referent = referent }
 
 self_name : chars (codes "self") ≡ codes "self"
-self_name = chars-ascii (codes "self") refl
+self_name = ascii_chars (codes "self") refl
 
 -- the bindings that `self` alone makes
 pub bindings_of-empty : (none names : List Binding) (self : List ℕ) (params : List Word)

@@ -8,7 +8,7 @@ use Rattle.educe_body.specs.declared.answers.Callee.{Callee}
 use Rattle.educe_body.specs.Callees.{first_named, path_of}
 use Rattle.std.specs.Char.{is_ascii}
 use Rattle.std.specs.List.{list_all}
-use Rattle.educe_tokens.proofs.Ascii.{chars-ascii}
+use Rattle.educe_tree.specs.TokenLaws.{ascii_chars}
 
 abbrev pub words_ascii : List (Bor (List ℕ)) → Bool
 words_ascii [] = true
@@ -30,7 +30,7 @@ first_with (known ∷ more) path = if pointwise bytes_eq path (path_of (texts kn
 map_chars-texts : (words : List (Bor (List ℕ))) → words_ascii words ≡ true → map (λ word. chars word.now) words ≡ texts words
 map_chars-texts [] ascii = refl
 map_chars-texts (word ∷ words) ascii =
-    let here = chars-ascii word.now (grind (arith, nat_tests)) in
+    let here = ascii_chars word.now (grind (arith, nat_tests)) in
     let rest = map_chars-texts words (grind (arith, nat_tests)) in
     ap (λ (text : List ℕ). text ∷ map (λ word. chars word.now) words) here ∙ ap (λ (more : List (List ℕ)). word.now ∷ more) rest
 

@@ -8,7 +8,7 @@ use Rattle.educe_tree.specs.declared.expr.ExprPath.{ExprPath}
 use Rattle.educe_body.specs.declared.answers.Callee.{Callee}
 use Rattle.educe_body.specs.declared.answers.Callee.TheVariants.{Ne, Cmp, PartialCmp}
 
--- the spellings of tokens; two lists are the same tokens, jointness and spans aside, where these agree
+-- the spellings of tokens; where they agree the tokens are the same (`AreSameTokens`), since a spelling decides the kind
 abbrev pub spellings : List Token → List (List ℕ)
 spellings tokens = map (λ t. t.spelling) tokens
 

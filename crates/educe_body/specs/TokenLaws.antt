@@ -211,7 +211,8 @@ impl_printable item =
     let functions : List Lexeme = flat_map (function_lexemes item.which) item.functions in
     let block = curly_printable functions (printable-flat_map (function_lexemes item.which) (function_printable item.which) item.functions) in
     let front : List Lexeme = written_lexemes item.attributes ++ quoted (codes "impl") in
-    let head = three front (trait_path item.which) (quoted (codes "for")) (printable-append (written_lexemes item.attributes) (quoted (codes "impl")) (printable-written item.attributes) (template _ refl)) (trait_printable item.which) (template _ refl) in
+    let head = three front (trait_path item.which) (quoted (codes "for")) (printable-append (written_lexemes item.attributes) (quoted (codes "impl")) (printable-written item.attributes) (template _ refl))
+    (trait_printable item.which) (template _ refl) in
     printable-append (front ++ trait_path item.which ++ quoted (codes "for")) (ident_lexeme item.ident ∷ in_curly functions) head
     (printable-append (ident_lexeme item.ident ∷ []) (in_curly functions) (ident_printable item.ident) block)
 

@@ -2,6 +2,8 @@
 ghost use Rattle.std.specs.Prelude.{◌≡◌, map, chars, codes};
 ghost use Rattle.std.specs.Str.{bytes_eq};
 ghost use Rattle.std.specs.Cmp.Lexicographic.{pointwise};
+ghost use Rattle.educe_tokens.specs.Same.{AreSameTokens};
+ghost use Rattle.educe_tree.specs.declared.expr.ExprPath.{ExprPath};
 ghost use Rattle.educe_body.specs.Callees.{callee_of, first_named, path_of, segment_is, spellings};
 
 use crate::answers::Callee;
@@ -21,7 +23,10 @@ const BUILT_IN: [([&str; 4], Callee); 3] = [
 
 /// The built-in function that a path names: the path has its tokens, jointness and spans aside.
 pub fn callee_of(path: &ExprPath) -> Option<Callee>
-    ensures { result ≡ callee_of path.now }
+    ensures named { result ≡ callee_of path.now }
+    // A path of the same tokens names the same function.
+    ensures same { (other : ExprPath) → AreSameTokens path.now.written.tokens other.written.tokens →
+        callee_of other ≡ result }
 {
     named(path.written.tokens().as_slice(), &BUILT_IN)
 }

@@ -11,7 +11,7 @@ use educe_tree::Field;
 use std::alloc::{AllocError, Global};
 
 /// The word by which the field at a place is read: its name as it was written, or where it has none
-/// the decimal digits of the place. Fails only for want of memory (Rust Reference, Field access
+/// the decimal digits of the place. Fails only where memory runs out (Rust Reference, Field access
 /// expressions; Tuple indexing expressions).
 pub fn key_word(alloc: Global, place: usize, field: &Field) -> Result<Word, AllocError>
     ensures { IfOk result (λ word. word.text ≡ key_of place field.now) }

@@ -15,7 +15,7 @@ use unicode_ident::is_xid_continue;
 
 /// Whether the word is one of the tokens': a name without `r#`, a lifetime without `'`, or a run of
 /// XID_Continue in the value of a string or of documentation that goes on no further to either side.
-/// Fails only for want of memory.
+/// Fails only where memory runs out.
 pub fn has_word(alloc: Global, tokens: &[Token], name: &str) -> Result<bool, AllocError>
     ensures { IfOk result (λ found. IsTrue found ↔ HasWord tokens.now (chars name.now)) }
 {

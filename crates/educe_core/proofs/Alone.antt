@@ -1,4 +1,4 @@
--- A text has one cause to be refused, want of memory aside.
+-- A text has one cause to be refused, out of memory aside.
 use Rattle.std.proofs.Common.{◌≡◌, ◌≢◌, ◌∙◌, ℕ, true, ℤ, pos, ◌<ℤ◌, List, [], ◌∷◌, inl, inr, refl, sym, ap, subst, arith, chars}
 use Rattle.std.proofs.lemmas.Bool.{true≢false}
 use Rattle.std.proofs.lemmas.Int.{ints}
@@ -8,12 +8,10 @@ use Rattle.educe_tokens.specs.declared.span.Span.{Span}
 use Rattle.educe_tokens.specs.declared.token.Token.{Token}
 use Rattle.educe_tokens.specs.Causes.{IsLexicalCause}
 use Rattle.educe_tokens.specs.Steps.{IsReading}
-use Rattle.educe_tokens.proofs.Alone.{cause_alone}
-use Rattle.educe_tokens.proofs.Uncaused.{no_cause}
-use Rattle.educe_tokens.proofs.Unique.{lexes_one}
 use Rattle.educe_syntax.specs.DeriveInput.{DeriveInput}
 use Rattle.educe_syntax.specs.Refusal.{IsRefusalOf}
 use Rattle.educe_syntax.specs.Laws.{lawful_definitions}
+use Rattle.educe_syntax.specs.TokenLaws.{lawful_lexing}
 use Rattle.educe_traits.specs.declared.traits.Trait.{Trait}
 use Rattle.educe_traits.specs.declared.traits.Trait.TheVariants.{PartialEq, PartialOrd, Ord}
 use Rattle.educe_traits.specs.Traits.{is_listed}
@@ -92,23 +90,23 @@ handled_once d e f (IsHandlerCause.reuse r p built reuses) (IsHandlerCause.reuse
 module _ (source : List ℕ) where
   -- a text that has tokens whose brackets close in order, not too deep, has no lexical cause
   not_lexical : {X : Type 0} (tokens : List Token) (e : EduceError) → IsReading (chars source) tokens → IsLexicalCause (chars source) e → e.kind ≢ Alloc → X
-  not_lexical tokens e are cause kind = absurd (kind (no_cause (chars source) tokens are.lexes are.balanced are.shallow e cause))
+  not_lexical tokens e are cause kind = absurd (kind (lawful_lexing.uncaused (chars source) tokens are e cause))
 
   -- a definition has no cause in its tokens
   not_grammatical : {X : Type 0} (tokens : List Token) (d : DeriveInput) (e : EduceError) → IsReading (chars source) tokens → IsRefusalOf tokens e → Defines (chars source) d → e.kind ≢ Alloc → X
   not_grammatical tokens d e are refusal defines kind = absurd (refusal_undefined tokens d e (whole_of source tokens d are defines) defines.names_apart refusal kind)
 
-  -- two causes are one, want of memory aside
+  -- two causes are one, out of memory aside
   cause_once : (e f : EduceError) → IsCause source e → IsCause source f → e.kind ≢ Alloc → f.kind ≢ Alloc → e ≡ f
   cause_once e f IsCause.memory also kind kind_also = absurd (kind refl)
   cause_once e f cause IsCause.memory kind kind_also = absurd (kind_also refl)
-  cause_once e f (IsCause.lexical cause) (IsCause.lexical also) kind kind_also = cause_alone (chars source) e f cause also kind kind_also
+  cause_once e f (IsCause.lexical cause) (IsCause.lexical also) kind kind_also = lawful_lexing.one_cause (chars source) e f cause also kind kind_also
   cause_once e f (IsCause.lexical cause) (IsCause.grammatical ts are refusal) kind kind_also = not_lexical ts e are cause kind
   cause_once e f (IsCause.lexical cause) (IsCause.handled d defines also) kind kind_also = not_lexical d.tokens e defines.tokens_are cause kind
   cause_once e f (IsCause.grammatical ts are refusal) (IsCause.lexical cause) kind kind_also = not_lexical ts f are cause kind_also
   cause_once e f (IsCause.handled d defines also) (IsCause.lexical cause) kind kind_also = not_lexical d.tokens f defines.tokens_are cause kind_also
   cause_once e f (IsCause.grammatical ts are refusal) (IsCause.grammatical us are_also also) kind kind_also =
-      lawful_definitions.one_cause us e f (subst (λ (xs : List Token). IsRefusalOf xs e) (lexes_one (chars source) ts us are.lexes are_also.lexes) refusal) also kind kind_also
+      lawful_definitions.one_cause us e f (subst (λ (xs : List Token). IsRefusalOf xs e) (lawful_lexing.one_list (chars source) ts us are.lexes are_also.lexes) refusal) also kind kind_also
   cause_once e f (IsCause.grammatical ts are refusal) (IsCause.handled d defines also) kind kind_also = not_grammatical ts d e are refusal defines kind
   cause_once e f (IsCause.handled d defines also) (IsCause.grammatical ts are refusal) kind kind_also = not_grammatical ts d f are refusal defines kind_also
   cause_once e f (IsCause.handled d defines cause) (IsCause.handled o also cause_also) kind kind_also =

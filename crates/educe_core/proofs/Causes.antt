@@ -14,9 +14,6 @@ use Rattle.educe_tokens.specs.declared.token.Token.{Token}
 use Rattle.educe_tokens.specs.Steps.{IsReading}
 use Rattle.educe_tokens.specs.Refusals.{placeless}
 use Rattle.educe_tokens.specs.Message.{HasWords}
-use Rattle.educe_tokens.proofs.Places as places
-use Rattle.educe_tokens.proofs.Unique.{lexes_one}
-use Rattle.educe_tokens.proofs.Uncaused.{no_cause}
 use Rattle.educe_syntax.specs.DeriveInput.{DeriveInput}
 use Rattle.educe_syntax.specs.Definitions.{definition}
 use Rattle.educe_syntax.specs.Naming.{AreNamesApart}
@@ -24,6 +21,7 @@ use Rattle.educe_syntax.specs.Parsed.{IsWhole}
 use Rattle.educe_syntax.specs.Reading.{Parses}
 use Rattle.educe_syntax.specs.Refusal.{IsRefusalOf}
 use Rattle.educe_syntax.specs.Laws.{lawful_definition, lawful_definitions}
+use Rattle.educe_syntax.specs.TokenLaws.{lawful_lexing}
 use Rattle.educe_traits.specs.declared.traits.Trait.{Trait}
 use Rattle.educe_traits.specs.declared.traits.Trait.TheVariants.{PartialEq, PartialOrd, Ord}
 use Rattle.educe_traits.specs.Traits.{is_listed}
@@ -131,7 +129,7 @@ defined_by source tokens d are whole apart =
 
 -- the tokens of a text are those of the definition that it is
 pub whole_of : (source : List ℕ) (tokens : List Token) (d : DeriveInput) → IsReading (chars source) tokens → Defines (chars source) d → IsWhole definition tokens d
-whole_of source tokens d are defines = subst (λ (ts : List Token). IsWhole definition ts d) (lexes_one (chars source) d.tokens tokens defines.tokens_are.lexes are.lexes) defines.whole
+whole_of source tokens d are defines = subst (λ (ts : List Token). IsWhole definition ts d) (lawful_lexing.one_list (chars source) d.tokens tokens defines.tokens_are.lexes are.lexes) defines.whole
 
 -- a text is one definition
 pub one_defined : (source : List ℕ) (d other : DeriveInput) → Defines (chars source) d → Defines (chars source) other → d ≡ other
@@ -162,7 +160,7 @@ handler_words d e (IsHandlerCause.reuse rank place built reuses) = refl
 handler_words d e IsHandlerCause.memory = refl
 
 pub cause_words : (source : List ℕ) (e : EduceError) → IsCause source e → HasWords e.kind e.words
-cause_words source e (IsCause.lexical cause) = places.cause_words (chars source) e cause
+cause_words source e (IsCause.lexical cause) = lawful_lexing.words (chars source) e cause
 cause_words source e (IsCause.grammatical tokens are refusal) = (lawful_definitions.reported tokens e refusal).words
 cause_words source e (IsCause.handled d defines cause) = handler_words d e cause
 cause_words source e IsCause.memory = refl
@@ -174,7 +172,7 @@ handler_placed source d e utf8 defines (IsHandlerCause.reuse rank place built re
 handler_placed source d e utf8 defines IsHandlerCause.memory = IsCharBoundary-start source utf8
 
 pub cause_placed : (source : List ℕ) (e : EduceError) → IsUtf8 source → IsCause source e → IsCharBoundary source e.span.start
-cause_placed source e utf8 (IsCause.lexical cause) = places.cause_placed source e utf8 cause
+cause_placed source e utf8 (IsCause.lexical cause) = lawful_lexing.place source e utf8 cause
 cause_placed source e utf8 (IsCause.grammatical tokens are refusal) = refusal_is_placed source utf8 tokens are.lexes e refusal
 cause_placed source e utf8 (IsCause.handled d defines cause) = handler_placed source d e utf8 defines cause
 cause_placed source e utf8 IsCause.memory = IsCharBoundary-start source utf8
@@ -189,13 +187,13 @@ handled_undone d e built lists none IsHandlerCause.memory = refl
 
 pub done_uncaused : (source : List ℕ) (d : DeriveInput) → Defines (chars source) d → IsBuilt d → listed d ≢ [] → HasNoCauses d → (e : EduceError) → e.kind ≢ Alloc → IsCause source e → ⊥
 done_uncaused source d defines built lists none e kind (IsCause.lexical cause) =
-    kind (no_cause (chars source) d.tokens defines.tokens_are.lexes defines.tokens_are.balanced defines.tokens_are.shallow e cause)
+    kind (lawful_lexing.uncaused (chars source) d.tokens defines.tokens_are e cause)
 done_uncaused source d defines built lists none e kind (IsCause.grammatical tokens are refusal) = refusal_undefined tokens d e (whole_of source tokens d are defines) defines.names_apart refusal kind
 done_uncaused source d defines built lists none e kind (IsCause.handled other also cause) =
     kind (handled_undone d e built lists none (subst (λ (x : DeriveInput). IsHandlerCause x e) (one_defined source other d also defines) cause))
 done_uncaused source d defines built lists none e kind IsCause.memory = kind refl
 
--- the handler refuses a valid text for want of memory alone
+-- the handler refuses a valid text only where memory runs out
 pub valid_handler : (source : List ℕ) (d : DeriveInput) (e : EduceError) → Defines (chars source) d → IsHandlerCause d e → IsValid source → e.kind ≡ Alloc
 valid_handler source d e defines cause valid =
     handled_undone valid.definition e valid.built valid.lists valid.ranks_apart (subst (λ (x : DeriveInput). IsHandlerCause x e) (one_defined source d valid.definition defines valid.defines) cause)

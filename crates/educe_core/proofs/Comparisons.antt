@@ -9,10 +9,10 @@ use Rattle.educe_tokens.specs.declared.token.Token.{Token}
 use Rattle.educe_tokens.specs.Lexes.{Lexeme, lexemes}
 use Rattle.educe_tokens.specs.Quote.{quoted}
 use Rattle.educe_tokens.specs.WrittenLexemes.{written_lexemes}
-use Rattle.educe_tokens.proofs.Copying.{copied_spellings}
 use Rattle.educe_syntax.specs.Field.{Field}
 use Rattle.educe_syntax.specs.DeriveInput.{DeriveInput}
 use Rattle.educe_syntax.specs.ExprPath.{ExprPath}
+use Rattle.educe_syntax.specs.TokenLaws.{lawful_copies}
 use Rattle.educe_traits.specs.declared.traits.Trait.{Trait}
 use Rattle.educe_traits.specs.declared.traits.Trait.TheVariants.{PartialEq, PartialOrd, Ord}
 use Rattle.educe_body.specs.declared.value.FieldValue.{FieldValue}
@@ -63,7 +63,7 @@ path_callee Ord = refl
 
 callee_of-comparison : (which : Trait) (path : ExprPath) → written_lexemes path.written ≡ path_lexemes (comparison which) → callee_of path ≡ Some (comparison which)
 callee_of-comparison which path is =
-    ap callee_named (sym (spelling_list path.written.tokens) ∙ sym (copied_spellings (lexemes path.written.tokens)) ∙ ap (map (λ (x : Lexeme). x.spelling)) is) ∙ path_callee which
+    ap callee_named (sym (spelling_list path.written.tokens) ∙ sym (lawful_copies.spellings (lexemes path.written.tokens)) ∙ ap (map (λ (x : Lexeme). x.spelling)) is) ∙ path_callee which
 
 -- ---- one step
 
@@ -127,12 +127,14 @@ module _ (look_a look_b : List ℕ → Flow) where
   abbrev seen : Kept → Compared
   seen k = record { kept = k; first = part_in (look_a (key_of k.place k.field)); second = part_in (look_b (key_of k.place k.field)) }
 
-  seen_step : (which : Trait) (place : ℕ) (f : Field) (x y : FieldValue) (rest : List Compared) (kept : List Kept) (keeps : Bool) → look_a (key_of place f) ≡ Gives (Part x) → look_b (key_of place f) ≡ Gives (Part y) → rest ≡ map seen kept
+  seen_step : (which : Trait) (place : ℕ) (f : Field) (x y : FieldValue) (rest : List Compared) (kept : List Kept) (keeps : Bool) → look_a (key_of place f) ≡ Gives (Part x)
+      → look_b (key_of place f) ≡ Gives (Part y) → rest ≡ map seen kept
       → (if keeps then record { kept = kept_at which place f; first = x; second = y } ∷ rest else rest) ≡ map seen (if keeps then kept_at which place f ∷ kept else kept)
   seen_step which place f x y rest kept true at_a at_b same = λ i. record { kept = kept_at which place f; first = part_in (sym at_a i); second = part_in (sym at_b i) } ∷ same i
   seen_step which place f x y rest kept false at_a at_b same = same
 
-  compared-seen : (which : Trait) (place : ℕ) (fs : List Field) (xs ys : List FieldValue) → KeysGive look_a (keys_from place fs) xs → KeysGive look_b (keys_from place fs) ys → compared_from which place fs xs ys ≡ map seen (kept_from which place fs)
+  compared-seen : (which : Trait) (place : ℕ) (fs : List Field) (xs ys : List FieldValue) → KeysGive look_a (keys_from place fs) xs → KeysGive look_b (keys_from place fs) ys
+      → compared_from which place fs xs ys ≡ map seen (kept_from which place fs)
   compared-seen which place [] xs ys give_a give_b = refl
   compared-seen which place (f ∷ fs) [] ys give_a give_b = absurd give_a
   compared-seen which place (f ∷ fs) (x ∷ xs) [] give_a give_b = absurd give_b
@@ -282,5 +284,7 @@ body_evaluates which d body differ k table a b covers =
     let known = each_map (IsAnswered which table) (seen at_a at_b) kept (subst (AllByRecursion (IsAnswered which table)) same covers.each) in
     (λ i. outcome_of (list_value (scene_of d a b table) (bindings_of (k.params_are i)) Nothing (k.block_has.block_is i)))
     ∙ steps_value d a b table k.param.text k.param_is which k.ordered k.block_has.steps Nothing k.block_has.steps_are
-    (each_in_order which (IsGiven at_a) kept k.ordered k.ordered_is (each_given at_a which 0 fs a.fields give_a)) (each_in_order which (IsGiven at_b) kept k.ordered k.ordered_is (each_given at_b which 0 fs b.fields give_b)) (each_in_order which (λ k. IsAnswered which table (seen at_a at_b k)) kept k.ordered k.ordered_is known)
+    (each_in_order which (IsGiven at_a) kept k.ordered k.ordered_is (each_given at_a which 0 fs a.fields give_a))
+    (each_in_order which (IsGiven at_b) kept k.ordered k.ordered_is (each_given at_b which 0 fs b.fields give_b))
+    (each_in_order which (λ k. IsAnswered which table (seen at_a at_b k)) kept k.ordered k.ordered_is known)
     ∙ means_in_order which table at_a at_b kept k.ordered (compared which d a b) k.ordered_is same ∙ meaning-whole which table d a b

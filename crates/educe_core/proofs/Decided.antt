@@ -1,4 +1,4 @@
--- A text is valid exactly where no cause of a refusal stands, want of memory aside.
+-- A text is valid exactly where no cause of a refusal stands, out of memory aside.
 use Rattle.std.proofs.Common.{◌≡◌, ◌≢◌, ℕ, List, ◌⊎◌, inl, inr, refl, chars}
 use Rattle.educe_tokens.specs.declared.error.EduceError.{EduceError}
 use Rattle.educe_tokens.specs.declared.error.Kind.{Kind}
@@ -7,12 +7,12 @@ use Rattle.educe_tokens.specs.declared.token.Token.{Token}
 use Rattle.educe_tokens.specs.Causes.{HasCause, IsLexicalCause}
 use Rattle.educe_tokens.specs.Refusals.{placeless}
 use Rattle.educe_tokens.specs.Steps.{IsReading}
-use Rattle.educe_tokens.proofs.Decided as tokens
 use Rattle.educe_syntax.specs.DeriveInput.{DeriveInput}
 use Rattle.educe_syntax.specs.Definitions.{definition}
 use Rattle.educe_syntax.specs.Parsed.{IsWhole, IsParseCause}
 use Rattle.educe_syntax.specs.Refusal.{IsRefusalOf}
 use Rattle.educe_syntax.specs.Laws.{lawful_definitions}
+use Rattle.educe_syntax.specs.TokenLaws.{lawful_lexing}
 use Rattle.educe_core.specs.Headline.{Defines, IsValid, IsHandlerCause, IsCause, not_set_up_of, reuse_of}
 use Rattle.educe_core.proofs.Causes.{defined_by, done_uncaused}
 use Rattle.educe_core.proofs.BuiltDecided.{built_if}
@@ -21,7 +21,7 @@ use Rattle.educe_core.proofs.RanksDecided.{none_used_again}
 -- A text is a definition within the limits whose names are apart, or there is a cause why it is none.
 pub defined_or_refused : (source : List ℕ) → ((d : DeriveInput) × Defines (chars source) d) ⊎ HasCause (IsCause source)
 defined_or_refused source =
-    elim (tokens.decided (chars source)) [
+    elim (lawful_lexing.decided (chars source)) [
       | inl read ↦ elim (lawful_definitions.decided read.0) [
         | inl found ↦ inl (found.0, defined_by source read.0 found.0 read.1 found.1.whole found.1.apart)
         | inr refused ↦ inr (record { error = refused.error; is_told = refused.is_told; stands = IsCause.grammatical read.0 read.1 refused.stands })
@@ -91,7 +91,7 @@ valid_definition source d defines none =
       ranks_apart = none_used_again d (λ rank place reuses. (let same = none (reuse_of rank place) (IsHandlerCause.reuse rank place built reuses) in cc));
     }
 
--- A text in which no cause stands, want of memory aside, is valid.
+-- A text in which no cause stands, out of memory aside, is valid.
 pub valid_if_uncaused : (source : List ℕ) → ((e : EduceError) → IsCause source e → e.kind ≡ Alloc) → IsValid source
 valid_if_uncaused source none =
     elim (defined_or_refused source) [
@@ -99,6 +99,6 @@ valid_if_uncaused source none =
       | inr refused ↦ absurd (refused.is_told (none refused.error refused.stands))
     ]
 
--- In a valid text no cause stands, want of memory aside.
+-- In a valid text no cause stands, out of memory aside.
 pub uncaused_if_valid : (source : List ℕ) → IsValid source → (e : EduceError) → IsCause source e → e.kind ≢ Alloc → ⊥
 uncaused_if_valid source valid e cause told = done_uncaused source valid.definition valid.defines valid.built valid.lists valid.ranks_apart e told cause

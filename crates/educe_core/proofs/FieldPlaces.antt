@@ -86,7 +86,8 @@ joined_step Q None rest has more = tt
 joined_step Q (Some ys) None has more = tt
 joined_step Q (Some ys) (Some zs) has more = both_all Q ys zs has more
 
-joined : {X Y : Type 0} (lists : X → Option (List Y)) (P : X → Type 0) (Q : Y → Type 0) → ((x : X) → P x → IfSome (lists x) (AllByRecursion Q)) → (xs : List X) → AllByRecursion P xs → IfSome (all_joined lists xs) (AllByRecursion Q)
+joined : {X Y : Type 0} (lists : X → Option (List Y)) (P : X → Type 0) (Q : Y → Type 0) → ((x : X) → P x → IfSome (lists x) (AllByRecursion Q))
+    → (xs : List X) → AllByRecursion P xs → IfSome (all_joined lists xs) (AllByRecursion Q)
 joined lists P Q each [] all = tt
 joined lists P Q each (x ∷ xs) all = joined_step Q (lists x) (all_joined lists xs) (each x all.0) (joined lists P Q each xs all.1)
 
@@ -191,7 +192,8 @@ module _ (P : ℕ → Type 0) where
   order_placed : (tokens : List Token) → Placed tokens → IfSome (order_params tokens) (AllByRecursion ParamPlaced)
   order_placed tokens placed =
       chosen (AllByRecursion ParamPlaced) (begins_round tokens) (option_and_then fitting (params_in tokens)) None
-      (followed fitting (AllByRecursion ParamPlaced) (AllByRecursion ParamPlaced) (λ params has. chosen (AllByRecursion ParamPlaced) (are_params params) (Some params) None has tt) (params_in tokens) (params_in_placed tokens placed)) tt
+      (followed fitting (AllByRecursion ParamPlaced) (AllByRecursion ParamPlaced) (λ params has. chosen (AllByRecursion ParamPlaced) (are_params params) (Some params) None has tt)
+      (params_in tokens) (params_in_placed tokens placed)) tt
 
   params_for_placed : (which : Trait) (tokens : List Token) → Placed tokens → IfSome (params_for which tokens) (AllByRecursion ParamPlaced)
   params_for_placed PartialEq tokens placed = chosen (AllByRecursion ParamPlaced) (is_ignore_alone tokens) (Some (Ignore ∷ [])) None (tt, tt) tt
@@ -210,7 +212,8 @@ module _ (P : ℕ → Type 0) where
 
   settings_in_placed : (tokens : List Token) → Placed tokens → IfSome (settings_in tokens) (AllByRecursion SettingPlaced)
   settings_in_placed tokens placed =
-      followed (all_some setting_of) (AllByRecursion MetaPlaced) (AllByRecursion SettingPlaced) (λ ms has. some_all setting_of MetaPlaced SettingPlaced setting_placed ms has) (metas_in tokens) (metas_in_placed tokens placed)
+      followed (all_some setting_of) (AllByRecursion MetaPlaced) (AllByRecursion SettingPlaced)
+      (λ ms has. some_all setting_of MetaPlaced SettingPlaced setting_placed ms has) (metas_in tokens) (metas_in_placed tokens placed)
 
   unless_placed : (path : MetaPath) → IfSome (unless_educe path) (AllByRecursion SettingPlaced)
   unless_placed path = chosen (AllByRecursion SettingPlaced) (is_one_word (codes "educe") path.written.tokens) None (Some []) tt tt
@@ -277,5 +280,6 @@ module _ (P : ℕ → Type 0) where
   -- the place of a rank that is used again
   pub reuse_placed : (which : Trait) (tokens : Tokens) (d : DeriveInput) (rank : ℤ) (place : Span) → IsWhole definition tokens d → Placed tokens → ReusesARank which d rank place → Begins place
   reuse_placed which tokens d rank place whole placed reuses =
-      let later = In-all (λ (k : Kept). FieldPlaced k.field) (kept_fields which d) reuses.later (kept_placed which 0 (fields_of d) (fields_placed tokens d whole placed)) (In-from_Contains (kept_fields which d) reuses.later reuses.later_kept) in
+      let later = In-all (λ (k : Kept). FieldPlaced k.field) (kept_fields which d) reuses.later (kept_placed which 0 (fields_of d) (fields_placed tokens d whole placed))
+      (In-from_Contains (kept_fields which d) reuses.later reuses.later_kept) in
       subst Begins (sym reuses.place_is) (rank_placed which reuses.later.field later)

@@ -2,9 +2,9 @@
 use Rattle.std.proofs.Common.{◌≡◌, ℕ, zero, suc, ◌<◌, ◌&&◌, Bool, true, false, List, [], ◌∷◌, Option, Some, map, length, get_or, refl, sym, ap, ◌∙◌, arith, rules, chars}
 use Rattle.std.specs.Prelude.{◌==◌, codes, unwrap_or}
 use Rattle.std.proofs.lemmas.Bool.{false≢true}
-use Rattle.educe_tokens.proofs.Ascii.{chars-ascii}
 use Rattle.educe_syntax.specs.Field.{Field}
 use Rattle.educe_syntax.specs.DeriveInput.{DeriveInput}
+use Rattle.educe_syntax.specs.TokenLaws.{ascii_chars}
 use Rattle.educe_attrs.specs.declared.setting.Setting.{Setting}
 use Rattle.educe_traits.specs.declared.traits.Trait.{Trait}
 use Rattle.educe_attrs.specs.Said.{listed_by, settings_by}
@@ -13,7 +13,7 @@ use Rattle.educe_core.specs.Listed.{listed}
 use Rattle.educe_core.specs.Settings.{settings_of}
 
 pub other_chars : chars (codes "other") ≡ codes "other"
-other_chars = chars-ascii (codes "other") refl
+other_chars = ascii_chars (codes "other") refl
 
 pub settings_given : (f : Field) (s : List Setting) → settings_by f.attrs ≡ Some s → s ≡ settings_of f
 unfolding settings_of

@@ -65,7 +65,8 @@ module _ (which : Trait) (d : DeriveInput) (old new : List Ranked) (gathered : m
 
   takes_part : (r : Ranked) → In r new → Contains (kept_fields which d) (kept_of r)
   takes_part r found =
-      Contains-from_In (kept_fields which d) (kept_of r) (In-permutation (map kept_of new) (kept_fields which d) (kept_of r) (IsPermutation-sym (kept_fields which d) (map kept_of new) moved_fields) (In-mapped kept_of new r found))
+      Contains-from_In (kept_fields which d) (kept_of r) (In-permutation (map kept_of new) (kept_fields which d) (kept_of r)
+      (IsPermutation-sym (kept_fields which d) (map kept_of new) moved_fields) (In-mapped kept_of new r found))
 
   -- the places rose before
   places : Rises (λ (r : Ranked). pos r.place) old

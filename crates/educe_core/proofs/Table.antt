@@ -37,7 +37,19 @@ pub Answers-refusal :
     (source sink notes : Change) (input : List ℕ) (error : EduceError) (status : Status) → ReadsAll source input → IsUtf8 input → IsCause input error
     → (IsValid input → error.kind ≡ Alloc) → Refuses notes input error status → IsUnchanged sink → Answers expand_words source sink notes status
 Answers-refusal source sink notes input error status reads utf8 cause valid (inl (kind, delivers)) kept =
-    Answers-line expand_words source sink notes (Refused error) (refusal_line input error) status
-    (refl, record { input = input; whole = reads; utf8 = utf8; kind = kind; cause = cause; alone = λ other differs stands. alone input error cause other kind differs stands; invalid = λ v. kind (valid v); is = refl }) delivers kept
+    Answers-line expand_words source sink notes (Refused error) (refusal_line input error) status (
+      refl,
+      record {
+        input = input;
+        whole = reads;
+        utf8 = utf8;
+        kind = kind;
+        cause = cause;
+        alone = λ other differs stands. alone input error cause other kind differs stands;
+        invalid = λ v. kind (valid v);
+        is = refl;
+      },
+    )
+    delivers kept
 Answers-refusal source sink notes input error status reads utf8 cause valid (inr (notes_kept, is)) kept =
     subst (λ s. Answers expand_words source sink notes s) (sym is) (inl (reads.faults, record { sink_kept = kept; notes_kept = notes_kept }))

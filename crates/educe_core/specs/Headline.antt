@@ -48,7 +48,7 @@ abbrev pub reuse_of : ℤ → Span → EduceError
 reuse_of rank place = record { kind = ReuseARank rank; span = place; words = [] }
 
 -- why the handler refuses a definition: it is not of the form that is built so far; or it is, and lists no trait; or two
--- fields that take part in a listed order have one rank. Want of memory has no cause.
+-- fields that take part in a listed order have one rank. Out of memory has no cause.
 pub data IsHandlerCause (definition : DeriveInput) : EduceError → Type 0 where
   unbuilt : (IsBuilt definition → ⊥) → IsHandlerCause definition (placeless NotBuilt)
   not_set_up : IsBuilt definition → listed definition ≡ [] → IsHandlerCause definition (not_set_up_of definition)
@@ -56,8 +56,8 @@ pub data IsHandlerCause (definition : DeriveInput) : EduceError → Type 0 where
   memory : IsHandlerCause definition (placeless Alloc)
 
 -- why a text is refused, for each kind of refusal with its place and words: it has no tokens whose brackets close in
--- order, not too deep, or a literal that is not carried; it has such tokens, and they begin as a union, are no definition
--- within the limits, or one in which a name is given twice; or it is a definition, and the handler refuses that. Want of
+-- order, not too deep, or an unsupported literal; it has such tokens, and they begin as a union, are no definition
+-- within the limits, or one in which a name is given twice; or it is a definition, and the handler refuses that. Out of
 -- memory has no cause.
 pub data IsCause (source : List ℕ) : EduceError → Type 0 where
   lexical : {e : EduceError} → IsLexicalCause (chars source) e → IsCause source e

@@ -56,6 +56,30 @@ fn read(alloc: Global, source: &str) -> Result<DeriveInput, EduceError>
     }
 }
 
+/// The expansion of a definition, or a refusal with its cause.
+fn expanded(alloc: Global, source: &str) -> Result<Expansion, EduceError>
+    requires { length source.now ≤ SOURCE_LIMIT }
+    ensures done { IfOk result (λ e.
+        IsExpansion source.now (items_of_expansion e) (text_of_expansion e)) }
+    ensures cause { IfErr result (IsCause source.now) }
+    ensures valid { IsValid source.now → IfErr result (λ e. e.kind ≡ Kind.Alloc) }
+    ensures invalid { IfOk result (λ _. (e : EduceError) → e.kind ≢ Kind.Alloc →
+        IsCause source.now e → ⊥) }
+{
+    let ast = match read(alloc, source) {
+        Ok(ast) => ast,
+        Err(unread) => return Err(unread),
+    };
+    let items = match derive_input_handler(alloc, &ast) {
+        Ok(items) => items,
+        Err(error) => return Err(error),
+    };
+    match spell(alloc, &items) {
+        Ok(text) => Ok(Expansion { text, items }),
+        Err(_) => Err(EduceError::alloc(alloc)),
+    }
+}
+
 /// The expansion of a definition with `educe` attributes. Refused where the source does not lex, is
 /// no definition within the limits, gives a name twice, is not of the form that is built so far, lists
 /// no trait, or gives two fields that take part in an order one rank.
@@ -75,16 +99,5 @@ pub fn expand(alloc: Global, source: &str) -> Result<Expansion, EduceError>
     ensures words { IfErr result (λ e. HasWords e.kind e.words) }
     ensures placed { IfErr result (λ e. IsCharBoundary source.now e.span.start) }
 {
-    let ast = match read(alloc, source) {
-        Ok(ast) => ast,
-        Err(unread) => return Err(unread),
-    };
-    let items = match derive_input_handler(alloc, &ast) {
-        Ok(items) => items,
-        Err(error) => return Err(error),
-    };
-    match spell(alloc, &items) {
-        Ok(text) => Ok(Expansion { text, items }),
-        Err(_) => Err(EduceError::alloc(alloc)),
-    }
+    expanded(alloc, source)
 }

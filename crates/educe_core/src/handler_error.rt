@@ -7,7 +7,7 @@ use std::alloc::AllocError;
 pub enum HandlerError {
     /// Two fields have this rank; the place is that of the later one's.
     ReuseARank { rank: i64, place: Span },
-    /// Want of memory.
+    /// Out of memory.
     Memory,
 }
 

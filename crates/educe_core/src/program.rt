@@ -63,6 +63,29 @@ fn run_expand<S: Source, K: Sink, E: Sink>(
     }
 }
 
+/// Runs the command that the words are, or notes how it is called.
+fn run_words<S: Source, K: Sink, E: Sink>(
+    alloc: Global,
+    words: &Vec<String>,
+    source: &mut S,
+    sink: &mut K,
+    notes: &mut E,
+) -> Status
+    ensures answer { Answers (map string_bytes words.now.items)
+        (change (S.left source.old) (S.left source.new)
+        (S.faults source.old) (S.faults source.new) (S.may_fail source.old))
+        (change (K.held sink.old) (K.held sink.new)
+        (K.faults sink.old) (K.faults sink.new) (K.may_fail sink.old))
+        (change (E.held notes.old) (E.held notes.new)
+        (E.faults notes.old) (E.faults notes.new) (E.may_fail notes.old)) result }
+    ensures most { TakesAtMost 131_073 (S.left source.old) (S.left source.new) }
+{
+    if !is_expand(words) {
+        return deliver(notes, USAGE, Status::Usage);
+    }
+    run_expand(alloc, source, sink, notes)
+}
+
 /// Runs the program: the words exclude its name, notes are for the user. Words that are no command
 /// answer `Usage`, and an input past the limit is read up to its first byte that is too many.
 pub fn run<S: Source, K: Sink, E: Sink>(
@@ -108,8 +131,5 @@ pub fn run<S: Source, K: Sink, E: Sink>(
     ensures notes_faults { E.faults notes.old < E.faults notes.new → result ≡ Status.WriteFault }
     ensures most { TakesAtMost 131_073 (S.left source.old) (S.left source.new) }
 {
-    if !is_expand(words) {
-        return deliver(notes, USAGE, Status::Usage);
-    }
-    run_expand(alloc, source, sink, notes)
+    run_words(alloc, words, source, sink, notes)
 }

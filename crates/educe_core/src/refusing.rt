@@ -21,7 +21,7 @@ fn show(alloc: Global, source: &str, error: &EduceError) -> Result<String, Alloc
     format!(in alloc; "{line}:{column}: {message}\n")
 }
 
-/// Writes the line of a refusal of the source, where the refusal is not for want of memory.
+/// Writes the line of a refusal of the source, unless the refusal is out of memory.
 pub fn refuse<E: Sink>(alloc: Global, source: &str, error: EduceError, notes: &mut E) -> Status
     requires limit { length source.now ≤ SOURCE_LIMIT }
     requires words { HasWords error.kind error.words }

@@ -7,7 +7,7 @@ use Rattle.educe_tokens.specs.TokenKind.{TokenKind}
 use Rattle.educe_tokens.specs.TokenKind.TheVariants as kind
 use Rattle.educe_tokens.specs.declared.token.Token.{Token}
 use Rattle.educe_tokens.specs.Lexes.{Lexeme}
-use Rattle.educe_tokens.proofs.Tokens.{cons_parts, nil_not_cons}
+use Rattle.educe_tokens.proofs.Lists.{cons_parts, nil_not_cons}
 use Rattle.educe_grammar.specs.declared.terminal.Terminal.{Terminal}
 use Rattle.educe_grammar.specs.declared.terminal.Terminal.TheVariants.{Sign}
 use Rattle.educe_grammar.specs.Terminals.{TokenSet, set_of, token_in, accepts}

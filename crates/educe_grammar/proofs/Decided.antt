@@ -10,7 +10,7 @@ use Rattle.educe_tokens.specs.Causes.{HasCause}
 use Rattle.educe_tokens.specs.Refusals.{too_deep_at}
 use Rattle.educe_tokens.specs.declared.error.Kind.TheVariants.{Alloc}
 use Rattle.educe_tokens.specs.declared.token.Token.{Token}
-use Rattle.educe_tokens.proofs.Tokens.{cons_parts, nil_not_cons}
+use Rattle.educe_tokens.proofs.Lists.{cons_parts, nil_not_cons}
 use Rattle.educe_tree.specs.declared.attr.Attribute.{Attribute}
 use Rattle.educe_tree.specs.declared.derive.DeriveInput.{DeriveInput}
 use Rattle.educe_grammar.specs.declared.parse_error.ParseError.{ParseError}

@@ -4,6 +4,7 @@ use Rattle.std.specs.List.{AllByRecursion, filter_map}
 use Rattle.educe_tokens.specs.declared.span.Span.{Span}
 use Rattle.educe_tokens.specs.declared.error.EduceError.{EduceError}
 use Rattle.educe_tokens.specs.declared.error.Kind.TheVariants.{DuplicateName}
+use Rattle.educe_tokens.specs.Refusals.{citing_at}
 use Rattle.educe_tree.specs.declared.ident.Ident.{Ident}
 use Rattle.educe_tree.specs.declared.data.Field.{Field}
 use Rattle.educe_tree.specs.declared.data.Variant.{Variant}
@@ -102,4 +103,4 @@ AreNamesApart definition = AllApart (scopes definition)
 
 -- that the name is given twice, at the later place
 abbrev pub duplicate_of : Named → EduceError
-duplicate_of found = record { kind = DuplicateName; span = found.span; words = found.text ∷ [] }
+duplicate_of found = citing_at DuplicateName found.span found.text

@@ -1,5 +1,6 @@
 -- What a call answers that reads a whole list of tokens by a rule.
 use Rattle.std.specs.Prelude.{◌≡◌, ℕ, ◌-◌, ◌<◌, [], ◌∷◌, ◌++◌, length, slice_get, Option, Some, None, Result, Ok, Err}
+use Rattle.educe_tokens.specs.declared.brackets.TheConstants.{NESTING}
 use Rattle.educe_tokens.specs.declared.span.Span.{Span}
 use Rattle.educe_tokens.specs.declared.token.Token.{Token}
 use Rattle.educe_tokens.specs.declared.error.EduceError.{EduceError}
@@ -12,9 +13,9 @@ use Rattle.educe_grammar.specs.Depth.{counted}
 use Rattle.educe_grammar.specs.Reads.{Reads, read}
 use Rattle.educe_grammar.specs.Rules.{Rule}
 
--- how many brackets, angle lists, `&`, `*`, `dyn` and `->` may stand in one another
+-- how deep brackets, angle lists, `&`, `*`, `dyn` and `->` may nest
 abbrev pub depth_limit : ℕ
-depth_limit = 128
+depth_limit = NESTING
 
 -- the value of the whole list, within the limits
 abbrev pub IsWhole : {A : Type 0} → Rule A → Tokens → A → Type 0

@@ -1,5 +1,6 @@
 -- What a list of tokens is by a rule: a relation on whole lists, with no position and no reading ahead.
 use Rattle.std.specs.Prelude.{◌≡◌, ℕ, ◌-◌, ◌<◌, ◌≤◌, Bool, true, false, IsTrue, List, [], ◌∷◌, ◌++◌, length, drop, Some, ◌⊎◌}
+use Rattle.educe_tokens.specs.declared.brackets.TheConstants.{NESTING}
 use Rattle.educe_tokens.specs.declared.token.Token.{Token}
 use Rattle.educe_grammar.specs.declared.terminal.Terminal.TheVariants.{Sign}
 use Rattle.educe_grammar.specs.Terminals.{accepts}
@@ -18,7 +19,7 @@ Parts = ℕ → (p : Part) → Grammar (TreeOf p)
 
 -- how many links a chain has at most
 abbrev pub chain_limit : ℕ
-chain_limit = 128
+chain_limit = NESTING
 
 module _ {A : Type 0} (Item : Grammar A) where
   -- items with separators between, and maybe one after the last

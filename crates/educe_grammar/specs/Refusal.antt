@@ -1,10 +1,10 @@
 -- Why the tokens of a definition are refused.
-use Rattle.std.specs.Prelude.{◌≡◌, List, [], ◌∷◌, ◌++◌, codes}
+use Rattle.std.specs.Prelude.{◌≡◌, List, ◌∷◌, ◌++◌, codes}
 use Rattle.educe_tokens.specs.TokenKind.TheVariants as kind
 use Rattle.educe_tokens.specs.declared.token.Token.{Token}
 use Rattle.educe_tokens.specs.declared.error.EduceError.{EduceError}
 use Rattle.educe_tokens.specs.declared.error.Kind.TheVariants.{NotCarried, Alloc}
-use Rattle.educe_tokens.specs.Refusals.{placeless}
+use Rattle.educe_tokens.specs.Refusals.{placeless, citing_at}
 use Rattle.educe_tree.specs.declared.attr.Attribute.{Attribute}
 use Rattle.educe_tree.specs.declared.derive.DeriveInput.{DeriveInput}
 use Rattle.educe_grammar.specs.Steps.{Tokens}
@@ -32,9 +32,9 @@ pub record IsUnion (tokens : Tokens) (word : Token) : Type 0 where
   pub reads : IsWhole (both attributes visibility) front read
   pub word_is : IsUnionWord word
 
--- that unions are not carried
+-- that unions are unsupported
 abbrev pub union_of : Token → EduceError
-union_of word = record { kind = NotCarried; span = word.span; words = word.spelling ∷ [] }
+union_of word = citing_at NotCarried word.span word.spelling
 
 -- Why the tokens are refused: they begin as a union; or they don't, and are no definition within the limits; or a name of
 -- the definition is given twice. Any list may be refused for out of memory.

@@ -11,11 +11,8 @@ use crate::cursor::Cursor;
 use crate::parse_error::ParseError;
 use crate::production::{Context, Lookahead, Production};
 use crate::terminal::Terminal;
-use educe_tokens::Seq;
+use educe_tokens::{NESTING, Seq};
 use std::alloc::Global;
-
-/// How many links a chain has at most.
-const CHAIN_LIMIT: u8 = 128;
 
 /// The limits as numbers: how many brackets and the like nest, and how many links a chain has.
 pub fn limits()
@@ -68,7 +65,7 @@ pub fn many<T: Drop, S: Fn(&Cursor<'_>) -> bool, F: Fn(&mut Cursor<'_>) -> Resul
     Err(cursor.refuse())
 }
 
-/// Items one behind the other, as long as the tokens begin so, where more than 128 are too deep.
+/// Items one behind the other, as long as the tokens begin so, where more than `NESTING` are too deep.
 pub fn chain<C: Context, P: Production<C>, S: Lookahead>(
     context: &C,
     cursor: &mut Cursor<'_>,
@@ -78,7 +75,7 @@ pub fn chain<C: Context, P: Production<C>, S: Lookahead>(
     ensures { Gives (links S.look (P.reads budget) chain_limit [] cursor.old) result cursor.new }
 {
     let mut found = Seq::new(context.alloc());
-    for _link in 0..CHAIN_LIMIT {
+    for _link in 0..NESTING {
         if !S::is_next(cursor) {
             return Ok(found);
         }

@@ -63,13 +63,7 @@ impl<'a> Name<'a> {
     pub fn duplicate_error(&self, alloc: Global) -> EduceError
         ensures { (result ≡ placeless Alloc) ⊎ (result ≡ spec.duplicate_of self.now) }
     {
-        let Ok(text) = self.text.duplicate(alloc) else {
-            return EduceError::alloc(alloc);
-        };
-        match EduceError::with_word(alloc, Kind::DuplicateName, self.span, text) {
-            Ok(error) => error,
-            Err(_) => EduceError::alloc(alloc),
-        }
+        EduceError::citing(alloc, Kind::DuplicateName, self.span, self.text)
     }
 
     /// Whether this name is written before the other.

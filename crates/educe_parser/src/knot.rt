@@ -10,11 +10,12 @@ ghost use Rattle.educe_grammar.specs.Steps.{Gives};
 
 use crate::readers::Readers;
 use educe_grammar::{Cursor, ParseError, Parts, Typed};
+use educe_tokens::NESTING;
 use educe_tree::{DeriveInput, Expr, ExprPath, Metas, Predicates, Ty};
 use std::alloc::Global;
 
-/// How many brackets, angle lists, `&`, `*`, `dyn` and `->` may stand in one another.
-pub const DEPTH_LIMIT: u8 = 128;
+/// How deep brackets, angle lists, `&`, `*`, `dyn` and `->` may nest.
+pub const DEPTH_LIMIT: u8 = NESTING as u8;
 
 // What reads the parts inside by the functions of this file.
 macro_rules! parts {

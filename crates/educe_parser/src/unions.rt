@@ -69,11 +69,5 @@ pub fn union_word<'a>(
 pub fn union_error(alloc: Global, word: &Token) -> EduceError
     ensures { (result ≡ placeless Alloc) ⊎ (result ≡ union_of word.now) }
 {
-    let Ok(text) = word.spelling.duplicate(alloc) else {
-        return EduceError::alloc(alloc);
-    };
-    match EduceError::with_word(alloc, Kind::NotCarried, word.span, text) {
-        Ok(error) => error,
-        Err(_) => EduceError::alloc(alloc),
-    }
+    EduceError::citing(alloc, Kind::NotCarried, word.span, &word.spelling)
 }

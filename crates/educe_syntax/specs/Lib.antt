@@ -7,7 +7,8 @@ pub use Rattle.educe_grammar.specs.Placed
 pub use Rattle.educe_grammar.specs.Alike
 pub use Rattle.educe_grammar.specs.Depth
 pub use Rattle.educe_grammar.specs.Causes
--- The laws of the calls: a reading or a cause, and one of them.
+-- The laws of tokens, and of the calls: a reading or a cause, and one of them.
+pub use Rattle.educe_tree.specs.TokenLaws
 pub use Rattle.educe_parser.specs.Laws
 -- The grammar: which tokens are which value, and the ways to make a rule.
 pub use Rattle.educe_grammar.specs.Reads

@@ -1,4 +1,4 @@
--- A text has one lexical cause to be refused, want of memory aside.
+-- A text has one lexical cause to be refused, out of memory aside.
 use Rattle.std.proofs.Common.{◌≡◌, ◌≢◌, ℕ, ◌+◌, ◌≤◌, true, Option, Some, None, List, [], ◌∷◌, ◌++◌, length, refl, sym, ap, ◌∙◌, subst, arith, nat_le, encode_utf8_all}
 use Rattle.std.proofs.lemmas.Bool.{and_parts, false≢true}
 use Rattle.educe_tokens_pieces.specs.declared.kind.Bracket.{Bracket}
@@ -16,6 +16,7 @@ use Rattle.educe_tokens.specs.Lexes.{lexemes, Lexes, is_carried, are_carried, en
 use Rattle.educe_tokens.specs.Brackets.{open_after, kinds, depth_after, nests, IsShallow}
 use Rattle.educe_tokens.specs.Causes.{empty_at, last_of, open_behind, Meets, IsLexicalCause}
 use Rattle.educe_tokens.specs.Refusals.{syntax_at, too_deep_at, not_carried_at}
+use Rattle.educe_tokens.proofs.Lists.{cons_parts}
 use Rattle.educe_tokens.proofs.Opened.{none_is_not_some, same_some, depth_of, depth_within}
 use Rattle.educe_tokens.proofs.Unique.{lexes_one}
 use Rattle.educe_tokens.proofs.Uncaused.{not_carried, kinds_around}
@@ -54,7 +55,7 @@ last_piece text [] p rest reads = (reads.1 ∙ ap (λ more. p.spelling ++ more) 
 last_piece text (q ∷ before) p rest reads =
     let on = last_piece reads.0 before p rest reads.4 in ((reads.0, reads.1, reads.2, reads.3, on.0), on.1)
 
--- a literal that is not carried stops it
+-- an unsupported literal stops it
 stops_at_literal : (text : List ℕ) (before : List Piece) (literal : Piece) (kind : UncarriedKind) (rest : List ℕ) → Reads text (before ++ literal ∷ []) rest → are_carried before ≡ true
     → literal.kind ≡ Uncarried kind → Stops text before (literal.spelling ++ rest)
 stops_at_literal text before literal kind rest reads carried is =
@@ -89,7 +90,7 @@ none_not_read : (text : List ℕ) (before : List Piece) (rest : List ℕ) (token
 none_not_read text before rest tokens reads carried some none lexes =
     some (sym (stops_once text lexes.pieces before [] rest (stops_at_end text tokens lexes) (stops_at_none text before rest reads carried none)).1)
 
--- of a literal that is not carried and a place where no piece fits one stops it
+-- of an unsupported literal and a place where no piece fits one stops it
 literal_or_none : (text : List ℕ) (before other : List Piece) (literal : Piece) (kind : UncarriedKind) (rest more : List ℕ) → Reads text (before ++ literal ∷ []) rest → are_carried before ≡ true
     → literal.kind ≡ Uncarried kind → Reads text other more → are_carried other ≡ true → FitsNone more → ⊥
 literal_or_none text before other literal kind rest more reads carried is reads_other carried_other none =
@@ -140,22 +141,19 @@ record BadAt (outer : List Bracket) (before : List Token) (token : Token) : Type
   pub shallow : nests 128 (length outer) (kinds (lexemes before)) ≡ true
   pub bad : IsBad inner token.kind
 
-same_head : (t u : Token) (ts us : List Token) → t ∷ ts ≡ u ∷ us → (t ≡ u) × (ts ≡ us)
-same_head t u ts us h = (ap (λ (l : List Token). elim l [ [] ↦ t | x ∷ xs ↦ x ]) h, ap (λ (l : List Token). elim l [ [] ↦ ts | x ∷ xs ↦ xs ]) h)
-
 -- the first bad token is one
 bad_once : (outer : List Bracket) (before other : List Token) (t u : Token) (behind after : List Token) → before ++ t ∷ behind ≡ other ++ u ∷ after → BadAt outer before t → BadAt outer other u → t ≡ u
-bad_once outer [] [] t u behind after same a b = (same_head t u behind after same).0
+bad_once outer [] [] t u behind after same a b = (cons_parts t u behind after same).0
 bad_once outer [] (v ∷ other) t u behind after same a b =
-    let is = same_head t v behind (other ++ u ∷ after) same in
+    let is = cons_parts t v behind (other ++ u ∷ after) same in
     absurd (bad_stays outer b.inner v.kind (kinds (lexemes other))
     (subst (λ (k : TokenKind). IsBad outer k) (ap (λ (x : Token). x.kind) is.0) (subst (λ o. IsBad o t.kind) (sym (same_some outer a.inner a.opened)) a.bad)) b.opened b.shallow)
 bad_once outer (v ∷ before) [] t u behind after same a b =
-    let is = same_head v u (before ++ t ∷ behind) after same in
+    let is = cons_parts v u (before ++ t ∷ behind) after same in
     absurd (bad_stays outer a.inner v.kind (kinds (lexemes before))
     (subst (λ (k : TokenKind). IsBad outer k) (sym (ap (λ (x : Token). x.kind) is.0)) (subst (λ o. IsBad o u.kind) (sym (same_some outer b.inner b.opened)) b.bad)) a.opened a.shallow)
 bad_once outer (v ∷ before) (w ∷ other) t u behind after same a b =
-    let is = same_head v w (before ++ t ∷ behind) (other ++ u ∷ after) same in
+    let is = cons_parts v w (before ++ t ∷ behind) (other ++ u ∷ after) same in
     let kind : v.kind ≡ w.kind = ap (λ (x : Token). x.kind) is.0 in
     let one = opens_on outer a.inner v.kind (kinds (lexemes before)) a.opened in
     let two = opens_on outer b.inner w.kind (kinds (lexemes other)) b.opened in
@@ -207,7 +205,7 @@ module _ (text : List ℕ) where
   opens_not_wrong t u outer b same none opens =
       none_is_not_some (b ∷ outer) (sym none ∙ ap (open_after outer) (ap (λ (x : Token). x.kind) same ∙ opens))
 
-  -- two causes are one, want of memory aside
+  -- two causes are one, out of memory aside
   pub cause_alone : (e f : EduceError) → IsLexicalCause text e → IsLexicalCause text f → e.kind ≢ Alloc → f.kind ≢ Alloc → e ≡ f
   cause_alone e f IsLexicalCause.memory also kind kind_also = absurd (kind refl)
   cause_alone e f cause IsLexicalCause.memory kind kind_also = absurd (kind_also refl)

@@ -35,7 +35,7 @@ record GoesOn (outer : List Bracket) (kind : TokenKind) : Type 0 where
   pub opened : open_after outer kind ≡ Some inner
   pub within : length inner ≤ 128
 
--- the token is refused, and not for want of memory
+-- the token is refused for another cause than out of memory
 record IsRefused (outer : List Bracket) (kind : TokenKind) : Type 0 where
   pub cause : BracketError
   pub is_cause : IsCauseOfKind outer kind cause
@@ -61,7 +61,7 @@ one_more outer (Literal l) within = inl (record { inner = outer; opened = refl; 
 one_more outer (Punct c joint) within = inl (record { inner = outer; opened = refl; within = within })
 one_more outer Doc within = inl (record { inner = outer; opened = refl; within = within })
 
--- the refusal of such a token is none for want of memory
+-- the refusal of such a token is not out of memory
 told : (cause : BracketError) (place : Span) → cause ≢ bracket.Alloc → (refusal_of cause place).kind ≢ Alloc
 told bracket.WrongClose place other = λ same. cc
 told bracket.TooDeep place other = λ same. cc

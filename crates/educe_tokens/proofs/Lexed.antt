@@ -132,7 +132,7 @@ module _ (text rest : List ℕ) (old : List Token) (start : ℕ) (kind : PieceKi
     offset = ends ∙ ap (λ k. k + length (encode_utf8_all (take n rest))) b.offset ∙ sym (end_of-push 0 b.ps p);
   }
 
-  -- a literal that is not carried is why, or want of memory
+  -- an unsupported literal is why, or out of memory
   uncarried : (k : PieceKind) (e : EduceError) → kind ≡ k → IsCauseOfPiece (take n rest) span k e → IsLexicalCause text e
   uncarried k e is (IsCauseOfPiece.not_carried literal) =
       subst (λ s. IsLexicalCause text (not_carried_at s (take n rest))) (sym at) (IsLexicalCause.not_carried b.ps p literal (drop n rest) reads b.carried is)
@@ -142,7 +142,7 @@ module _ (text rest : List ℕ) (old : List Token) (start : ℕ) (kind : PieceKi
   pub piece_cause : (e : EduceError) → IsCauseOfPiece (take n rest) span kind e → IsLexicalCause text e
   piece_cause e cause = uncarried kind e refl cause
 
--- a literal is cited where it is not carried, or want of memory is
+-- an unsupported literal is cited, or out of memory is
 pub cited_cause : (literal : List ℕ) (span : Span) (kind : UncarriedKind) (spelling : List ℕ) (e : EduceError) → spelling ≡ literal → Cites NotCarried span spelling e → IsCauseOfPiece literal span (Uncarried kind) e
 cited_cause literal span kind spelling e is (inl memory) = subst (IsCauseOfPiece literal span (Uncarried kind)) (sym memory) (IsCauseOfPiece.memory (Uncarried kind))
 cited_cause literal span kind spelling e is (inr cites) =

@@ -1,3 +1,4 @@
+pub mod Lists
 pub mod Bytes
 pub mod Tokens
 pub mod Lexed
@@ -24,3 +25,4 @@ pub mod StringValues
 pub mod OneKind
 pub mod Printable
 pub mod Decided
+pub mod Lawful

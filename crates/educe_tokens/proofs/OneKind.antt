@@ -13,7 +13,7 @@ use Rattle.educe_tokens_scan.proofs.Readings.{one_piece}
 use Rattle.educe_tokens.specs.declared.token.Token.{Token}
 use Rattle.educe_tokens.specs.Copied.{unjoined}
 use Rattle.educe_tokens.specs.Same.{lexeme_aside, AreSameTokens}
-use Rattle.educe_tokens.proofs.Tokens.{cons_parts, nil_not_cons}
+use Rattle.educe_tokens.proofs.Lists.{cons_parts, nil_not_cons}
 
 -- the token as a piece, not joint
 abbrev apart : TokenKind → List ℕ → Piece

@@ -17,7 +17,8 @@ use Rattle.educe_tokens.specs.Message.{HasWords}
 use Rattle.educe_tokens.specs.Slices.{IsCutOut, IsSlice}
 use Rattle.educe_tokens.specs.Steps.{IsReading}
 use Rattle.educe_tokens.proofs.Bytes.{bytes-append}
-use Rattle.educe_tokens.proofs.Tokens.{span_of, cons_parts, nil_not_cons}
+use Rattle.educe_tokens.proofs.Lists.{cons_parts, nil_not_cons}
+use Rattle.educe_tokens.proofs.Tokens.{span_of}
 
 -- ---- in characters
 
@@ -142,17 +143,12 @@ pub answer_sliced : (source : List ℕ) (r : Result (List Token) EduceError) →
 answer_sliced source (Ok tokens) utf8 reading = tokens_sliced source tokens utf8 reading.lexes
 answer_sliced source (Err e) utf8 reading = tt
 
--- ---- where tokens begin and end
+-- ---- where tokens begin
 
 -- each token begins where a character does
-pub tokens_placed : (source : List ℕ) (tokens : List Token) → IsUtf8 source → Lexes (chars source) tokens → AllByRecursion (λ (t : Token). IsCharBoundary source t.span.start) tokens
+tokens_placed : (source : List ℕ) (tokens : List Token) → IsUtf8 source → Lexes (chars source) tokens → AllByRecursion (λ (t : Token). IsCharBoundary source t.span.start) tokens
 tokens_placed source tokens utf8 lexes =
     each_weaker (TokenLiesAt (chars source)) (λ (t : Token). IsCharBoundary source t.span.start) tokens (λ t lies. (lies_placed source t.span t.spelling utf8 lies).0) (tokens_lie (chars source) tokens lexes)
-
--- and ends where one does, or the text
-pub tokens_ended : (source : List ℕ) (tokens : List Token) → IsUtf8 source → Lexes (chars source) tokens → AllByRecursion (λ (t : Token). IsCharBoundary source t.span.end) tokens
-tokens_ended source tokens utf8 lexes =
-    each_weaker (TokenLiesAt (chars source)) (λ (t : Token). IsCharBoundary source t.span.end) tokens (λ t lies. (lies_placed source t.span t.spelling utf8 lies).1) (tokens_lie (chars source) tokens lexes)
 
 -- ---- refusals
 

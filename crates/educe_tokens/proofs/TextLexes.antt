@@ -15,9 +15,9 @@ use Rattle.educe_tokens_scan.specs.Joining.{stands_apart}
 use Rattle.educe_tokens_scan.proofs.Following.{before_space, before_end}
 use Rattle.educe_tokens_scan.proofs.Readings.{piece_longest}
 use Rattle.educe_tokens.specs.declared.token.Token.{Token}
-use Rattle.educe_tokens.specs.Brackets.{kinds}
+use Rattle.educe_tokens.specs.Brackets.{closes, kinds}
 use Rattle.educe_tokens.specs.Lexes.{Lexeme, lexemes, LexesAside, is_token, are_carried, piece_of}
-use Rattle.educe_tokens.specs.Text.{joins_next, is_punct_behind, may_join, joins_well, text_behind, text_of}
+use Rattle.educe_tokens.specs.Text.{joins_next, is_punct_behind, may_join, joins_well, text_behind, text_of, IsWellFormed}
 use Rattle.educe_tokens.proofs.Tokens.{is_lexeme, tokens_spelled}
 
 -- what is spelled and stands apart may stand before the text of others
@@ -123,3 +123,7 @@ text_of_lexes xs e h = record { pieces = pieces_behind true xs; reads = reads_be
 -- the same of tokens, each of which is spelled as its kind
 pub text_of_tokens_lexes : (ts : List Token) → joins_well (kinds (lexemes ts)) ≡ true → LexesAside (text_of (lexemes ts)) (lexemes ts)
 text_of_tokens_lexes ts h = text_of_lexes (lexemes ts) (tokens_spelled ts) h
+
+-- so the text of well-formed tokens does
+pub well_formed_lexes : (ts : List Token) → IsWellFormed (lexemes ts) → LexesAside (text_of (lexemes ts)) (lexemes ts)
+well_formed_lexes ts well = text_of_tokens_lexes ts (and_parts (closes [] (kinds (lexemes ts))) _ well).1

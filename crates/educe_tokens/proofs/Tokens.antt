@@ -13,6 +13,7 @@ use Rattle.educe_tokens_pieces.specs.declared.kind.PieceKind.TheVariants.{Blank,
 use Rattle.educe_tokens_pieces.specs.Pieces.{spells}
 use Rattle.educe_tokens_scan.specs.Reading.{Piece}
 use Rattle.educe_tokens.specs.Lexes.{Lexeme, lexeme_of, lexemes, piece_of}
+use Rattle.educe_tokens.proofs.Lists.{cons_parts, nil_not_cons}
 
 -- the spelling is one token of the kind
 abbrev pub is_lexeme : Lexeme → Bool
@@ -35,14 +36,6 @@ same_token s t e p = λ i. record {
   spelling = (e i).spelling;
   spelled = is_prop→PathP (λ j. spells (e j).kind (e j).spelling ≡ true) (λ j. Bool-set _ _) s.spelled t.spelled i;
 }
-
--- equal lists have equal parts
-pub cons_parts : {A : Type 0} (x y : A) (xs ys : List A) → x ∷ xs ≡ y ∷ ys → (x ≡ y) × (xs ≡ ys)
-cons_parts x y xs ys h = (cc, cc)
-
--- the empty list has no item
-pub nil_not_cons : {A : Type 0} (y : A) (ys : List A) → ◌≡◌ {A = List A} [] (y ∷ ys) → ⊥
-nil_not_cons y ys h = cc
 
 -- equal lexemes with equal spans are equal tokens
 pub same_tokens : (us ts : List Token) → lexemes us ≡ lexemes ts → map span_of us ≡ map span_of ts → us ≡ ts

@@ -19,7 +19,7 @@ use Rattle.educe_tokens.specs.Steps.{IsReading}
 use Rattle.educe_tokens.proofs.Opened.{closes_after, closes-cons, closes_behind, nests_behind, depth_within}
 use Rattle.educe_tokens.proofs.Unique.{lexes_aside, lexes_aside_one, lexes_one}
 
--- a literal that is not carried is not carried
+-- an unsupported literal is none of the pieces that are carried
 pub not_carried : (kind : UncarriedKind) (k : PieceKind) (s : List ℕ) → k ≡ Uncarried kind → is_carried (record { kind = k; spelling = s }) ≡ false
 not_carried kind k s is = ap (λ x. is_carried (record { kind = x; spelling = s })) is
 
@@ -93,6 +93,10 @@ no_cause_aside text found lexes balanced shallow e cause = elim (cause_if_balanc
 -- a text with such tokens has no cause
 pub no_cause : (text : List ℕ) (tokens : List Token) → Lexes text tokens → IsBalanced (lexemes tokens) → IsShallow (lexemes tokens) → (e : EduceError) → IsLexicalCause text e → e.kind ≡ Alloc
 no_cause text tokens lexes balanced shallow e cause = no_cause_aside text (lexemes tokens) (lexes_aside text tokens lexes) balanced shallow e cause
+
+-- so a text that is read has none
+pub reading_uncaused : (text : List ℕ) (tokens : List Token) → IsReading text tokens → (e : EduceError) → IsLexicalCause text e → e.kind ≡ Alloc
+reading_uncaused text tokens reading = no_cause text tokens reading.lexes reading.balanced reading.shallow
 
 -- so these tokens are the answer, unless memory is short
 pub gives_one : (text : List ℕ) (r : Result (List Token) EduceError) → IfOk r (IsReading text) → IfErr r (IsLexicalCause text) → (tokens : List Token) → Lexes text tokens → IsBalanced (lexemes tokens) → IsShallow (lexemes tokens) → Gives r tokens

@@ -1,5 +1,5 @@
 -- Why a text has no tokens whose brackets close in order, not too deep: for each refusal its place and its words. Of
--- several causes the first is meant: a literal that is not carried, or a place where no piece fits, counts only where each
+-- several causes the first is meant: an unsupported literal, or a place where no piece fits, counts only where each
 -- piece before is carried; brackets count only where the whole text is pieces that are carried, and of these a later one
 -- only where those before close in order and nest no deeper.
 use Rattle.std.specs.Prelude.{◌≡◌, ◌≢◌, ℕ, IsTrue, Option, Some, None, List, [], ◌∷◌, ◌++◌, length, Result, Ok, Err, encode_utf8_all}
@@ -39,7 +39,7 @@ pub record Meets (text : List ℕ) (before : List Token) (token : Token) (behind
   pub shallow : IsShallow (lexemes before)
 
 pub data IsLexicalCause (text : List ℕ) : EduceError → Type 0 where
-  -- pieces that are carried, and then a literal that is not
+  -- pieces that are carried, and then an unsupported literal
   not_carried : (before : List Piece) (literal : Piece) (kind : UncarriedKind) (rest : List ℕ) → Reads text (before ++ literal ∷ []) rest
       → IsTrue (are_carried before) → literal.kind ≡ Uncarried kind
       → IsLexicalCause text (not_carried_at (span_at (end_of 0 before) literal) literal.spelling)
@@ -57,10 +57,10 @@ pub data IsLexicalCause (text : List ℕ) : EduceError → Type 0 where
   -- a token that opens a bracket where exactly 128 are open
   too_deep : (before : List Token) (token : Token) (behind : List Token) (outer : List Bracket) (b : Bracket)
       → Meets text before token behind outer → token.kind ≡ Start b → length outer ≡ 128 → IsLexicalCause text (too_deep_at token.span)
-  -- want of memory
+  -- out of memory
   memory : IsLexicalCause text (placeless Alloc)
 
--- one of these causes stands, and it is no want of memory
+-- one of these causes stands, other than out of memory
 pub record HasCause (IsCause : EduceError → Type 0) : Type 0 where
   pub error : EduceError
   pub is_told : error.kind ≢ Alloc

@@ -22,7 +22,7 @@ lexemes tokens = map lexeme_of tokens
 abbrev pub is_token : Piece → Bool
 is_token p = elim p.kind [ Blank ↦ false | Comment ↦ false | TokenPiece kind ↦ true | Uncarried kind ↦ false ]
 
--- the piece is no literal that is read and not carried
+-- the piece is no unsupported literal
 abbrev pub is_carried : Piece → Bool
 is_carried p = elim p.kind [ Blank ↦ true | Comment ↦ true | TokenPiece kind ↦ true | Uncarried kind ↦ false ]
 

@@ -18,6 +18,7 @@ pub mod IntValue
 pub mod StringValue
 pub mod ToTokens
 pub mod WrittenLexemes
+pub mod Laws
 -- The kinds of tokens, how each is spelled, and what literals and documentation say.
 pub use Rattle.educe_tokens_pieces.specs.declared.kind.Bracket
 pub use Rattle.educe_tokens_pieces.specs.declared.kind.LiteralKind

@@ -16,7 +16,7 @@ use Rattle.educe_tokens.specs.Lexes.{lexemes, Lexes}
 use Rattle.educe_tokens.specs.Brackets.{open_after, IsBalanced, IsShallow}
 use Rattle.educe_tokens.specs.Refusals.{placeless, syntax_at, too_deep_at, not_carried_at}
 
--- what a piece adds to the tokens; none is added that is not carried
+-- what a piece adds to the tokens; an unsupported literal adds none
 abbrev pub Adds : PieceKind → List ℕ → Span → List Token → List Token → Type 0
 Adds Blank spelling span old new = new ≡ old
 Adds Comment spelling span old new = new ≡ old

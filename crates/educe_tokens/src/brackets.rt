@@ -21,7 +21,7 @@ pub enum BracketError {
     WrongClose,
     /// It opens a bracket where `NESTING` are open.
     TooDeep,
-    /// Want of memory.
+    /// Out of memory.
     Alloc,
 }
 

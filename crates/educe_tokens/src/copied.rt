@@ -1,29 +1,13 @@
 //! Tokens as they are copied to another place.
-ghost use Rattle.std.specs.Prelude.{◌≡◌, IfOk, IsTrue, List, [], ◌∷◌, ◌++◌, map};
+ghost use Rattle.std.specs.Prelude.{◌≡◌, IfOk};
 ghost use Rattle.educe_tokens.specs.Brackets.{kinds};
 ghost use Rattle.educe_tokens.specs.Copied as spec;
-ghost use Rattle.educe_tokens.specs.Copied.{copied, may_be_copied, unjoined, unjoin};
-ghost use Rattle.educe_tokens.specs.Lexes.{Lexeme, lexemes};
+ghost use Rattle.educe_tokens.specs.Lexes.{lexemes};
 ghost use Rattle.educe_tokens.specs.Text as text;
-ghost use Rattle.educe_tokens.specs.Text.{is_written};
 
 use crate::token::Token;
 use educe_tokens_pieces::TokenKind;
 use std::alloc::{AllocError, Global};
-
-/// What copying changes: the jointness of puncts alone, where they could not stand joint. It does
-/// nothing; its contract is the law.
-pub fn copying_laws()
-    ensures spellings { (found : List Lexeme) → map (λ x. x.spelling) (copied found) ≡ map (λ x. x.spelling) found }
-    ensures kinds { (found : List Lexeme) → map unjoined (kinds (copied found)) ≡ map unjoined (kinds found) }
-    // Copies may stand side by side.
-    ensures written { (found : List Lexeme) → IsTrue (may_be_copied found) → IsTrue (is_written (copied found)) }
-    // What may stand side by side is its own copy.
-    ensures kept { (found : List Lexeme) → IsTrue (is_written found) → copied found ≡ found }
-    // Where the tokens may, if the last were not joint, the last alone has another copy: it is not.
-    ensures last { (front : List Lexeme) (last : Lexeme) → IsTrue (is_written (front ++ unjoin last ∷ []))
-        → copied (front ++ last ∷ []) ≡ front ++ unjoin last ∷ [] }
-{}
 
 /// Whether these begin with a punct that opens no comment behind `c`.
 fn is_punct_behind(c: char, behind: &[Token]) -> bool

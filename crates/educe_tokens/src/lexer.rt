@@ -135,7 +135,7 @@ fn checked_tokens(alloc: Global, source: &str) -> Result<TokenStream, EduceError
 /// 128 of them open at once. Blanks and comments that are no documentation are left out. A text is
 /// refused for the first of these, with its place:
 /// - no piece fits (`Syntax`, at the last token before, or, where no token stands before, empty at
-///   the end of the text), or a literal is not carried (`NotCarried`, at the literal, with its
+///   the end of the text), or a literal is unsupported (`NotCarried`, at the literal, with its
 ///   spelling as the word), whichever comes first in the text;
 /// - a bracket closes another than the innermost one, or none (`Syntax`, at that bracket), or opens
 ///   where 128 are open (`TooDeep`, at that bracket), whichever comes first;

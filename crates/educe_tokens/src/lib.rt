@@ -23,11 +23,10 @@ mod written;
 
 pub use boxed::Boxed;
 pub use brackets::NESTING;
-pub use copied::copying_laws;
 pub use educe_tokens_pieces::{Bracket, LiteralKind, TokenKind};
 pub use error::{EduceError, Kind, Texts};
 pub use growing::{append_written, push_word};
-pub use laws::{kind_laws, lexing_laws, limits, printing_laws};
+pub use laws::{copying_laws, kind_laws, lexing_laws, limits, printing_laws, value_laws};
 pub use lexer::lex;
 pub use printer::{have_no_doc, text};
 pub use seq::Seq;

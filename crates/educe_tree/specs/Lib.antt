@@ -3,3 +3,4 @@ pub mod Printed
 pub mod Words
 pub mod Params
 pub mod Fields
+pub mod TokenLaws

@@ -13,7 +13,8 @@ returns-then-branch c = (
 pub loop-token-preserved : goal.loop-token-preserved
 loop-token-preserved c =
     λ has. subst (λ (i : ℕ). HasWord (drop i c.args.tokens.now) (chars c.args.name.now)) (sym (add-one c.loop-token.token-index))
-    (has_word-past c.args.tokens.now c.loop-token.token-index c.token-item.result (chars c.args.name.now) c.loop-token-test.true c.token-item.is (λ h. absurd (false≢true (sym c.if-branch.false ∙ c.in_ok-is_word_of.ensures.1 h))) (c.loop-token.invariant has))
+    (has_word-past c.args.tokens.now c.loop-token.token-index c.token-item.result (chars c.args.name.now) c.loop-token-test.true c.token-item.is
+    (λ h. absurd (false≢true (sym c.if-branch.false ∙ c.in_ok-is_word_of.ensures.1 h))) (c.loop-token.invariant has))
 
 pub returns : goal.returns
 returns c = (

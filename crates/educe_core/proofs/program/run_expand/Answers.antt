@@ -18,8 +18,15 @@ pub returns-in_default-clause-answer : goal.returns-in_default-clause-answer
 returns-in_default-clause-answer g c =
     let limit : length c.in-Ok.input.items ≤ 131072 = omega arith in
     let same : c.deref.result.now ≡ c.in-Ok.input.items = c.deref.ensures.value in
-    Answers-line expand_words _ _ _ NotUtf8 not_utf8_line _
-    (refl, record { input = c.in-Ok.input.items; whole = record { taken = c.in-Ok.ensures.taken; end = c.in-Ok.ensures.end (omega arith); limit = limit; faults = c.in-Ok.ensures.kept }; not_utf8 = λ utf8. c.in_default.ensures.cases.0 (subst IsUtf8 (sym same) utf8) }, refl)
+    Answers-line expand_words _ _ _ NotUtf8 not_utf8_line _ (
+      refl,
+      record {
+        input = c.in-Ok.input.items;
+        whole = record { taken = c.in-Ok.ensures.taken; end = c.in-Ok.ensures.end (omega arith); limit = limit; faults = c.in-Ok.ensures.kept };
+        not_utf8 = λ utf8. c.in_default.ensures.cases.0 (subst IsUtf8 (sym same) utf8);
+      },
+      refl,
+    )
     c.deliver-in_default.ensures (record { bytes = refl; faults = refl })
 
 pub returns-in-Ok-expand-clause-answer : goal.returns-in-Ok-expand-clause-answer

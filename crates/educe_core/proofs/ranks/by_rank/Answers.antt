@@ -20,7 +20,8 @@ returns-in-Some-clause-err c =
     let up = IsSortedByKey-from_sort (λ (f : Ranked). f.rank) sorted c.in_ok-sort_by_key.ensures.sorted (λ a r q k. search rules) in
     let repeats = rw c.deref.ensures.value at c.in-Some.ensures.some in
     let least = rw c.deref.ensures.value at c.in-Some.ensures.earliest in
-    let reuses = ReusesARank-from_sort c.args.which c.args.ast.now c.in_ok-sorted.sorted.items sorted c.in_ok-sorted.ensures c.in_ok-sort_by_key.ensures.permutation c.in-Some.at later up stable repeats least c.index.ensures in
+    let reuses = ReusesARank-from_sort c.args.which c.args.ast.now c.in_ok-sorted.sorted.items sorted c.in_ok-sorted.ensures
+    c.in_ok-sort_by_key.ensures.permutation c.in-Some.at later up stable repeats least c.index.ensures in
     let IsCause : HandlerError → Type 0 = λ e. IsRankCause c.args.which c.args.ast.now e in
     subst IsCause (sym c.reuse.ensures) reuses
 

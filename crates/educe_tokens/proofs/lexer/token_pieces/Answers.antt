@@ -29,7 +29,9 @@ returns-in_default-found-clause-err c =
     let rest : List ℕ = c.loop-rest.rest.now in
     let u : IsUtf8 rest = c.loop-rest.invariant.utf8 in
     let place = ap syntax_at (c.last_place-place.ensures ∙ ap (λ (ts : List Token). last_of (map span_of ts) (empty_at (length c.args.source.now))) c.as_slice.ensures) in
-    stuck_cause _ (chars rest) _ _ _ _ c.loop-rest.invariant.before (some_chars rest u (omega (arith, false-eqb _ 0 c.loop-rest-test.ensures))) (rw c.in_default-found.is at c.in-Ok.ensures.value) (bytes_of c.args.source.now c.utf8.source) (c.new.ensures ∙ place)
+    let some = some_chars rest u (omega (arith, false-eqb _ 0 c.loop-rest-test.ensures)) in
+    stuck_cause _ (chars rest) _ _ _ _ c.loop-rest.invariant.before some (rw c.in_default-found.is at c.in-Ok.ensures.value)
+    (bytes_of c.args.source.now c.utf8.source) (c.new.ensures ∙ place)
 
 pub push_piece-requires-clause-place : goal.push_piece-requires-clause-place
 push_piece-requires-clause-place c =
@@ -47,7 +49,8 @@ push_piece-requires-clause-piece c =
     let u : IsUtf8 rest = c.loop-rest.invariant.utf8 in
     let f : IsFront rest (c.in-Some.kind, c.in-Some.len) = rw c.in-Some.is at c.in-Ok.ensures.value in
     let span : Span = record { start = start; end = start + c.in-Some.len } in
-    subst (λ (s : List ℕ). IsTrue (is_piece c.in-Some.kind s)) (sym (front_cut c.args.source.now c.args.shared.now rest c.loop-rest.tokens c.in-Some.kind c.in-Some.len span c.utf8.source u c.requires.shared c.loop-rest.invariant.before f refl refl))
+    let cut = front_cut c.args.source.now c.args.shared.now rest c.loop-rest.tokens c.in-Some.kind c.in-Some.len span c.utf8.source u c.requires.shared c.loop-rest.invariant.before f refl refl in
+    subst (λ (s : List ℕ). IsTrue (is_piece c.in-Some.kind s)) (sym cut)
     (front_is_piece c.args.source.now rest c.loop-rest.tokens c.in-Some.kind c.in-Some.len span u c.loop-rest.invariant.before f refl refl)
 
 pub returns-in_err-push_piece-clause-err : goal.returns-in_err-push_piece-clause-err
@@ -58,7 +61,8 @@ returns-in_err-push_piece-clause-err c =
     let u : IsUtf8 rest = c.loop-rest.invariant.utf8 in
     let f : IsFront rest (c.in-Some.kind, c.in-Some.len) = rw c.in-Some.is at c.in-Ok.ensures.value in
     let span : Span = record { start = start; end = start + c.in-Some.len } in
-    let cause = subst (λ (s : List ℕ). IsCauseOfPiece s span c.in-Some.kind c.in_err-push_piece.field-0.0) (front_cut c.args.source.now c.args.shared.now rest c.loop-rest.tokens c.in-Some.kind c.in-Some.len span c.utf8.source u c.requires.shared c.loop-rest.invariant.before f refl refl) c.in_err-push_piece.ensures.err in
+    let cut = front_cut c.args.source.now c.args.shared.now rest c.loop-rest.tokens c.in-Some.kind c.in-Some.len span c.utf8.source u c.requires.shared c.loop-rest.invariant.before f refl refl in
+    let cause = subst (λ (s : List ℕ). IsCauseOfPiece s span c.in-Some.kind c.in_err-push_piece.field-0.0) cut c.in_err-push_piece.ensures.err in
     rw (p.1, p.2) (front_cause c.args.source.now rest c.loop-rest.tokens c.in-Some.kind c.in-Some.len span u c.loop-rest.invariant.before f refl refl c.in_err-push_piece.field-0.0 cause)
 
 pub loop-rest-smaller : goal.loop-rest-smaller
@@ -80,11 +84,14 @@ loop-rest-preserved c =
     let u : IsUtf8 rest = c.loop-rest.invariant.utf8 in
     let f : IsFront rest (c.in-Some.kind, c.in-Some.len) = rw c.in-Some.is at c.in-Ok.ensures.value in
     let span : Span = record { start = start; end = start + c.in-Some.len } in
+    let cut = front_cut c.args.source.now c.args.shared.now rest c.loop-rest.tokens c.in-Some.kind c.in-Some.len span c.utf8.source u c.requires.shared c.loop-rest.invariant.before f refl refl in
     let tokens : List Token = c.push_piece.new.tokens in
-    let adds = subst (λ (s : List ℕ). Adds c.in-Some.kind s span c.loop-rest.tokens tokens) (front_cut c.args.source.now c.args.shared.now rest c.loop-rest.tokens c.in-Some.kind c.in-Some.len span c.utf8.source u c.requires.shared c.loop-rest.invariant.before f refl refl) c.in_ok-push_piece.ensures.ok in
-    let on = subst (λ (r : List ℕ). Before (chars c.args.source.now) (chars r) tokens span.end) (sym c.split_at.ensures.back) (before_more c.args.source.now rest c.loop-rest.tokens c.in-Some.kind c.in-Some.len span u c.loop-rest.invariant.before f refl refl tokens adds) in
-    let next = before_rest c.args.source.now c.split_at.result.1.now c.behind_blanks-rest-in-loop-rest.result.now tokens span.end c.utf8.source c.behind_blanks-rest-in-loop-rest.utf8 on c.behind_blanks-rest-in-loop-rest.ensures in
-    record { utf8 = c.behind_blanks-rest-in-loop-rest.utf8; before = next.0; within = next.1 }
+    let adds = subst (λ (s : List ℕ). Adds c.in-Some.kind s span c.loop-rest.tokens tokens) cut c.in_ok-push_piece.ensures.ok in
+    let more = before_more c.args.source.now rest c.loop-rest.tokens c.in-Some.kind c.in-Some.len span u c.loop-rest.invariant.before f refl refl tokens adds in
+    let on = subst (λ (r : List ℕ). Before (chars c.args.source.now) (chars r) tokens span.end) (sym c.split_at.ensures.back) more in
+    let blanks = c.behind_blanks-rest-in-loop-rest in
+    let next = before_rest c.args.source.now c.split_at.result.1.now blanks.result.now tokens span.end c.utf8.source blanks.utf8 on blanks.ensures in
+    record { utf8 = blanks.utf8; before = next.0; within = next.1 }
 
 pub returns-clause-lexes : goal.returns-clause-lexes
 returns-clause-lexes c =

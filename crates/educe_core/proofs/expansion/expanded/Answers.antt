@@ -1,0 +1,37 @@
+use Rattle.educe_core.specs.Expansion.{text_of_expansion, items_of_expansion}
+use Rattle.educe_core.specs.Headline.{handled}
+use Rattle.educe_core.proofs.Causes.{done_uncaused, memory_cause, valid_handler}
+use Rattle.educe_core.proofs.expansion.expanded.Goals as goal
+
+pub returns-in-Err-clause-valid : goal.returns-in-Err-clause-valid
+returns-in-Err-clause-valid c = λ valid. c.in-Err.ensures.only valid.definition valid.defines
+
+pub returns-in-Err-derive_input_handler-clause-cause :
+    goal.returns-in-Err-derive_input_handler-clause-cause
+returns-in-Err-derive_input_handler-clause-cause c = handled c.in-Ok.ast c.in-Ok.ensures.defines c.in-Err-derive_input_handler.ensures.err
+
+pub returns-in-Err-derive_input_handler-clause-valid :
+    goal.returns-in-Err-derive_input_handler-clause-valid
+returns-in-Err-derive_input_handler-clause-valid c =
+    valid_handler c.args.source.now c.in-Ok.ast c.in-Err-derive_input_handler.error c.in-Ok.ensures.defines c.in-Err-derive_input_handler.ensures.err
+
+pub returns-in-Ok-spell-clause-done : goal.returns-in-Ok-spell-clause-done
+unfolding text_of_expansion items_of_expansion
+returns-in-Ok-spell-clause-done c = record {
+  definition = c.in-Ok.ast;
+  defines = c.in-Ok.ensures.defines;
+  built = c.in-Ok-derive_input_handler.ensures.built;
+  lists = c.in-Ok-derive_input_handler.ensures.lists;
+  one_each = c.in-Ok-derive_input_handler.ensures.one_each;
+  evaluates = c.in-Ok-derive_input_handler.ensures.evaluates c.in-Ok.ensures.defines.names_apart;
+  bytes = c.in-Ok-spell.ensures.spelled;
+  lexes = c.in-Ok-spell.ensures.lexes;
+}
+
+pub returns-in-Ok-spell-clause-invalid : goal.returns-in-Ok-spell-clause-invalid
+returns-in-Ok-spell-clause-invalid c =
+    done_uncaused c.args.source.now c.in-Ok.ast c.in-Ok.ensures.defines c.in-Ok-derive_input_handler.ensures.built
+    c.in-Ok-derive_input_handler.ensures.lists c.in-Ok-derive_input_handler.ensures.uncaused
+
+pub returns-clause-cause : goal.returns-clause-cause
+returns-clause-cause c = memory_cause c.args.source.now c.alloc.result c.alloc.ensures
