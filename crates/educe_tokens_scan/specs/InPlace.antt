@@ -1,5 +1,7 @@
 -- The piece at the front of a text, where it stands.
-use Rattle.std.specs.Prelude.{◌≡◌, ℕ, IsTrue, Some, List, [], ◌∷◌, ◌++◌, take, drop, chars}
+use Rattle.std.specs.Prelude.{◌≡◌, ℕ, ◌==◌, Bool, ◌&&◌, IsTrue, Some, List, [], ◌∷◌, ◌++◌, take, drop, length, chars}
+use Rattle.std.specs.List.{list_all}
+use Rattle.std.specs.Char.{is_ascii_digit}
 use Rattle.std.specs.Str.{IsCharBoundary}
 use Rattle.educe_tokens_pieces.specs.declared.kind.LiteralKind.TheVariants.{Str, ByteStr, Char, Byte}
 use Rattle.educe_tokens_pieces.specs.declared.kind.TokenKind.TheVariants.{Literal}
@@ -46,3 +48,7 @@ quoted_kind InByteStr = Token (Literal ByteStr)
 quoted_kind InCStr = Uncarried CStr
 quoted_kind InChar = Token (Literal Char)
 quoted_kind InByte = Token (Literal Byte)
+
+-- so many ASCII digits
+abbrev pub is_digits : ℕ → List ℕ → Bool
+is_digits count cs = list_all is_ascii_digit cs && (length cs == count)

@@ -6,6 +6,7 @@ ghost use Rattle.educe_tokens_pieces.specs.Words.{touches_lifetime};
 ghost use Rattle.educe_tokens_pieces.specs.Comments.{opens_line_doc, opens_block_doc};
 ghost use Rattle.educe_tokens_scan.specs.InPlace.{Stands, opening, quoted_kind};
 
+use crate::decimals::decimal_front;
 use crate::scan::piece_at;
 use educe_tokens_pieces::{
     LiteralKind, PieceKind, Quote, TokenKind, UncarriedKind, behind_block, behind_mark,
@@ -186,7 +187,7 @@ fn single_front(text: &str) -> Option<(PieceKind, &str)>
     if len == 1 { Some((kind, rest)) } else { None }
 }
 
-/// A comment, a literal between quotes, or a lifetime.
+/// A comment, a literal or a lifetime.
 fn long_front(text: &str) -> Option<(PieceKind, &str)>
     ensures { IfSome result (λ x. Stands x.0 (chars text.now) (chars x.1.now)) }
 {
@@ -197,6 +198,7 @@ fn long_front(text: &str) -> Option<(PieceKind, &str)>
         Some(('\'', _)) => mark_front(text),
         Some(('b', _)) => byte_front(text),
         Some(('c', _)) => c_string_front(text),
+        Some(('0'..='9', _)) => decimal_front(text),
         _ => None,
     }
 }
