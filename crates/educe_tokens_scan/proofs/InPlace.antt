@@ -13,7 +13,8 @@ use Rattle.educe_tokens_pieces.specs.declared.kind.TokenKind.TheVariants.{Ident,
 use Rattle.educe_tokens_pieces.specs.declared.kind.UncarriedKind.TheVariants.{Float, WideInt, CStr}
 use Rattle.educe_tokens_pieces.specs.declared.kind.PieceKind.{PieceKind}
 use Rattle.educe_tokens_pieces.specs.declared.kind.PieceKind.TheVariants.{Blank, Comment, Token, Uncarried}
-use Rattle.educe_tokens_pieces.specs.declared.quotes.Quote.TheVariants.{Str as InStr}
+use Rattle.educe_tokens_pieces.specs.declared.quotes.Quote.{Quote}
+use Rattle.educe_tokens_pieces.specs.declared.quotes.Quote.TheVariants.{Str as InStr, ByteStr as InByteStr, CStr as InCStr, Char as InChar, Byte as InByte}
 use Rattle.educe_tokens_pieces.specs.declared.quotes.Within.TheVariants.{Open}
 use Rattle.educe_tokens_pieces.specs.Chars.{begins, is_in_line, is_slash_or_star}
 use Rattle.educe_tokens_pieces.specs.Comments.{closes_comment, opens_inner, opens_line_doc, opens_block_doc, is_line, is_block, is_line_doc, is_line_comment}
@@ -21,9 +22,9 @@ use Rattle.educe_tokens_pieces.specs.CommentScan.{comment_kind}
 use Rattle.educe_tokens_pieces.specs.Fronts.{HasFront}
 use Rattle.educe_tokens_pieces.specs.Machine.{ends, is_str}
 use Rattle.educe_tokens_pieces.specs.RawStrings.{is_raw}
-use Rattle.educe_tokens_pieces.specs.Words.{is_word, touches_word}
+use Rattle.educe_tokens_pieces.specs.Words.{is_word, touches_word, touches_lifetime}
 use Rattle.educe_tokens_pieces.specs.Pieces.{is_piece, may_precede, ends_word_before}
-use Rattle.educe_tokens_scan.specs.InPlace.{Stands, IsFront, byte_piece}
+use Rattle.educe_tokens_scan.specs.InPlace.{Stands, IsFront, byte_piece, opening, quoted_kind}
 use Rattle.educe_tokens_scan.specs.Reading.{IsPiece, IsLongest}
 use Rattle.educe_tokens_scan.specs.Scan.{piece_at}
 use Rattle.educe_tokens_scan.proofs.Readings.{piece_finds, piece_is, found_is, found_longest, IsFound}
@@ -148,13 +149,46 @@ block_stands text rest false f inner doc =
       before = refl;
     }
 
--- a string
-pub string_stands : (text body rest : List ℕ) → text ≡ 34 ∷ body → HasFront (ends (Open InStr)) body rest → ends_word_before rest ≡ true → Stands (Token (Literal Str)) text rest
-string_stands text body rest e f h = record {
+-- a literal between quotes
+pub quoted_stands : (quote : Quote) (body rest : List ℕ) → HasFront (ends (Open quote)) body rest → ends_word_before rest ≡ true → Stands (quoted_kind quote) (opening quote ++ body) rest
+quoted_stands InStr body rest f h = record {
   spelling = 34 ∷ f.front;
-  is = e ∙ ap (λ cs. 34 ∷ cs) f.is;
+  is = ap (λ cs. 34 ∷ cs) f.is;
   piece = or_left _ _ f.passes;
   before = h;
+}
+quoted_stands InByteStr body rest f h = record {
+  spelling = 98 ∷ 34 ∷ f.front;
+  is = ap (λ cs. 98 ∷ 34 ∷ cs) f.is;
+  piece = or_left _ _ f.passes;
+  before = h;
+}
+quoted_stands InCStr body rest f h = record {
+  spelling = 99 ∷ 34 ∷ f.front;
+  is = ap (λ cs. 99 ∷ 34 ∷ cs) f.is;
+  piece = or_left _ _ f.passes;
+  before = h;
+}
+quoted_stands InChar body rest f h = record {
+  spelling = 39 ∷ f.front;
+  is = ap (λ cs. 39 ∷ cs) f.is;
+  piece = f.passes;
+  before = h;
+}
+quoted_stands InByte body rest f h = record {
+  spelling = 98 ∷ 39 ∷ f.front;
+  is = ap (λ cs. 98 ∷ 39 ∷ cs) f.is;
+  piece = f.passes;
+  before = h;
+}
+
+-- a lifetime
+pub lifetime_stands : (word rest : List ℕ) → HasFront is_word word rest → begins touches_lifetime rest ≡ false → Stands (Token Lifetime) (39 ∷ word) rest
+lifetime_stands word rest f h = record {
+  spelling = 39 ∷ f.front;
+  is = ap (λ cs. 39 ∷ cs) f.is;
+  piece = f.passes;
+  before = ap not h;
 }
 
 -- a raw string

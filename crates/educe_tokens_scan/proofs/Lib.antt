@@ -7,3 +7,4 @@ pub mod Following
 pub mod SpellLaws
 pub mod Wholes
 pub mod InPlace
+pub mod FewDigits

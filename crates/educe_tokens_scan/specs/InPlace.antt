@@ -1,7 +1,15 @@
 -- The piece at the front of a text, where it stands.
-use Rattle.std.specs.Prelude.{◌≡◌, ℕ, IsTrue, Some, List, ◌++◌, take, drop, chars}
+use Rattle.std.specs.Prelude.{◌≡◌, ℕ, ◌==◌, Bool, ◌&&◌, IsTrue, Some, List, [], ◌∷◌, ◌++◌, take, drop, length, chars}
+use Rattle.std.specs.List.{list_all}
+use Rattle.std.specs.Char.{is_ascii_digit}
 use Rattle.std.specs.Str.{IsCharBoundary}
+use Rattle.educe_tokens_pieces.specs.declared.kind.LiteralKind.TheVariants.{Str, ByteStr, Char, Byte}
+use Rattle.educe_tokens_pieces.specs.declared.kind.TokenKind.TheVariants.{Literal}
+use Rattle.educe_tokens_pieces.specs.declared.kind.UncarriedKind.TheVariants.{CStr}
 use Rattle.educe_tokens_pieces.specs.declared.kind.PieceKind.{PieceKind}
+use Rattle.educe_tokens_pieces.specs.declared.kind.PieceKind.TheVariants.{Token, Uncarried}
+use Rattle.educe_tokens_pieces.specs.declared.quotes.Quote.{Quote}
+use Rattle.educe_tokens_pieces.specs.declared.quotes.Quote.TheVariants.{Str as InStr, ByteStr as InByteStr, CStr as InCStr, Char as InChar, Byte as InByte}
 use Rattle.educe_tokens_pieces.specs.Pieces.{is_piece, may_precede}
 use Rattle.educe_tokens_scan.specs.Reading.{Piece}
 use Rattle.educe_tokens_scan.specs.Scan.{piece_at}
@@ -24,3 +32,23 @@ pub record IsFront (text : List ℕ) (found : PieceKind × ℕ) : Type 0 where
 -- the piece that is so many bytes at the front of the text
 abbrev pub byte_piece : List ℕ → PieceKind × ℕ → Piece
 byte_piece text found = record { kind = found.0; spelling = chars (take found.1 text) }
+
+-- how a literal between quotes begins: its letter, if it has one, and the first quote
+abbrev pub opening : Quote → List ℕ
+opening InStr = 34 ∷ []
+opening InByteStr = 98 ∷ 34 ∷ []
+opening InCStr = 99 ∷ 34 ∷ []
+opening InChar = 39 ∷ []
+opening InByte = 98 ∷ 39 ∷ []
+
+-- its kind
+abbrev pub quoted_kind : Quote → PieceKind
+quoted_kind InStr = Token (Literal Str)
+quoted_kind InByteStr = Token (Literal ByteStr)
+quoted_kind InCStr = Uncarried CStr
+quoted_kind InChar = Token (Literal Char)
+quoted_kind InByte = Token (Literal Byte)
+
+-- so many ASCII digits
+abbrev pub is_digits : ℕ → List ℕ → Bool
+is_digits count cs = list_all is_ascii_digit cs && (length cs == count)

@@ -1,14 +1,19 @@
 //! Pieces that are scanned where they stand in the text. Each function answers the kind of the
 //! piece at the front and what follows it; None says nothing about the text.
-ghost use Rattle.std.specs.Prelude.{◌≡◌, ◌∷◌, chars, IfSome};
+ghost use Rattle.std.specs.Prelude.{◌≡◌, ◌∷◌, ◌++◌, chars, IfSome};
+ghost use Rattle.educe_tokens_pieces.specs.Chars.{begins};
+ghost use Rattle.educe_tokens_pieces.specs.Words.{touches_lifetime};
 ghost use Rattle.educe_tokens_pieces.specs.Comments.{opens_line_doc, opens_block_doc};
-ghost use Rattle.educe_tokens_scan.specs.InPlace.{Stands};
+ghost use Rattle.educe_tokens_scan.specs.InPlace.{Stands, opening, quoted_kind};
 
+use crate::decimals::decimal_front;
 use crate::scan::piece_at;
 use educe_tokens_pieces::{
-    LiteralKind, PieceKind, Quote, TokenKind, behind_block, behind_mark, behind_quoted, behind_raw,
-    behind_word, comment_kind, ends_word, first_of, split_line, text_begins, text_touches_word,
+    LiteralKind, PieceKind, Quote, TokenKind, UncarriedKind, behind_block, behind_mark,
+    behind_quoted, behind_raw, behind_word, comment_kind, ends_word, first_of, split_line,
+    text_begins, text_touches_word,
 };
+use unicode_ident::is_xid_continue;
 
 fn documents_line(line: &str) -> bool
     ensures { result ≡ opens_line_doc (chars line.now) }
@@ -61,15 +66,87 @@ fn comment_front(text: &str) -> Option<(PieceKind, &str)>
     }
 }
 
+fn quoted_kind(quote: Quote) -> PieceKind
+    ensures { result ≡ quoted_kind quote }
+{
+    match quote {
+        Quote::Str => PieceKind::Token(TokenKind::Literal(LiteralKind::Str)),
+        Quote::ByteStr => PieceKind::Token(TokenKind::Literal(LiteralKind::ByteStr)),
+        Quote::CStr => PieceKind::Uncarried(UncarriedKind::CStr),
+        Quote::Char => PieceKind::Token(TokenKind::Literal(LiteralKind::Char)),
+        Quote::Byte => PieceKind::Token(TokenKind::Literal(LiteralKind::Byte)),
+    }
+}
+
+/// A literal between quotes, behind the first of them.
+fn quoted_front(quote: Quote, body: &str) -> Option<(PieceKind, &str)>
+    ensures { IfSome result (λ x. Stands x.0 (opening quote ++ chars body.now) (chars x.1.now)) }
+{
+    let rest = behind_quoted(quote, body)?;
+    if ends_word(rest) {
+        Some((quoted_kind(quote), rest))
+    } else {
+        None
+    }
+}
+
 fn string_front(text: &str) -> Option<(PieceKind, &str)>
     ensures { IfSome result (λ x. Stands x.0 (chars text.now) (chars x.1.now)) }
 {
     let body = behind_mark(text, '"')?;
-    let rest = behind_quoted(Quote::Str, body)?;
-    if ends_word(rest) {
-        Some((PieceKind::Token(TokenKind::Literal(LiteralKind::Str)), rest))
-    } else {
+    quoted_front(Quote::Str, body)
+}
+
+/// A byte or a byte string that is not raw.
+fn byte_front(text: &str) -> Option<(PieceKind, &str)>
+    ensures { IfSome result (λ x. Stands x.0 (chars text.now) (chars x.1.now)) }
+{
+    let behind = behind_mark(text, 'b')?;
+    match behind_mark(behind, '"') {
+        Some(body) => quoted_front(Quote::ByteStr, body),
+        None => quoted_front(Quote::Byte, behind_mark(behind, '\'')?),
+    }
+}
+
+/// A C string that is not raw.
+fn c_string_front(text: &str) -> Option<(PieceKind, &str)>
+    ensures { IfSome result (λ x. Stands x.0 (chars text.now) (chars x.1.now)) }
+{
+    let behind = behind_mark(text, 'c')?;
+    let body = behind_mark(behind, '"')?;
+    quoted_front(Quote::CStr, body)
+}
+
+/// Whether a character stands at the front that makes a lifetime before it no piece.
+fn text_touches_lifetime(rest: &str) -> bool
+    ensures { result ≡ begins touches_lifetime (chars rest.now) }
+{
+    match first_of(rest) {
+        Some((c, _)) => is_xid_continue(c) || c == '\'',
+        None => false,
+    }
+}
+
+/// A lifetime, behind its `'`.
+fn lifetime_front(word: &str) -> Option<(PieceKind, &str)>
+    ensures { IfSome result (λ x. Stands x.0 (39 ∷ chars word.now) (chars x.1.now)) }
+{
+    let rest = behind_word(word)?;
+    if text_touches_lifetime(rest) {
         None
+    } else {
+        Some((PieceKind::Token(TokenKind::Lifetime), rest))
+    }
+}
+
+/// A character, or else a lifetime.
+fn mark_front(text: &str) -> Option<(PieceKind, &str)>
+    ensures { IfSome result (λ x. Stands x.0 (chars text.now) (chars x.1.now)) }
+{
+    let body = behind_mark(text, '\'')?;
+    match quoted_front(Quote::Char, body) {
+        Some(found) => Some(found),
+        None => lifetime_front(body),
     }
 }
 
@@ -110,7 +187,7 @@ fn single_front(text: &str) -> Option<(PieceKind, &str)>
     if len == 1 { Some((kind, rest)) } else { None }
 }
 
-/// A comment or a literal that may be long.
+/// A comment, a literal or a lifetime.
 fn long_front(text: &str) -> Option<(PieceKind, &str)>
     ensures { IfSome result (λ x. Stands x.0 (chars text.now) (chars x.1.now)) }
 {
@@ -118,6 +195,10 @@ fn long_front(text: &str) -> Option<(PieceKind, &str)>
         Some(('/', _)) => comment_front(text),
         Some(('"', _)) => string_front(text),
         Some(('r', _)) => raw_string_front(text),
+        Some(('\'', _)) => mark_front(text),
+        Some(('b', _)) => byte_front(text),
+        Some(('c', _)) => c_string_front(text),
+        Some(('0'..='9', _)) => decimal_front(text),
         _ => None,
     }
 }

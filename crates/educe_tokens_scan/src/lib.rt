@@ -1,6 +1,7 @@
 //! The scan of Rust texts: the one piece at the front of a text, and whether a text is one piece.
 #![tactic(auto)]
 
+mod decimals;
 mod in_place;
 mod next;
 mod preceding;
