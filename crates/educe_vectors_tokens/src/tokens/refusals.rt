@@ -1,4 +1,6 @@
 //! Where and why a text is refused, and what is said of it.
+ghost use Rattle.std.specs.Prelude.{◌≢◌, ℕ, List, [], ◌∷◌};
+ghost use Rattle.educe_tokens.specs.Message.{HasWords};
 
 use educe_tokens::{EduceError, Kind, Span, Spelling};
 use educe_vectors_checks::{check_answers, check_texts, lex_answer};
@@ -97,16 +99,37 @@ fn nests_128_deep(rt: HostRuntime) -> Result<(), Fail> {
     )
 }
 
-/// The message of a refusal. Where its kind has a word, it is `1.5` or `é`.
-fn message(alloc: Global, kind: Kind) -> Result<String, Fail> {
-    let word = match kind {
-        Kind::Alloc => return Err(Fail::from("it has no message")),
-        Kind::NotCarried => "1.5",
-        Kind::DuplicateName => "é",
-        _ => return Ok(EduceError::new(alloc, kind, Span::NONE).message(alloc)?),
-    };
+/// The message of a refusal that cites no word.
+fn plain(alloc: Global, kind: Kind) -> Result<String, Fail>
+    requires kind { kind ≢ Kind.Alloc }
+    requires words { HasWords kind [] }
+{
+    Ok(EduceError::new(alloc, kind, Span::NONE).message(alloc)?)
+}
+
+/// The message of a refusal that cites this word.
+fn citing(alloc: Global, kind: Kind, word: &str) -> Result<String, Fail>
+    requires kind { kind ≢ Kind.Alloc }
+    requires words { (word : List ℕ) → HasWords kind (word ∷ []) }
+{
     let word = Spelling::from_str(alloc, word)?;
     Ok(EduceError::with_word(alloc, kind, Span::NONE, word)?.message(alloc)?)
+}
+
+/// The message of a refusal. Where its kind has a word, it is `1.5` or `é`.
+fn message(alloc: Global, kind: Kind) -> Result<String, Fail> {
+    match kind {
+        Kind::Syntax => plain(alloc, Kind::Syntax),
+        Kind::TooDeep => plain(alloc, Kind::TooDeep),
+        Kind::NotCarried => citing(alloc, Kind::NotCarried, "1.5"),
+        Kind::DuplicateName => citing(alloc, Kind::DuplicateName, "é"),
+        Kind::DeriveAttributeNotSetUpYet => plain(alloc, Kind::DeriveAttributeNotSetUpYet),
+        Kind::UnsupportedTrait => citing(alloc, Kind::UnsupportedTrait, "é"),
+        Kind::ReuseATrait => citing(alloc, Kind::ReuseATrait, "é"),
+        Kind::ReuseARank { rank } => plain(alloc, Kind::ReuseARank { rank }),
+        Kind::NotBuilt => plain(alloc, Kind::NotBuilt),
+        _ => Err(Fail::from("it is not in the table")),
+    }
 }
 
 #[test]
@@ -127,6 +150,11 @@ fn says_why(rt: HostRuntime) -> Result<(), Fail> {
                 Kind::DuplicateName,
                 "the name `é` is defined more than once",
             ),
+            (
+                Kind::UnsupportedTrait,
+                "unsupported trait `é`, available traits:\n    Debug\n    Clone\n    Copy\n    PartialEq\n    Eq\n    PartialOrd\n    Ord\n    Hash\n    Default",
+            ),
+            (Kind::ReuseATrait, "the trait `é` is used repeatedly"),
             (
                 Kind::ReuseARank { rank: 0 },
                 "the rank `0` is repeatedly used",
