@@ -15,16 +15,15 @@ mod shared;
 mod speller;
 mod text;
 mod value;
-mod words;
 
 pub use answers::{Answer, Answers, Callee, Row, Rows};
 pub use body::{Body, Function, Functions, ImplItem, Item, Items, Names};
 pub use built_in::built_in_path;
 pub use callee::callee_of;
+pub use educe_names::{UsedIdents, has_word, name_laws};
 pub use evaluator::{Outcome, Scope, eval};
 pub use form::{Form, Forms, Known};
 pub use keys::key_word;
 pub use shared::Shared;
 pub use speller::spell;
 pub use value::{FieldValue, FieldValues, Value};
-pub use words::has_word;
