@@ -49,7 +49,7 @@ impl UsedIdents {
         ensures held { IfOk result (λ ident. self.new ≡ self.old ++ ident.text ∷ []) }
         ensures err { OnErr result (self.new ≡ self.old) }
     {
-        let free = self.free(alloc, Clash::Whole, name)?;
+        let free = self.free_text(alloc, Clash::Whole, name)?;
         let text = Spelling::from_str(alloc, &free)?;
         let ident = Ident {
             text,
@@ -65,11 +65,11 @@ impl UsedIdents {
         ensures { IfOk result (λ prefix.
             IsPrefix self.now (chars name.now) (chars (string_bytes prefix))) }
     {
-        self.free(alloc, Clash::Front, name)
+        self.free_text(alloc, Clash::Front, name)
     }
 
     /// The name behind the fewest `_` with which it clashes with nothing that is held.
-    fn free(&self, alloc: Global, how: Clash, name: &str) -> Result<String, AllocError>
+    fn free_text(&self, alloc: Global, how: Clash, name: &str) -> Result<String, AllocError>
         ensures { IfOk result (λ text.
             IsFree how self.now (chars name.now) (chars (string_bytes text))) }
     {
