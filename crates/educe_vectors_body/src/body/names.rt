@@ -99,7 +99,10 @@ fn chooses_no_name_twice(rt: HostRuntime) -> Result<(), Fail> {
     check_equal(first.text.as_str(), "other")?;
     check_equal(first.span, Span::NONE)?;
     check_equal(select(alloc, &mut used, "other")?.text.as_str(), "_other")?;
-    check_equal(select(alloc, &mut used, "_other")?.text.as_str(), "___other")?;
+    check_equal(
+        select(alloc, &mut used, "_other")?.text.as_str(),
+        "___other",
+    )?;
     check_equal(select(alloc, &mut used, "this")?.text.as_str(), "this")
 }
 
