@@ -10,3 +10,4 @@ pub mod Runs
 pub mod Having
 pub mod Apart
 pub mod MadePaths
+pub mod Lawful

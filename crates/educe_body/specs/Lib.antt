@@ -7,3 +7,4 @@ pub mod BuiltIn
 pub mod Printing
 pub mod TokenLaws
 pub mod Words
+pub mod Laws
