@@ -8,3 +8,4 @@ pub mod Fields
 pub mod Indices
 pub mod Apart
 pub mod MadePaths
+pub mod Lawful
