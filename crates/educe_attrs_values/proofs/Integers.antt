@@ -1,7 +1,7 @@
 -- Integers of 64 bits.
 use Rattle.std.proofs.Common.{◌≡◌, ℕ, zero, suc, ◌<◌, ◌≤◌, ◌^◌, true, false, List, [], ◌∷◌, drop, length, refl, sym, subst, ◌∙◌, ap, arith, cond, Option, Some, None, Result, Ok, Err, FitsSigned, encode_utf8_all}
 use Rattle.std.specs.Prelude.{Bool, ℤ, pos, neg_ℤ, if◌then◌else◌, nat_lt, nat_le, option_and_then}
-use Rattle.std.specs.Result.{OkIff}
+use Rattle.std.specs.Result.{OkIff, result_ok}
 use Rattle.std.specs.Str.{all_ascii_digits}
 use Rattle.std.specs.Str.Parse.{IsNumeral, ParsesSigned, digits_value, starts_with_minus, without_leading_plus}
 use Rattle.std.proofs.lemmas.Bool.Decides.{nat_tests}
@@ -147,11 +147,6 @@ decimal_back text _ (IsDecimal.negated is numeral fits) = ap (decimal_by text) i
 
 -- ---- what the standard library parses
 
--- the number, or that there is none
-abbrev pub Says : {E : Type 0} → Result ℤ E → Option ℤ → Type 0
-Says (Ok z) o = Some z ≡ o
-Says (Err e) o = None ≡ o
-
 -- it parses digits
 abbrev Parses : {E : Type 0} → Bool → List ℕ → Result ℤ E → Type 0
 Parses minus ds r = OkIff r (IsNumeral 10 ds × FitsSigned w64 (signed minus (digits_value 10 ds))) (signed minus (digits_value 10 ds))
@@ -160,7 +155,7 @@ none_by : (minus : Bool) (ds : List ℕ) → ¬ (IsNumeral 10 ds × FitsSigned w
 none_by minus ds none None is = refl
 none_by minus ds none (Some z) is = let d = of_digits_is minus ds z is in absurd (none (d.0, range_fits minus (digits_value 10 ds) d.1))
 
-digits_parsed : {E : Type 0} (minus : Bool) (ds : List ℕ) (r : Result ℤ E) → Parses minus ds r → Says r (of_digits minus ds)
+digits_parsed : {E : Type 0} (minus : Bool) (ds : List ℕ) (r : Result ℤ E) → Parses minus ds r → result_ok r ≡ (of_digits minus ds)
 digits_parsed minus ds (Ok z) h = ap Some h.1 ∙ sym (of_digits_back minus ds h.0.0 (fits_range minus (digits_value 10 ds) h.0.1))
 digits_parsed minus ds (Err e) h = none_by minus ds h (of_digits minus ds) refl
 
@@ -172,12 +167,12 @@ module _ {E : Type 0} (text : List ℕ) (r : Result ℤ E) where
       let z : ℤ = cond minus (neg_ℤ (pos (digits_value 10 ds))) (pos (digits_value 10 ds)) in
       OkIff r (IsNumeral 10 ds × FitsSigned w64 z) z
 
-  parsed_if : (minus : Bool) → By minus → Says r (decimal_by text minus)
+  parsed_if : (minus : Bool) → By minus → result_ok r ≡ (decimal_by text minus)
   parsed_if true h = digits_parsed true (drop 1 text) r h
   parsed_if false h = digits_parsed false (without_leading_plus text) r h
 
   -- what is parsed is what is read
-  pub decimal_parsed : ParsesSigned w64 10 text r → Says r (decimal_in text)
+  pub decimal_parsed : ParsesSigned w64 10 text r → result_ok r ≡ (decimal_in text)
   decimal_parsed h = parsed_if (starts_with_minus text) h
 
 -- ---- both

@@ -1,7 +1,7 @@
 -- The texts of strings.
-use Rattle.std.proofs.Common.{◌≡◌, ℕ, Bool, true, false, List, [], ◌∷◌, drop, refl, sym, subst, ◌∙◌, ap, chars, Option, Some, None, IfSome, IfNone, Result, Ok, Err, IfOk, option_map}
+use Rattle.std.proofs.Common.{◌≡◌, ℕ, Bool, true, false, List, [], ◌∷◌, drop, refl, sym, subst, ◌∙◌, ap, chars, Option, Some, None, IfSome, IfNone, Result, Ok, Err, IfOk, String, option_map}
 use Rattle.std.specs.Prelude.{◌==◌, if◌then◌else◌}
-use Rattle.std.specs.String.{String, string_bytes}
+use Rattle.std.specs.String.{string_bytes}
 use Rattle.std.specs.declared.alloc.AllocError.{AllocError}
 use Rattle.educe_tokens.specs.Chars.{begins}
 use Rattle.educe_tokens.specs.LiteralKind.TheVariants.{Int, Str, ByteStr, Char, Byte}

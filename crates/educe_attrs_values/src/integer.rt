@@ -50,8 +50,5 @@ pub fn signed_in(tokens: &[Token]) -> Option<i64>
 pub fn decimal_in(text: &str) -> Option<i64>
     ensures { result ≡ spec.decimal_in text.now }
 {
-    match text.parse::<i64>() {
-        Ok(number) => Some(number),
-        Err(_) => None,
-    }
+    text.parse::<i64>().ok()
 }

@@ -31,7 +31,9 @@ fn missing_one(alloc: Global, name: &str, sample: &str) -> Result<String, AllocE
 fn missing_name(alloc: Global, name: &str) -> Result<String, AllocError>
     ensures { IfOk result (λ text. string_bytes text ≡ spec.missing_name name.now) }
 {
-    format!(in alloc; "expected `{name} = Ident`, `{name}(Ident)`, `{name} = false`, or `{name}(false)`")
+    format!(in alloc;
+        "expected `{name} = Ident`, `{name}(Ident)`, `{name} = false`, or `{name}(false)`"
+    )
 }
 
 /// The message where it is no value of the kind.

@@ -64,7 +64,7 @@ fn opened_text(alloc: Global, text: &Spelling) -> Result<Opened, Fault>
 }
 
 /// What is read for tokens: the text that is all of them, or the tokens as they stand.
-fn opened(alloc: Global, tokens: &TokenSlice) -> Result<Opened, Fault>
+fn open_tokens(alloc: Global, tokens: &TokenSlice) -> Result<Opened, Fault>
     ensures { Gives Fault.Memory (spec.opened tokens.now) result }
 {
     match only_text(alloc, tokens.as_slice())? {
@@ -87,7 +87,7 @@ fn ident_found(alloc: Global, opened: &Opened) -> Result<Ident, Fault>
 pub fn ident_in(alloc: Global, tokens: &TokenSlice) -> Result<Ident, Fault>
     ensures { Gives Fault.Memory (spec.plain lawful_name tokens.now) result }
 {
-    match opened(alloc, tokens) {
+    match open_tokens(alloc, tokens) {
         Ok(opened) => ident_found(alloc, &opened),
         Err(fault) => Err(fault),
     }
@@ -107,7 +107,7 @@ fn path_found(alloc: Global, opened: &Opened) -> Result<ExprPath, Fault>
 pub fn path_in(alloc: Global, tokens: &TokenSlice) -> Result<ExprPath, Fault>
     ensures { Gives Fault.Memory (spec.plain lawful_path tokens.now) result }
 {
-    match opened(alloc, tokens) {
+    match open_tokens(alloc, tokens) {
         Ok(opened) => path_found(alloc, &opened),
         Err(fault) => Err(fault),
     }
@@ -127,7 +127,7 @@ fn predicates_found(alloc: Global, opened: &Opened) -> Result<Predicates, Fault>
 pub fn predicates_in(alloc: Global, tokens: &TokenSlice) -> Result<Predicates, Fault>
     ensures { Gives Fault.Memory (spec.plain lawful_predicates tokens.now) result }
 {
-    match opened(alloc, tokens) {
+    match open_tokens(alloc, tokens) {
         Ok(opened) => predicates_found(alloc, &opened),
         Err(fault) => Err(fault),
     }

@@ -1,5 +1,5 @@
 //! What tokens are as a value of a kind.
-ghost use Rattle.std.specs.Prelude.{◌≡◌, IfOk};
+ghost use Rattle.std.specs.Prelude.{◌≡◌, IfOk, Some};
 ghost use Rattle.educe_attrs_values.specs.Chains.{Gives};
 ghost use Rattle.educe_attrs_values.specs.Integers as integers;
 ghost use Rattle.educe_attrs_values.specs.Readings as spec;
@@ -11,7 +11,7 @@ use crate::opening::{ident_in, predicates_in};
 use crate::source::Source;
 use crate::text::only_text;
 use crate::word::is_one_word;
-use educe_syntax::Terminal;
+use educe_syntax::{Terminal, is_spelled};
 use educe_tokens::{Spelling, Token, TokenSlice};
 use std::alloc::{AllocError, Global};
 
@@ -63,12 +63,19 @@ pub fn integer(alloc: Global, tokens: &[Token]) -> Result<i64, Fault>
     or_wrong(integer_in(alloc, tokens)?)
 }
 
-/// Whether the text has no character; whether there is one.
+/// Whether the text has no character.
+fn is_empty(text: &Spelling) -> bool
+    ensures { result ≡ spec.is_empty_text (Some text.now) }
+{
+    is_spelled(text, "")
+}
+
+/// The same of a text that may be there.
 fn is_empty_text(text: &Option<Spelling>) -> bool
     ensures { result ≡ spec.is_empty_text text.now }
 {
     match text {
-        Some(text) => text.as_str().is_empty(),
+        Some(text) => is_empty(text),
         None => false,
     }
 }

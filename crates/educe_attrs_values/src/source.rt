@@ -33,11 +33,17 @@ pub fn value_source(meta: &Meta) -> Result<Option<Source>, AllocError>
         Meta::Word(_) => Ok(None),
         Meta::List(_, written, _) => {
             let tokens = inside(written.tokens())?;
-            Ok(Some(Source { tokens, enclosed: true }))
+            Ok(Some(Source {
+                tokens,
+                enclosed: true,
+            }))
         }
         Meta::NameValue(_, value, _) => {
             let tokens = value.written.tokens().duplicate()?;
-            Ok(Some(Source { tokens, enclosed: false }))
+            Ok(Some(Source {
+                tokens,
+                enclosed: false,
+            }))
         }
         Meta::Doc(_) => Ok(None),
         Meta::Unread(_, _, _) => Ok(None),

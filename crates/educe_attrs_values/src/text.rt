@@ -7,13 +7,22 @@ ghost use Rattle.educe_attrs_values.specs.Texts as spec;
 use educe_tokens::{LiteralKind, Spelling, Token, TokenKind, string_value};
 use std::alloc::{AllocError, Global};
 
+/// The text of a string.
+fn string_text(alloc: Global, token: &Token) -> Result<Option<String>, AllocError>
+    requires { token.now.kind ≡ TokenKind.Literal LiteralKind.Str }
+    ensures { IfOk result (λ text.
+        option_map (λ s. chars (string_bytes s)) text ≡ spec.text_in token.now) }
+{
+    string_value(alloc, token)
+}
+
 /// The text of a string; another token has none.
 fn text_in(alloc: Global, token: &Token) -> Result<Option<String>, AllocError>
     ensures { IfOk result (λ text.
         option_map (λ s. chars (string_bytes s)) text ≡ spec.text_in token.now) }
 {
     match token.kind {
-        TokenKind::Literal(LiteralKind::Str) => string_value(alloc, token),
+        TokenKind::Literal(LiteralKind::Str) => string_text(alloc, token),
         _ => Ok(None),
     }
 }

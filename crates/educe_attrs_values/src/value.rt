@@ -124,7 +124,11 @@ pub fn read_expr(alloc: Global, path: &MetaPath, meta: &Meta) -> Result<Expr, St
 }
 
 /// The bound that a parameter has as its value.
-pub fn read_bound(alloc: Global, path: &MetaPath, meta: &Meta) -> Result<WherePredicatesOrBool, Stop>
+pub fn read_bound(
+    alloc: Global,
+    path: &MetaPath,
+    meta: &Meta,
+) -> Result<WherePredicatesOrBool, Stop>
     ensures { Gives Stop.Memory (spec.value_of ValueKind.Bound path.now meta.now) result }
 {
     let kind = ValueKind::Bound;
