@@ -113,7 +113,7 @@ no_text (Some text) false h = absurd (cc)
 
 no_text_enclosed : (o : Option (List ℕ)) (enclosed : Bool) → (enclosed || is_some o) ≡ true → o ≡ None → enclosed ≡ true
 no_text_enclosed o true h none = refl
-no_text_enclosed o false h none = let both : is_some {A = List ℕ} None ≡ true = ap is_some (sym none) ∙ h in absurd (cc)
+no_text_enclosed o false h none = absurd (false≢true (sym (ap is_some none) ∙ h))
 
 text_enclosed : (o : Option (List ℕ)) (text : List ℕ) (enclosed : Bool) → o ≡ Some text → (enclosed || is_some o) ≡ true
 text_enclosed o text true is = refl
