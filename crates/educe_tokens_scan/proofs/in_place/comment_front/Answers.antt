@@ -1,5 +1,5 @@
 use Rattle.std.proofs.Common.{chars}
-use Rattle.educe_tokens_scan.proofs.NoComment.{no_slash, no_second}
+use Rattle.educe_tokens_scan.proofs.NoComment.{no_slash}
 use Rattle.educe_tokens_scan.proofs.in_place.comment_front.Goals as goal
 
 pub returns-in_err-behind-clause-none : goal.returns-in_err-behind-clause-none
