@@ -1,13 +1,14 @@
 -- Scans of a text where it stands.
-use Rattle.std.proofs.Common.{◌≡◌, ◌≢◌, ℕ, ◌+◌, ◌-◌, ◌<◌, Bool, true, false, List, [], ◌∷◌, ◌++◌, length, take, drop, get_or, chars, refl, sym, ap, ◌∙◌, subst, arith, append_assoc, take-append-drop, length-append, length-drop, lit<}
-use Rattle.std.specs.Prelude.{◌==◌, encode_utf8_all}
+use Rattle.std.proofs.Common.{◌≡◌, ◌≢◌, ℕ, ◌+◌, ◌-◌, ◌<◌, Bool, true, false, List, [], ◌∷◌, ◌++◌, length, take, drop, get_or, chars, refl, sym, ap, ◌∙◌, subst, arith, append_assoc, take-append-drop, length-append, length-drop, lit<, ⊎_elim}
+use Rattle.std.specs.Prelude.{◌==◌, ◌&&◌, encode_utf8_all}
 use Rattle.std.specs.List.{list_all}
-use Rattle.std.specs.Str.{IsUtf8, IsCharBoundary, NonePass, NoCharPasses}
+use Rattle.std.specs.Str.{IsUtf8, IsAscii, IsCharBoundary, NonePass, NoCharPasses}
 use Rattle.std.specs.Str.Pattern.{HasCharAt}
 use Rattle.std.proofs.Math.Seq.{take-append_seam, get_or-append_seam}
-use Rattle.std.proofs.lemmas.Bool.{and_from, and_right, false≢true, eqb-true, eq-eqb, ne_eqb}
+use Rattle.std.proofs.lemmas.Bool.{and_parts, and_from, and_right, false≢true, eqb-true, eq-eqb, ne_eqb, cases_Bool}
 use Rattle.std.proofs.lemmas.List.Folds.{list_all-append}
 use Rattle.std.proofs.lemmas.Str.{IsUtf8-take, IsUtf8-drop, IsCharBoundary-before_ascii, chars-append, chars_past_char, chars_from_encodes, encodes-chars, encodes-append, encode_ascii}
+use Rattle.std.proofs.lemmas.Str.Ascii.{IsAscii-cons, IsAscii-nil}
 use Rattle.educe_tokens_pieces.specs.Chars.{begins, is_in_line, is_word_start}
 use Rattle.educe_tokens_pieces.specs.Words.{is_word}
 use Rattle.unicode_ident.specs.Ident.{is_xid_continue}
@@ -16,6 +17,7 @@ use Rattle.educe_tokens_pieces.specs.Fronts.{HasFront, is_last}
 use Rattle.educe_tokens_pieces.specs.declared.quotes.Within.{Within}
 use Rattle.educe_tokens_pieces.specs.declared.quotes.Next.TheVariants.{Go, End}
 use Rattle.educe_tokens_pieces.specs.Machine.{step, ends}
+use Rattle.educe_tokens_pieces.proofs.Searches.{IsFirstRun}
 
 -- behind a front of the text, the test goes on as another one
 pub record Goes (test later : List ℕ → Bool) (text rest : List ℕ) : Type 0 where
@@ -79,6 +81,10 @@ line_from_none (c ∷ cs) h = and_from (is_in_line c) _ (rw h.0 refl) (line_from
 -- the characters of a text in two parts
 pub chars_split : (bs : List ℕ) (n : ℕ) → IsUtf8 bs → IsCharBoundary bs n → chars bs ≡ chars (take n bs) ++ chars (drop n bs)
 chars_split bs n u b = ap chars (sym (take-append-drop n bs)) ∙ chars-append (take n bs) (drop n bs) (IsUtf8-take bs n u b)
+
+-- the characters of a text of which none passes
+pub none_chars : (p : ℕ → Bool) (bs : List ℕ) → IsUtf8 bs → NoCharPasses p bs → NonePass p (chars bs)
+none_chars p bs u h = subst (NonePass p) (chars_from_encodes h.0 bs u h.1) h.2
 
 -- a text with no line feed is a line
 pub line_in : (bs : List ℕ) → IsUtf8 bs → NoCharPasses (λ d. d == 10) bs → list_all is_in_line (chars bs) ≡ true
@@ -195,3 +201,35 @@ module _ (inner : ℕ) (text rest front more : List ℕ) (goes : Goes (closes_co
   block_stays l h =
       goes_on (closes_comment 0) (closes_comment inner) (closes_comment inner) text rest more (front ++ 42 ∷ []) goes one_is
       (λ cs zs e. ap (closes_comment inner) (append_assoc front (42 ∷ []) cs) ∙ star_stays inner front cs none l ∙ star_skips inner cs zs more e h)
+
+-- two characters are not these two
+pub apart : (a b c d : ℕ) → (c ≡ a → d ≡ b → ⊥) → ((c == a) && (d == b)) ≡ false
+apart a b c d other =
+    ⊎_elim (λ e. let p = and_parts (c == a) _ e in absurd (other (eqb-true c a p.0) (eqb-true d b p.1))) (λ e. e) (cases_Bool ((c == a) && (d == b)))
+
+-- `*/` and `/*`
+abbrev pub block_end : List ℕ
+block_end = 42 ∷ 47 ∷ []
+
+abbrev pub block_start : List ℕ
+block_start = 47 ∷ 42 ∷ []
+
+pub block_end_ascii : IsAscii block_end
+block_end_ascii = IsAscii-cons 42 (47 ∷ []) (lit< tt) (IsAscii-cons 47 [] (lit< tt) IsAscii-nil)
+
+pub block_start_ascii : IsAscii block_start
+block_start_ascii = IsAscii-cons 47 (42 ∷ []) (lit< tt) (IsAscii-cons 42 [] (lit< tt) IsAscii-nil)
+
+-- the first `*/` closes the comment, where no other opens before it
+first_closes : (cs : List ℕ) → IsFirstRun block_end cs → ((xs ys : List ℕ) → cs ≢ xs ++ (block_start ++ ys)) → is_last 47 cs ≡ false → closes_comment 0 (cs ++ block_end) ≡ true
+first_closes [] first none l = refl
+first_closes (c ∷ []) first none l = rw (and_right (c == 42) false refl, l) refl
+first_closes (c ∷ d ∷ cs) first none l =
+    let stays : ((c == 42) && (d == 47)) ≡ false = apart 42 47 c d (λ e f. first [] (c ∷ d ∷ cs) (cs ++ block_end) refl (omega arith) (λ i. e i ∷ f i ∷ (cs ++ block_end))) in
+    let flat : ((c == 47) && (d == 42)) ≡ false = apart 47 42 c d (λ e f. none [] cs (λ i. e i ∷ f i ∷ cs)) in
+    rw (stays, flat) (first_closes (d ∷ cs) (λ xs ws ys e. first (c ∷ xs) ws ys (ap (λ t. c ∷ t) e)) (λ xs ys e. none (c ∷ xs) ys (ap (λ t. c ∷ t) e)) l)
+
+-- so what is before it and itself are the front
+pub flat_ends : (text front rest : List ℕ) → text ≡ (front ++ block_end) ++ rest → IsFirstRun block_end front → ((xs ys : List ℕ) → front ≢ xs ++ (block_start ++ ys)) → is_last 47 front ≡ false
+    → HasFront (closes_comment 0) text rest
+flat_ends text front rest e first none l = record { front = front ++ block_end; is = e; passes = first_closes front first none l }

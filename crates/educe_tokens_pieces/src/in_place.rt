@@ -6,6 +6,7 @@ ghost use Rattle.educe_tokens_pieces.specs.Chars.{begins, is_blank, is_in_line};
 ghost use Rattle.educe_tokens_pieces.specs.Words.{is_word, touches_word};
 ghost use Rattle.unicode_ident.specs.Ident.{is_xid_continue};
 ghost use Rattle.educe_tokens_pieces.specs.Comments.{closes_comment};
+ghost use Rattle.educe_tokens_pieces.specs.CommentScan.{closing_len};
 ghost use Rattle.educe_tokens_pieces.specs.Fronts.{HasFront, is_last};
 ghost use Rattle.educe_tokens_pieces.specs.Machine.{ends};
 ghost use Rattle.educe_tokens_pieces.specs.Pieces.{ends_word_before};
@@ -127,9 +128,10 @@ fn ends_in_slash(text: &str) -> bool
     text.ends_with('/')
 }
 
-/// What follows the block comment that the text is in, if it closes.
-pub fn behind_block(text: &str) -> Option<&str>
-    ensures { IfSome result (λ rest. HasFront (closes_comment 0) (chars text.now) (chars rest.now)) }
+/// What follows the block comment that the text is in, if it closes and maybe has others in it.
+fn behind_nested(text: &str) -> Option<&str>
+    ensures front { IfSome result (λ rest. HasFront (closes_comment 0) (chars text.now) (chars rest.now)) }
+    ensures none { result ≡ None → closing_len 0 (chars text.now) ≡ None }
 {
     let mut inner: usize = 0;
     let mut rest = text;
@@ -148,6 +150,19 @@ pub fn behind_block(text: &str) -> Option<&str>
         }
     }
     None
+}
+
+/// What follows the block comment that the text is in, if it closes. Few have another in them.
+pub fn behind_block(text: &str) -> Option<&str>
+    ensures front { IfSome result (λ rest. HasFront (closes_comment 0) (chars text.now) (chars rest.now)) }
+    ensures none { result ≡ None → closing_len 0 (chars text.now) ≡ None }
+{
+    let (front, rest) = text.split_once("*/")?;
+    if front.contains("/*") || ends_in_slash(front) {
+        behind_nested(text)
+    } else {
+        Some(rest)
+    }
 }
 
 /// What follows the literal behind its opening quote, if it ends.
