@@ -1,5 +1,5 @@
 -- The values of tokens by a rule, and why they have none.
-use Rattle.std.proofs.Common.{◌≡◌, ℕ, ◌≤◌, Bool, true, false, IsTrue, List, ◌∷◌, length, refl, sym, subst, ◌∙◌, ap, Option, Some, None, Result, Ok, Err, encode_utf8_all}
+use Rattle.std.proofs.Common.{◌≡◌, ℕ, ◌≤◌, Bool, true, false, IsTrue, List, length, refl, sym, subst, ◌∙◌, ap, Option, Some, None, Result, Ok, Err, encode_utf8_all}
 use Rattle.std.specs.Prelude.{◌≢◌, if◌then◌else◌, nat_le}
 use Rattle.educe_tokens.specs.declared.error.EduceError.{EduceError}
 use Rattle.educe_tokens.specs.declared.error.Kind.TheVariants as kind
@@ -165,8 +165,8 @@ module _ (k : ValueKind) (s : Source) where
       inner_if inner reading (Err e) read f h = let cause = parsed_cause laws inner e read in subst (Explains k s) (err_one h) (inner_by inner reading e cause.0 cause.1)
 
       lexical_by : (e : EduceError) → IsLexicalCause text e → e.kind ≢ kind.Alloc → Explains k s (fault_of true e)
-      lexical_by _ (IsLexicalCause.not_carried before literal what rest reads carried uncarried) told =
-          Explains.literal text _ text_opened (record { cause = IsLexicalCause.not_carried before literal what rest reads carried uncarried; kind = refl })
+      lexical_by _ (IsLexicalCause.not_carried before piece what rest reads carried uncarried) told =
+          Explains.literal text _ text_opened (record { cause = IsLexicalCause.not_carried before piece what rest reads carried uncarried; kind = refl })
       lexical_by _ (IsLexicalCause.no_piece before rest reads carried some fits) told =
           Explains.wrong (carried_other text is _ (IsLexicalCause.no_piece before rest reads carried some fits) told (λ same. cc))
       lexical_by _ (IsLexicalCause.wrong_close before t behind outer meets close) told =

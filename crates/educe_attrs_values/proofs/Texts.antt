@@ -1,7 +1,6 @@
 -- The texts of strings.
-use Rattle.std.proofs.Common.{◌≡◌, ℕ, Bool, true, false, List, [], ◌∷◌, drop, refl, sym, subst, ◌∙◌, ap, chars, Option, Some, None, IfSome, IfNone, Result, Ok, Err, IfOk, String, option_map}
+use Rattle.std.proofs.Common.{◌≡◌, ℕ, List, [], ◌∷◌, drop, refl, sym, subst, ◌∙◌, ap, Option, Some, None, IfSome, IfNone, Result, Ok, Err, IfOk, option_map}
 use Rattle.std.specs.Prelude.{◌==◌, if◌then◌else◌}
-use Rattle.std.specs.String.{string_bytes}
 use Rattle.std.specs.declared.alloc.AllocError.{AllocError}
 use Rattle.educe_tokens.specs.Chars.{begins}
 use Rattle.educe_tokens.specs.LiteralKind.TheVariants.{Int, Str, ByteStr, Char, Byte}
@@ -25,15 +24,14 @@ text_value _ _ (IsStringValue.raw text value own) is =
     ap (λ b. if b then raw_value text else given (Open InStr) (drop 1 text)) (ap (begins (λ c. c == 114)) own.is) ∙ raw_value_is text value own
 text_value _ _ (IsStringValue.doc text value own) is = absurd (cc)
 
-module _ (t : Token) (is : t.kind ≡ token.Literal Str) where
-  text_by : (found : Option String) → IfSome found (λ s. IsStringValue (lexeme_of t) (chars (string_bytes s))) → IfNone found (IsString t.kind → ⊥)
-      → option_map (λ s. chars (string_bytes s)) found ≡ text_in t
-  text_by (Some s) some none = ap Some (sym (text_value (lexeme_of t) (chars (string_bytes s)) some is)) ∙ sym (ap (λ k. text_of_kind k t.spelling) is)
+module _ {S : Type 0} (text_of : S → List ℕ) (t : Token) (is : t.kind ≡ token.Literal Str) where
+  text_by : (found : Option S) → IfSome found (λ s. IsStringValue (lexeme_of t) (text_of s)) → IfNone found (IsString t.kind → ⊥) → option_map text_of found ≡ text_in t
+  text_by (Some s) some none = ap Some (sym (text_value (lexeme_of t) (text_of s) some is)) ∙ sym (ap (λ k. text_of_kind k t.spelling) is)
   text_by None some none = absurd (none (subst IsString (sym is) IsString.str))
 
   -- the value of a string is its text
-  pub text_found : (r : Result (Option String) AllocError) → IfOk r (λ found. IfSome found (λ s. IsStringValue (lexeme_of t) (chars (string_bytes s))))
-      → IfOk r (λ found. IfNone found (IsString t.kind → ⊥)) → IfOk r (λ found. option_map (λ s. chars (string_bytes s)) found ≡ text_in t)
+  pub text_found : (r : Result (Option S) AllocError) → IfOk r (λ found. IfSome found (λ s. IsStringValue (lexeme_of t) (text_of s)))
+      → IfOk r (λ found. IfNone found (IsString t.kind → ⊥)) → IfOk r (λ found. option_map text_of found ≡ text_in t)
   text_found (Ok found) some none = text_by found some none
   text_found (Err e) some none = tt
 

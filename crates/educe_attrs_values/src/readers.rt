@@ -1,13 +1,15 @@
 //! The readers of values: each reads a meta as a value of one kind (documentation of `educe`, Traits).
 ghost use Rattle.std.specs.Prelude.{◌≡◌, IfOk, IfErr, Some};
 ghost use Rattle.educe_attrs_values.specs.Causes.{HasNoReaderCause, IsReaderCause};
+ghost use Rattle.educe_attrs_values.specs.Chains.{map_err};
 ghost use Rattle.educe_attrs_values.specs.Metas.{IsNamed};
+ghost use Rattle.educe_attrs_values.specs.Refusals as refusals;
 ghost use Rattle.educe_attrs_values.specs.Values.{Holds};
 ghost use Rattle.educe_attrs_values.specs.Words as words;
 
 use crate::choices::IdentOrBool;
 use crate::kind::ValueKind;
-use crate::stop::error_of;
+use crate::stop::{Stop, error_of};
 use crate::value::{
     read_expr, read_flag, read_ident, read_integer, read_name, read_path, read_truth,
 };
@@ -27,6 +29,16 @@ fn named_path(meta: &Meta) -> &MetaPath
     }
 }
 
+/// What was read, or the error of what stopped it.
+fn told<T>(alloc: Global, read: Result<T, Stop>) -> Result<T, EduceError>
+    ensures { result ≡ map_err refusals.error_of read }
+{
+    match read {
+        Ok(value) => Ok(value),
+        Err(stop) => Err(error_of(alloc, stop)),
+    }
+}
+
 /// The name that the meta has as its value, or why it has none.
 pub fn meta_2_ident(alloc: Global, meta: &Meta) -> Result<Ident, EduceError>
     requires { IsNamed meta.now }
@@ -34,10 +46,7 @@ pub fn meta_2_ident(alloc: Global, meta: &Meta) -> Result<Ident, EduceError>
     ensures cause { IfErr result (λ e. IsReaderCause ValueKind.Ident meta.now e) }
     ensures uncaused { IfOk result (λ _. HasNoReaderCause ValueKind.Ident meta.now) }
 {
-    match read_ident(alloc, named_path(meta), meta) {
-        Ok(value) => Ok(value),
-        Err(stop) => Err(error_of(alloc, stop)),
-    }
+    told(alloc, read_ident(alloc, named_path(meta), meta))
 }
 
 /// The truth value that the meta has as its value, or why it has none.
@@ -47,23 +56,18 @@ pub fn meta_2_bool(alloc: Global, meta: &Meta) -> Result<bool, EduceError>
     ensures cause { IfErr result (λ e. IsReaderCause ValueKind.Truth meta.now e) }
     ensures uncaused { IfOk result (λ _. HasNoReaderCause ValueKind.Truth meta.now) }
 {
-    match read_truth(alloc, named_path(meta), meta) {
-        Ok(value) => Ok(value),
-        Err(stop) => Err(error_of(alloc, stop)),
-    }
+    told(alloc, read_truth(alloc, named_path(meta), meta))
 }
 
-/// The same; the meta alone means `true`, or why it has none.
+/// The truth value that the meta has as its value, `true` where it has none; or why that is no truth
+/// value.
 pub fn meta_2_bool_allow_path(alloc: Global, meta: &Meta) -> Result<bool, EduceError>
     requires { IsNamed meta.now }
     ensures said { IfOk result (λ v. Holds ValueKind.Flag meta.now v) }
     ensures cause { IfErr result (λ e. IsReaderCause ValueKind.Flag meta.now e) }
     ensures uncaused { IfOk result (λ _. HasNoReaderCause ValueKind.Flag meta.now) }
 {
-    match read_flag(alloc, named_path(meta), meta) {
-        Ok(value) => Ok(value),
-        Err(stop) => Err(error_of(alloc, stop)),
-    }
+    told(alloc, read_flag(alloc, named_path(meta), meta))
 }
 
 /// The name or truth value that the meta has as its value; a string without text is `false`, or why it has none.
@@ -73,10 +77,7 @@ pub fn meta_2_ident_and_bool(alloc: Global, meta: &Meta) -> Result<IdentOrBool, 
     ensures cause { IfErr result (λ e. IsReaderCause ValueKind.Name meta.now e) }
     ensures uncaused { IfOk result (λ _. HasNoReaderCause ValueKind.Name meta.now) }
 {
-    match read_name(alloc, named_path(meta), meta) {
-        Ok(value) => Ok(value),
-        Err(stop) => Err(error_of(alloc, stop)),
-    }
+    told(alloc, read_name(alloc, named_path(meta), meta))
 }
 
 /// The path of an expression that the meta has as its value, or why it has none.
@@ -86,10 +87,7 @@ pub fn meta_2_path(alloc: Global, meta: &Meta) -> Result<ExprPath, EduceError>
     ensures cause { IfErr result (λ e. IsReaderCause ValueKind.Path meta.now e) }
     ensures uncaused { IfOk result (λ _. HasNoReaderCause ValueKind.Path meta.now) }
 {
-    match read_path(alloc, named_path(meta), meta) {
-        Ok(value) => Ok(value),
-        Err(stop) => Err(error_of(alloc, stop)),
-    }
+    told(alloc, read_path(alloc, named_path(meta), meta))
 }
 
 /// The integer of 64 bits that the meta has as its value, or why it has none.
@@ -99,10 +97,7 @@ pub fn meta_2_isize(alloc: Global, meta: &Meta) -> Result<i64, EduceError>
     ensures cause { IfErr result (λ e. IsReaderCause ValueKind.Integer meta.now e) }
     ensures uncaused { IfOk result (λ _. HasNoReaderCause ValueKind.Integer meta.now) }
 {
-    match read_integer(alloc, named_path(meta), meta) {
-        Ok(value) => Ok(value),
-        Err(stop) => Err(error_of(alloc, stop)),
-    }
+    told(alloc, read_integer(alloc, named_path(meta), meta))
 }
 
 /// The expression that the meta has as its value, or why it has none.
@@ -112,8 +107,5 @@ pub fn meta_2_expr(alloc: Global, meta: &Meta) -> Result<Expr, EduceError>
     ensures cause { IfErr result (λ e. IsReaderCause ValueKind.Expr meta.now e) }
     ensures uncaused { IfOk result (λ _. HasNoReaderCause ValueKind.Expr meta.now) }
 {
-    match read_expr(alloc, named_path(meta), meta) {
-        Ok(value) => Ok(value),
-        Err(stop) => Err(error_of(alloc, stop)),
-    }
+    told(alloc, read_expr(alloc, named_path(meta), meta))
 }
