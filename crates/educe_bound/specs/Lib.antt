@@ -1,0 +1,3 @@
+pub mod Traits
+pub mod Named
+pub mod Bounds
