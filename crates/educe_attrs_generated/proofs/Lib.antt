@@ -1,0 +1,5 @@
+pub mod Words
+pub mod Forms
+pub mod Integers
+pub mod Printed
+pub mod Listed
