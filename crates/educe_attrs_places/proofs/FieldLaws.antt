@@ -16,7 +16,7 @@ use Rattle.educe_attrs_places.specs.declared.place.FieldSettings.{FieldSettings}
 use Rattle.educe_attrs_places.specs.Causes.{OfStop, NoCause}
 use Rattle.educe_attrs_places.specs.Lists.{AreMetas}
 use Rattle.educe_attrs_places.specs.Said.{listed_metas, read_one, IsUnsaid, IsSaidCause}
-use Rattle.educe_attrs_places.specs.Places.{fallback, own, or_taken, read_other, or_other, read_among, read_field, field_settings, IsFieldSaid, IsFieldCause, OfField}
+use Rattle.educe_attrs_places.specs.Places.{fallback, own_settings, or_taken, read_other, or_other, read_among, read_field, field_settings, IsFieldSaid, IsFieldCause, OfField}
 use Rattle.educe_attrs_places.proofs.SaidLaws.{said_cause, said_uncaused, says_there, is_unsaid, not_unsaid, metas_listed, listed_cause, listed_uncaused}
 use Rattle.educe_attrs_rows.proofs.Chained.{ok_one, err_one, chained, mapped, mapped_err}
 
@@ -67,12 +67,12 @@ module _ (which : Trait) (row : Row) (listed : List Trait) (attributes : List At
     taken_said : IsUnsaid which attributes → (other : Trait) → fallback which listed ≡ Some other → (v : FieldSettings) (o : Option Values) → read_one other row found None ≡ Ok o → or_taken which o ≡ v
         → IsFieldSaid which row listed attributes v
     taken_said none other is v None h v_is =
-        subst (IsFieldSaid which row listed attributes) v_is (IsFieldSaid.unsaid none (one_fallback other is (is_unsaid other row attributes found are h)))
+        subst (IsFieldSaid which row listed attributes) v_is (IsFieldSaid.none_said none (one_fallback other is (is_unsaid other row attributes found are h)))
     taken_said none other is v (Some w) h v_is =
         subst (IsFieldSaid which row listed attributes) v_is (IsFieldSaid.other_said other w is none (says_there other row attributes found are w h))
 
     other_said : IsUnsaid which attributes → (v : FieldSettings) (o : Option Trait) → fallback which listed ≡ o → read_other which row found o ≡ Ok v → IsFieldSaid which row listed attributes v
-    other_said none v None is h = subst (IsFieldSaid which row listed attributes) (ok_one h) (IsFieldSaid.unsaid none (no_fallback is))
+    other_said none v None is h = subst (IsFieldSaid which row listed attributes) (ok_one h) (IsFieldSaid.none_said none (no_fallback is))
     other_said none v (Some other) is h =
         let r = mapped (or_taken which) (read_one other row found None) v h in
         taken_said none other is v r.0 r.1 r.2
@@ -120,7 +120,7 @@ module _ (which : Trait) (row : Row) (listed : List Trait) (attributes : List At
   -- what is read is the settings
   pub field_is : (v : FieldSettings) → read_field which row listed attributes ≡ Ok v → v ≡ field_settings which row listed attributes
   unfolding field_settings
-  field_is v h = sym (ap (λ r. result_unwrap_or r (own no_values)) h)
+  field_is v h = sym (ap (λ r. result_unwrap_or r (own_settings no_values)) h)
 
   -- ---- the answer of a function that reads it
 

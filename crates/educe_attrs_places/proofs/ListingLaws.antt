@@ -131,14 +131,13 @@ adds (said.Unread path written place) before r h = Adds.passed refl (λ p named 
 
 -- ---- all metas, where they are read
 
--- the traits are those of the metas, behind what was there
-in_order : (ms : List Meta) (before r : List Trait) → traits_of before ms ≡ Ok r → r ≡ before ++ filter_map trait_of ms
 in_order_by : (m : Meta) (ms : List Meta) (before next r : List Trait) → Adds m before next → r ≡ next ++ filter_map trait_of ms → r ≡ before ++ filter_map trait_of (m ∷ ms)
-unfolding filter_map
 in_order_by m ms before next r (Adds.passed none nameless is) rest = rw none (rest ∙ ap (λ xs. xs ++ filter_map trait_of ms) is)
 in_order_by m ms before next r (Adds.added which some named fresh is) rest =
     rw some (rest ∙ (ap (λ xs. xs ++ filter_map trait_of ms) is ∙ append_assoc before (which ∷ []) (filter_map trait_of ms)))
-unfolding filter_map
+
+-- the traits are those of the metas, behind what was there
+in_order : (ms : List Meta) (before r : List Trait) → traits_of before ms ≡ Ok r → r ≡ before ++ filter_map trait_of ms
 in_order [] before r h = sym (ok_one h) ∙ sym (append-nil before)
 in_order (m ∷ ms) before r h =
     let c = chained (λ found. traits_of found ms) (with_listed before m) r h in
@@ -176,7 +175,7 @@ each_named : (ms : List Meta) (before r : List Trait) → traits_of before ms �
 each_named ms before r h m a path named is none =
     let p = passes a.front m a.back before r (subst (λ ms. traits_of before ms ≡ Ok r) a.is h) in
     elim p.step [
-      | passed no nameless same ↦ nameless path named is
+      | passed none_is nameless same ↦ nameless path named is
       | added which some of fresh same ↦ (let bad : None ≡ Some which = sym none ∙ of path is in cc)
     ]
 
@@ -194,7 +193,6 @@ or_cases false c h = inr h
 
 -- the one item of a list
 only_one : (w t : Trait) → is_listed (w ∷ []) t ≡ (same_trait t w || false)
-unfolding list_any
 only_one w t = refl
 
 -- what stands in the middle stands there
@@ -208,7 +206,7 @@ stands_among xs ys t =
 pushed_or : (xs : List Trait) (w t : Trait) → is_listed (xs ++ w ∷ []) t ≡ true → (is_listed xs t ≡ true) ⊎ (same_trait t w ≡ true)
 pushed_or xs w t h = elim (or_cases (is_listed xs t) (is_listed (w ∷ []) t) (sym (list_any-append (λ name. same_trait t name) xs (w ∷ [])) ∙ h)) [
   | inl stood ↦ inl stood
-  | inr one ↦ (elim (or_cases (same_trait t w) false (sym (only_one w t) ∙ one)) [ inl same ↦ inr same | inr no ↦ absurd (false≢true no) ])
+  | inr one ↦ (elim (or_cases (same_trait t w) false (sym (only_one w t) ∙ one)) [ inl same ↦ inr same | inr never ↦ absurd (false≢true never) ])
 ]
 
 -- a meta of a trait adds it

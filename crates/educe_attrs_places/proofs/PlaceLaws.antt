@@ -48,8 +48,8 @@ module _ (which : Trait) (row : Row) (listed : List Trait) (attributes : List At
       }
 
   said_by : (found : List Meta) → AreMetas attributes found → (o : Option Values) (v : Values) → read_one which row found None ≡ Ok o → or_nothing o ≡ v → IsSaid which row attributes v
-  said_by found are None v h is = subst (IsSaid which row attributes) is (IsSaid.unsaid (is_unsaid which row attributes found are h))
-  said_by found are (Some w) v h is = subst (IsSaid which row attributes) is (IsSaid.own w (says_there which row attributes found are w h))
+  said_by found are None v h is = subst (IsSaid which row attributes) is (IsSaid.by_none (is_unsaid which row attributes found are h))
+  said_by found are (Some w) v h is = subst (IsSaid which row attributes) is (IsSaid.by_meta w (says_there which row attributes found are w h))
 
   -- what is read is what the metas say
   pub place_said : (v : Values) → read_place which row listed attributes ≡ Ok v → IsSaid which row attributes v

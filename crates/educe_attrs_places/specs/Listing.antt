@@ -1,5 +1,5 @@
 -- The traits that the attributes of a type list, and why they are refused.
-use Rattle.std.specs.Prelude.{◌≡◌, ◌≢◌, ℕ, true, if◌then◌else◌, List, [], ◌∷◌, ◌++◌, codes, Option, Some, None, Result, Ok, Err, ◌⊎◌}
+use Rattle.std.specs.Prelude.{◌≡◌, ◌≢◌, ℕ, true, if◌then◌else◌, List, [], ◌∷◌, ◌++◌, codes, chars, Option, Some, None, Result, Ok, Err, ◌⊎◌}
 use Rattle.std.specs.List.{filter_map, IsDistinct}
 use Rattle.std.specs.Result.{result_unwrap_or}
 use Rattle.educe_tokens.specs.declared.error.EduceError.{EduceError}
@@ -31,7 +31,7 @@ abbrev pub format_incorrect : MetaPath → EduceError
 format_incorrect path = record {
   kind = EduceFormatIncorrect;
   span = place_of path.written.tokens;
-  words = codes "educe" ∷ codes "#[educe(Trait1, Trait2, ..., TraitN)]" ∷ [];
+  words = chars (codes "educe") ∷ chars (codes "#[educe(Trait1, Trait2, ..., TraitN)]") ∷ [];
 }
 
 -- a source that ends there lists no trait

@@ -32,8 +32,8 @@ place_settings which row listed attributes = result_unwrap_or (read_place which 
 
 -- they are what the one meta of the trait says; or, where there is none, nothing
 pub data IsSaid (which : Trait) (row : Row) (attributes : List Attribute) : Values → Type 0 where
-  own : (values : Values) → SaysThere which row attributes values → IsSaid which row attributes values
-  unsaid : IsUnsaid which attributes → IsSaid which row attributes no_values
+  by_meta : (values : Values) → SaysThere which row attributes values → IsSaid which row attributes values
+  by_none : IsUnsaid which attributes → IsSaid which row attributes no_values
 
 -- why the attributes of a type or a variant are refused for a trait: for its lists, whatever the trait; or for what they say
 -- of the trait
@@ -57,26 +57,26 @@ abbrev pub fallback : Trait → List Trait → Option Trait
 fallback which listed = if_both which listed (other_order which)
 
 -- what a field's own attribute says
-abbrev pub own : Values → FieldSettings
-own values = record { values = values; method_returns_ordering = false }
+abbrev pub own_settings : Values → FieldSettings
+own_settings values = record { values = values; method_returns_ordering = false }
 
 -- what is taken from the other order: `PartialOrd` takes the method, which returns an `Ordering`; `Ord` takes none
 abbrev pub taken : Trait → Values → FieldSettings
 taken PartialOrd values = record { values = values; method_returns_ordering = is_some values.method }
-taken _ values = own (record values { method = None })
+taken _ values = own_settings (record values { method = None })
 
 abbrev pub or_taken : Trait → Option Values → FieldSettings
-or_taken which None = own no_values
+or_taken which None = own_settings no_values
 or_taken which (Some values) = taken which values
 
 -- what is said of the other order, if there is one
 abbrev pub read_other : Trait → Row → List Meta → Option Trait → Result FieldSettings Stop
-read_other which row found None = Ok (own no_values)
+read_other which row found None = Ok (own_settings no_values)
 read_other which row found (Some other) = map_ok (or_taken which) (read_one other row found None)
 
 -- what is said of the trait, or else of the other order
 abbrev pub or_other : Trait → Row → List Trait → List Meta → Option Values → Result FieldSettings Stop
-or_other which row listed found (Some values) = Ok (own values)
+or_other which row listed found (Some values) = Ok (own_settings values)
 or_other which row listed found None = read_other which row found (fallback which listed)
 
 abbrev pub read_among : Trait → Row → List Trait → List Meta → Result FieldSettings Stop
@@ -88,16 +88,16 @@ read_field which row listed attributes = and_then (read_among which row listed) 
 
 -- the settings of a trait at a field; where the attributes are refused, none
 unfoldable pub field_settings : Trait → Row → List Trait → List Attribute → FieldSettings
-field_settings which row listed attributes = result_unwrap_or (read_field which row listed attributes) (own no_values)
+field_settings which row listed attributes = result_unwrap_or (read_field which row listed attributes) (own_settings no_values)
 
 -- they are what the one meta of the trait says; where there is none, what is taken from the one meta of the other order,
 -- where both are listed; and where there is none either, nothing
 pub data IsFieldSaid (which : Trait) (row : Row) (listed : List Trait) (attributes : List Attribute) : FieldSettings → Type 0 where
-  own_said : (values : Values) → SaysThere which row attributes values → IsFieldSaid which row listed attributes (own values)
+  own_said : (values : Values) → SaysThere which row attributes values → IsFieldSaid which row listed attributes (own_settings values)
   other_said : (other : Trait) (values : Values) → fallback which listed ≡ Some other → IsUnsaid which attributes → SaysThere other row attributes values
       → IsFieldSaid which row listed attributes (taken which values)
-  unsaid : IsUnsaid which attributes → ((other : Trait) → fallback which listed ≡ Some other → IsUnsaid other attributes)
-      → IsFieldSaid which row listed attributes (own no_values)
+  none_said : IsUnsaid which attributes → ((other : Trait) → fallback which listed ≡ Some other → IsUnsaid other attributes)
+      → IsFieldSaid which row listed attributes (own_settings no_values)
 
 -- why what the attributes of a field say of a trait is refused: for its own metas; or, where there is none, for those of the
 -- other order, where both are listed

@@ -12,7 +12,6 @@ use educe_tokens::{EduceError, Kind, Seq, Span, Spelling};
 use std::alloc::{AllocError, Global};
 
 /// That an `educe` attribute of a type is no list.
-#[tactic(auto, using(crate::proofs::Texts::chars_educe, crate::proofs::Texts::chars_form))]
 fn format_incorrect(alloc: Global, path: &MetaPath) -> Result<EduceError, AllocError>
     ensures { IfOk result (λ e. e ≡ spec.format_incorrect path.now) }
 {
@@ -99,22 +98,26 @@ fn traits_of(alloc: Global, metas: &[Meta]) -> Result<Traits, Stop>
     Ok(traits)
 }
 
+/// The traits, of which there is at least one.
+fn if_set_up(alloc: Global, traits: Traits, end: u32) -> Result<Traits, Stop>
+    ensures { Gives Stop.Memory (spec.if_set_up end traits) result }
+{
+    let kind = Kind::DeriveAttributeNotSetUpYet;
+    match traits.as_slice() {
+        [] => Err(Stop::Refused(EduceError::new(alloc, kind, Span { start: 0, end }))),
+        _ => Ok(traits),
+    }
+}
+
 /// The program that reads the attributes of a type.
+#[tactic(auto, unfolding(crate::specs::Listing::read_listing))]
 fn read_listing(alloc: Global, attributes: &[Attribute], end: u32) -> Result<Traits, Stop>
     ensures { Gives Stop.Memory (spec.read_listing attributes.now end) result }
 {
     check_lists(alloc, attributes)?;
     let metas = all_metas(alloc, attributes)?;
     let traits = traits_of(alloc, metas.as_slice())?;
-    if traits.is_empty() {
-        let span = Span { start: 0, end };
-        return Err(Stop::Refused(EduceError::new(
-            alloc,
-            Kind::DeriveAttributeNotSetUpYet,
-            span,
-        )));
-    }
-    Ok(traits)
+    if_set_up(alloc, traits, end)
 }
 
 /// The traits that the attributes of a type list, as they are written (documentation of `educe`,

@@ -22,7 +22,7 @@ pub struct FieldSettings {
 impl FieldSettings {
     /// What a field's own attribute says.
     fn own(values: Values) -> FieldSettings
-        ensures { result ≡ spec.own values }
+        ensures { result ≡ spec.own_settings values }
     {
         FieldSettings {
             values,
@@ -32,6 +32,7 @@ impl FieldSettings {
 }
 
 /// The program that reads the attributes of a type or a variant.
+#[tactic(auto, unfolding(crate::specs::Places::read_place))]
 fn read_place(
     alloc: Global,
     which: Trait,
@@ -144,6 +145,7 @@ fn read_among(
 }
 
 /// The program that reads the attributes of a field.
+#[tactic(auto, unfolding(crate::specs::Places::read_field))]
 fn read_field(
     alloc: Global,
     which: Trait,
