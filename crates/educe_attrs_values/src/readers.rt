@@ -59,7 +59,8 @@ pub fn meta_2_bool(alloc: Global, meta: &Meta) -> Result<bool, EduceError>
     told(alloc, read_truth(alloc, named_path(meta), meta))
 }
 
-/// The same; the meta alone means `true`, or why it has none.
+/// The truth value that the meta has as its value, `true` where it has none; or why that is no truth
+/// value.
 pub fn meta_2_bool_allow_path(alloc: Global, meta: &Meta) -> Result<bool, EduceError>
     requires { IsNamed meta.now }
     ensures said { IfOk result (λ v. Holds ValueKind.Flag meta.now v) }
