@@ -223,7 +223,7 @@ no_reuse ms before r h which later reused =
     let first = adds_it which reused.earlier q.here q.next reused.earlier_is q.step in
     let second = adds_it which later p.here p.next reused.later_is p.step in
     let all : p.here ≡ (q.here ++ which ∷ []) ++ filter_map trait_of reused.between =
-        in_order reused.between q.next p.here q.back_read ∙ ap (λ xs. xs ++ filter_map trait_of reused.between) first.1 in
+    in_order reused.between q.next p.here q.back_read ∙ ap (λ xs. xs ++ filter_map trait_of reused.between) first.1 in
     false≢true (sym second.0 ∙ (ap (λ xs. is_listed xs which) all ∙ stands_among q.here (filter_map trait_of reused.between) which))
 
 -- ---- all metas, where they are refused

@@ -31,7 +31,6 @@ module _ (listed : List Trait) where
       ((trait_named path ≡ None) × (at_name UnsupportedTrait path ≡ e))
       ⊎ ((which : Trait) × (trait_named path ≡ Some which) × (is_listed listed which ≡ false) × (at_name TraitNotUsed path ≡ e))
 
-
   abbrev listed_or : MetaPath → Bool → Result (Unit {0}) Stop
   listed_or path b = if b then Ok tt else Err (Refused (at_name TraitNotUsed path))
 

@@ -148,7 +148,7 @@ module _ (which : Trait) (row : Row) where
             let kept : Some v ≡ Some read.2 = stays ms read.2 c.0 (Some v) read.3 c.2 in
             let same : read.2 ≡ v = cc in
             record { meta = m; among = among_first m ms; of = read.0; read = read.4 ∙ ap Ok same }
-          )
+            )
       ]
 
   data OneErr (ms : List Meta) (before : Option Values) (e : EduceError) : Type 0 where

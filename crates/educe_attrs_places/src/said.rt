@@ -63,7 +63,12 @@ fn next_said(
 }
 
 /// What the only meta of the trait says; none where there is none.
-pub fn read_one(alloc: Global, which: Trait, row: &Row, metas: &[Meta]) -> Result<Option<Values>, Stop>
+pub fn read_one(
+    alloc: Global,
+    which: Trait,
+    row: &Row,
+    metas: &[Meta],
+) -> Result<Option<Values>, Stop>
     ensures { Gives Stop.Memory (spec.read_one which row.now metas.now None) result }
 {
     let mut said = None;
