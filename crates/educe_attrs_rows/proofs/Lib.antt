@@ -5,4 +5,5 @@ pub mod Named
 pub mod Listed
 pub mod ParamLaws
 pub mod MetaLaws
+pub mod Lines
 pub mod Worded

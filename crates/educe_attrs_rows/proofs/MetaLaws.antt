@@ -17,7 +17,7 @@ use Rattle.educe_syntax.specs.Parsed.{IsWhole, IsParseCause}
 use Rattle.educe_attrs_values.specs.declared.stop.Stop.{Stop}
 use Rattle.educe_attrs_values.specs.declared.stop.Stop.TheVariants.{Memory, Refused}
 use Rattle.educe_attrs_values.specs.Causes.{IsValueCause}
-use Rattle.educe_attrs_values.specs.Chains.{and_then}
+use Rattle.educe_attrs_values.specs.Chains.{Gives, and_then}
 use Rattle.educe_attrs_values.specs.Readings.{value_of}
 use Rattle.educe_attrs_values.specs.Refusals.{error_of}
 use Rattle.educe_attrs_values.specs.Sources.{inside}
@@ -29,7 +29,7 @@ use Rattle.educe_attrs_rows.specs.declared.values.Values.{Values}
 use Rattle.educe_attrs_rows.specs.Among.{IsAmong}
 use Rattle.educe_attrs_rows.specs.Causes.{param_in, IsReset, is_bare, AreGiven, Lists, Says, HasWrongForm, HasValue, IsListCause, IsMetaCause, IsOwnCause, IsCause, HasNoCause}
 use Rattle.educe_attrs_rows.specs.Metas.{metas_in}
-use Rattle.educe_attrs_rows.specs.Program.{read_params, read_bare, equals_as, read_equals, read_metas, read_list, placed, read_meta}
+use Rattle.educe_attrs_rows.specs.Program.{read_params, read_bare, read_word, equals_as, read_equals, read_metas, read_list, placed, read_meta}
 use Rattle.educe_attrs_rows.specs.Refusals.{incorrect_place, incorrect_format, parameter_reset}
 use Rattle.educe_attrs_rows.specs.Rows.{param_of, is_empty}
 use Rattle.educe_attrs_rows.specs.Settings.{values_at, bare_values, given, kind_of, Behind, behind}
@@ -293,3 +293,12 @@ module _ (row : Row) where
   pub stop_cause : (meta : Meta) (s : Stop) → (s ≢ Memory → read_meta row meta ≡ Err s) → IsCause row meta (error_of s)
   stop_cause meta Memory h = IsCause.memory
   stop_cause meta (Refused e) h = IsCause.own (meta_cause meta e (h (λ same. cc)))
+
+  -- a word, where a form may stand there
+  pub word_answer : (meta : Meta) (path name : MetaPath) (empty : Bool) (r : Result Values Stop) → meta ≡ said.Word path → Some name ≡ path_of meta → empty ≡ is_empty row → empty ≡ false
+      → Gives Memory (read_word row name) r → Gives Memory (read_meta row meta) r
+  word_answer meta path name empty r is name_is empty_is some gives =
+      let same : Some name ≡ Some path = name_is ∙ ap path_of is in
+      let path_is : name ≡ path = cc in
+      subst (λ m. Gives Memory (read_meta row m) r) (sym is)
+      (subst (λ b. Gives Memory (if b then Err (Refused (incorrect_place path)) else read_word row path) r) (sym some ∙ empty_is) (subst (λ p. Gives Memory (read_word row p) r) path_is gives))

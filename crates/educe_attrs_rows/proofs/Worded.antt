@@ -1,5 +1,5 @@
 -- The errors of attributes have the words that their messages cite.
-use Rattle.std.proofs.Common.{◌≡◌, ℕ, ◌<◌, List, [], ◌∷◌, ◌++◌, length, refl, sym, subst, ap, arith, Bool, true, false, length-append}
+use Rattle.std.proofs.Common.{[], ◌∷◌, refl, subst, arith, encode_utf8_all}
 use Rattle.educe_tokens.specs.declared.error.EduceError.{EduceError}
 use Rattle.educe_tokens.specs.Message.{HasWords}
 use Rattle.educe_syntax.specs.Laws.{lawful_metas}
@@ -10,6 +10,7 @@ use Rattle.educe_syntax.specs.TokenLaws.{lawful_lexing}
 use Rattle.educe_attrs_values.specs.declared.kind.ValueKind.{ValueKind}
 use Rattle.educe_attrs_values.specs.Causes.{IsValueCause}
 use Rattle.educe_attrs_values.specs.Sources.{inside}
+use Rattle.educe_attrs_values.specs.Words.{text_of}
 use Rattle.educe_attrs_rows.specs.declared.row.Row.{Row}
 use Rattle.educe_attrs_rows.specs.Causes.{IsListCause, IsMetaCause, IsOwnCause, IsCause}
 use Rattle.educe_attrs_rows.specs.Usage.{line, with_line, with_heads, with_names, with_params, with_usage}
@@ -23,24 +24,6 @@ value_words k path meta e (IsValueCause.deep_text s text some none opened deep) 
 value_words k path meta e (IsValueCause.not_carried s text f some none opened uncarried) =
     subst (λ kind. HasWords kind f.words) uncarried.kind (lawful_lexing.words text f uncarried.cause)
 
--- a line more leaves what stands there
-line_kept : (lines : List (List ℕ)) (allowed : Bool) (name rest : List ℕ) → 0 < length lines → 0 < length (with_line lines allowed name rest)
-line_kept lines true name rest some = omega (arith, some, length-append lines (line name rest ∷ []))
-line_kept lines false name rest some = some
-
-heads_kept : (lines : List (List ℕ)) (name : List ℕ) (row : Row) → 0 < length lines → 0 < length (with_heads lines name row)
-heads_kept lines name row some = line_kept _ _ name _ (line_kept _ _ name _ (line_kept lines row.flag name _ some))
-
-names_kept : (lines : List (List ℕ)) (name : List ℕ) (row : Row) → 0 < length lines → 0 < length (with_names lines name row)
-names_kept lines name row some = line_kept _ _ name _ (line_kept _ _ name _ (line_kept _ _ name _ (line_kept _ _ name _ (line_kept lines _ name _ some))))
-
-params_kept : (lines : List (List ℕ)) (name : List ℕ) (row : Row) → 0 < length lines → 0 < length (with_params lines name row)
-params_kept lines name row some =
-    line_kept _ row.bound name _ (line_kept _ row.rank name _ (line_kept _ row.method name _ (line_kept _ row.ignore name _ (line_kept _ _ name _ (line_kept _ row.expression name _ (line_kept lines row.new name _ some))))))
-
-usage_kept : (lines : List (List ℕ)) (name : List ℕ) (row : Row) → 0 < length lines → 0 < length (with_usage lines name row)
-usage_kept lines name row some = line_kept _ row.bound name _ (params_kept _ name row (names_kept _ name row (heads_kept lines name row some)))
-
 list_words : (meta : Meta) (e : EduceError) → IsListCause meta e → HasWords e.kind e.words
 list_words (said.Word path) e cause = absurd cause
 list_words (said.List path tokens place) e cause = (lawful_metas.reported (inside tokens.tokens) e cause.0).words
@@ -51,10 +34,10 @@ list_words (said.Unread path tokens place) e cause = absurd cause
 -- those of a meta
 meta_words : (row : Row) (name : MetaPath) (meta : Meta) (e : EduceError) → IsMetaCause row name meta e → HasWords e.kind e.words
 meta_words row name meta e (IsMetaCause.place empty) = refl
-meta_words row name meta e (IsMetaCause.format some form) = usage_kept _ _ row (omega arith)
-meta_words row name meta e (IsMetaCause.no_value some has is) = usage_kept _ _ row (omega arith)
+meta_words row name meta e (IsMetaCause.format some form) = usage_kept (encode_utf8_all (text_of name)) row (text_of name ∷ []) (omega arith)
+meta_words row name meta e (IsMetaCause.no_value some has is) = usage_kept (encode_utf8_all (text_of name)) row (text_of name ∷ []) (omega arith)
 meta_words row name meta e (IsMetaCause.reset params later path p some lists reset path_is param_is) = refl
-meta_words row name meta e (IsMetaCause.param params m path p some lists a path_is param_is cause) = value_words _ path m e cause
+meta_words row name meta e (IsMetaCause.param params m path p some lists a path_is param_is cause) = value_words (kind_of row p) path m e cause
 meta_words row name meta e (IsMetaCause.equals b some has is cause) = value_words b.kind name meta e cause
 meta_words row name meta e (IsMetaCause.list some cause) = list_words meta e cause
 

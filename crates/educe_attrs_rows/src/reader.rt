@@ -1,6 +1,7 @@
 //! What an attribute says, by the row of its place.
 ghost use Rattle.std.specs.Prelude.{◌≡◌, IfOk, IfErr};
 ghost use Rattle.std.specs.List.{AllByRecursion};
+ghost use Rattle.educe_tokens.specs.Message.{HasWords};
 ghost use Rattle.educe_attrs_values.specs.Chains.{Gives};
 ghost use Rattle.educe_attrs_values.specs.Metas.{IsNamed};
 ghost use Rattle.educe_attrs_rows.specs.Causes.{Says, IsCause, HasNoCause};
@@ -155,6 +156,7 @@ pub fn read_meta(alloc: Global, row: &Row, meta: &Meta) -> Result<Values, EduceE
     requires { IsNamed meta.now }
     ensures said { IfOk result (λ values. Says row.now meta.now values) }
     ensures cause { IfErr result (λ e. IsCause row.now meta.now e) }
+    ensures words { IfErr result (λ e. HasWords e.kind e.words) }
     ensures uncaused { IfOk result (λ _. HasNoCause row.now meta.now) }
 {
     match read_form(alloc, row, meta) {
