@@ -1,5 +1,5 @@
 -- The attributes of generated items, and converted values, may stand side by side with other tokens.
-use Rattle.std.proofs.Common.{◌≡◌, Bool, true, false, IsTrue, List, [], ◌∷◌, ◌++◌, codes, refl, sym, subst, append_assoc}
+use Rattle.std.proofs.Common.{◌≡◌, Bool, true, false, IsTrue, List, [], ◌∷◌, ◌++◌, codes, refl, sym, ap, ◌∙◌, subst, append_assoc}
 use Rattle.std.specs.Prelude.{if◌then◌else◌}
 use Rattle.educe_tokens.specs.Bracket.TheVariants.{Round, Square}
 use Rattle.educe_tokens.specs.declared.token.Token.{Token}
@@ -9,6 +9,7 @@ use Rattle.educe_tokens.specs.Lexes.{Lexeme, lexemes}
 use Rattle.educe_tokens.specs.Quote.{quoted}
 use Rattle.educe_tokens.specs.WrittenLexemes.{written_lexemes}
 use Rattle.educe_tokens.proofs.Printable.{IsPrintable, printable-nil, printable-written, printable-append, printable-brackets, printable-flat_map, printable-quoted as template}
+use Rattle.educe_tokens.proofs.Copying.{copied-written, may_be_copied-written}
 use Rattle.educe_syntax.specs.Attribute.{Attribute}
 use Rattle.educe_syntax.specs.Meta.{Meta}
 use Rattle.educe_syntax.specs.Meta.TheVariants as said
@@ -22,7 +23,7 @@ use Rattle.educe_attrs_generated.specs.Adjusted.{into}
 -- tokens in the brackets of an attribute
 in_attribute : (inner : List Lexeme) → IsPrintable inner → IsPrintable (quoted (codes "# [") ++ (inner ++ quoted (codes "]")))
 unfolding quoted
-in_attribute inner h = printable-append (quoted (codes "#")) _ (template _ refl) (printable-brackets Square inner h)
+in_attribute inner h = printable-append (quoted (codes "#")) _ (template (codes "#") refl) (printable-brackets Square inner h)
 
 -- tokens in round brackets
 in_round : (inner : List Lexeme) → IsPrintable inner → IsPrintable (quoted (codes "(") ++ (inner ++ quoted (codes ")")))
@@ -41,7 +42,7 @@ unfolding quoted
 allowing_printable list h =
     let lints : Written = record { tokens = list; written = h } in
     let inner : IsPrintable (quoted (codes "allow") ++ (quoted (codes "(") ++ (written_lexemes lints ++ quoted (codes ")")))) =
-    printable-append (quoted (codes "allow")) _ (template _ refl) (in_round (written_lexemes lints) (printable-written lints)) in
+    printable-append (quoted (codes "allow")) _ (template (codes "allow") refl) (in_round (written_lexemes lints) (printable-written lints)) in
     subst (λ xs. IsPrintable (quoted (codes "# [ allow (") ++ xs)) (append_assoc (written_lexemes lints) (quoted (codes ")")) (quoted (codes "]"))) (in_attribute _ inner)
 
 -- what is there or not
@@ -92,4 +93,14 @@ impl_attributes_printable attributes = printable-append (quoted (codes "# [ auto
 pub into_printable : (value : Written) → IsPrintable (into (written_lexemes value))
 unfolding quoted
 into_printable value =
-    printable-append (quoted (codes ":: core :: convert :: Into :: into")) _ (template _ refl) (in_round (written_lexemes value) (printable-written value))
+    printable-append (quoted (codes ":: core :: convert :: Into :: into")) _ (template (codes ":: core :: convert :: Into :: into") refl) (in_round (written_lexemes value) (printable-written value))
+
+-- ---- lists that are printable
+
+-- their tokens may be copied
+pub fits : (tokens : List Token) (found : List Lexeme) → lexemes tokens ≡ found → IsPrintable found → IsTrue (may_be_copied (lexemes tokens))
+fits tokens found is h = subst (λ xs. IsTrue (may_be_copied xs)) (sym is) (may_be_copied-written found h.written)
+
+-- and are their copies
+pub kept : (tokens : List Token) (found : List Lexeme) → lexemes tokens ≡ found → IsPrintable found → copied (lexemes tokens) ≡ lexemes tokens
+kept tokens found is h = ap copied is ∙ copied-written found h.written ∙ sym is

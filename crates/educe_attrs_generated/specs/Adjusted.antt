@@ -1,5 +1,5 @@
 -- Default values as they are written (documentation of `educe`, Default).
-use Rattle.std.specs.Prelude.{◌≡◌, Bool, true, false, not, ◌&&◌, ◌||◌, if◌then◌else◌, List, [], ◌∷◌, ◌++◌, codes, Option}
+use Rattle.std.specs.Prelude.{◌≡◌, Bool, true, false, not, ◌&&◌, ◌||◌, if◌then◌else◌, List, [], ◌∷◌, ◌++◌, codes, Option, Some, None}
 use Rattle.educe_tokens.specs.LiteralKind.{LiteralKind}
 use Rattle.educe_tokens.specs.LiteralKind.TheVariants.{Int, Str, ByteStr, Char, Byte}
 use Rattle.educe_tokens.specs.TokenKind.{TokenKind}
@@ -12,7 +12,7 @@ use Rattle.educe_tokens.specs.WrittenLexemes.{written_lexemes}
 use Rattle.educe_syntax.specs.Expr.{Expr}
 use Rattle.educe_syntax.specs.ExprForm.TheVariants.{Other}
 use Rattle.educe_syntax.specs.Ty.{Ty}
-use Rattle.educe_attrs_generated.specs.Types.{is_some_and, referred, element, is_primitive, is_integer}
+use Rattle.educe_attrs_generated.specs.Types.{is_primitive, is_integer, is_text, is_bytes}
 use Rattle.educe_attrs_generated.specs.Words.{is_word}
 
 -- ---- one literal or truth value
@@ -31,21 +31,17 @@ is_literal Doc = false
 abbrev pub is_truth : Token → Bool
 is_truth t = is_word (codes "true") t || is_word (codes "false") t
 
--- an array of `u8`
-abbrev pub is_byte_array : Ty → Bool
-is_byte_array ty = is_some_and (is_primitive (codes "u8")) (element ty)
-
 -- the type is that of literals of this kind: for integers any integer type, for strings a reference to `str`, for byte
 -- strings a reference to an array of `u8`
-abbrev pub fits_literal : LiteralKind → Ty → Bool
+abbrev pub fits_literal : LiteralKind → List Token → Bool
 fits_literal Int ty = is_integer ty
-fits_literal Str ty = is_some_and (is_primitive (codes "str")) (referred ty)
-fits_literal ByteStr ty = is_some_and is_byte_array (referred ty)
+fits_literal Str ty = is_text ty
+fits_literal ByteStr ty = is_bytes ty
 fits_literal Char ty = is_primitive (codes "char") ty
 fits_literal Byte ty = is_primitive (codes "u8") ty
 
 -- the type is that of a literal, or of a truth value, which is an identifier
-abbrev pub fits_kind : TokenKind → Ty → Bool
+abbrev pub fits_kind : TokenKind → List Token → Bool
 fits_kind (Literal l) ty = fits_literal l ty
 fits_kind Ident ty = is_primitive (codes "bool") ty
 fits_kind Lifetime ty = false
@@ -56,7 +52,8 @@ fits_kind Doc ty = false
 
 -- there is a type, and it is that
 abbrev pub fits : TokenKind → Option Ty → Bool
-fits kind ty = is_some_and (fits_kind kind) ty
+fits kind None = false
+fits kind (Some ty) = fits_kind kind ty.written.tokens
 
 -- ---- default values
 
@@ -68,7 +65,7 @@ is_converted (t ∷ u ∷ ts) ty = false
 
 -- `:: core :: convert :: Into :: into ( value )`
 abbrev pub into : List Lexeme → List Lexeme
-into value = quoted (codes ":: core :: convert :: Into :: into (") ++ value ++ quoted (codes ")")
+into value = quoted (codes ":: core :: convert :: Into :: into (") ++ (value ++ quoted (codes ")"))
 
 -- the tokens of the value as it is written for a field of the type, if there is one
 abbrev pub adjusted : Written → Option Ty → List Lexeme

@@ -26,11 +26,11 @@ expects path = is_one_word (codes "expect") path.written.tokens
 
 -- the attribute of the path and what stands behind it
 abbrev pub attribute : MetaPath → List Lexeme → List Lexeme
-attribute path behind = quoted (codes "# [") ++ written_lexemes path.written ++ behind ++ quoted (codes "]")
+attribute path behind = quoted (codes "# [") ++ (written_lexemes path.written ++ (behind ++ quoted (codes "]")))
 
 -- `#[allow(..)]` of these lints
 abbrev pub allowing : List Lexeme → List Lexeme
-allowing lints = quoted (codes "# [ allow (") ++ copied lints ++ quoted (codes ") ]")
+allowing lints = quoted (codes "# [ allow (") ++ (copied lints ++ quoted (codes ") ]"))
 
 -- the same of what stands in a bracket pair, whose own brackets close in order
 abbrev pub allowed : List Token → List Lexeme

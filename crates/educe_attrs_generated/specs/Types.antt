@@ -1,104 +1,108 @@
--- Primitive types by their names (Rust Reference, Types; documentation of `core`, the module `primitive`).
-use Rattle.std.specs.Prelude.{ℕ, Bool, true, false, ◌&&◌, ◌||◌, if◌then◌else◌, List, [], ◌∷◌, codes, Option, Some, None}
-use Rattle.std.specs.List.{list_any}
+-- Primitive types by their tokens (Rust Reference, Types; documentation of `core`, the module `primitive`). A spelling decides
+-- what kind of token it is.
+use Rattle.std.specs.Prelude.{ℕ, Bool, true, false, ◌||◌, if◌then◌else◌, List, [], ◌∷◌, codes, Option, Some, None, is_some, option_and_then}
+use Rattle.std.specs.Option.{option_map}
 use Rattle.std.specs.Str.{bytes_eq}
-use Rattle.educe_syntax.specs.Ty.{Ty}
-use Rattle.educe_syntax.specs.TypeForm.{TypeForm}
-use Rattle.educe_syntax.specs.TypeForm as form
-use Rattle.educe_syntax.specs.Path.{Path, out-Path}
-use Rattle.educe_syntax.specs.Segment.{Segment, out-Segment}
-use Rattle.educe_syntax.specs.Args.{Args, Row_of-Ty}
-use Rattle.educe_syntax.specs.Args as args
+use Rattle.educe_tokens.specs.TokenKind.{TokenKind}
+use Rattle.educe_tokens.specs.TokenKind.TheVariants.{Ident, Lifetime, Literal, Punct, Start, Stop, Doc}
+use Rattle.educe_tokens.specs.declared.token.Token.{Token}
 
--- there is one, and it passes the test
-abbrev pub is_some_and : {A : Type 0} → (A → Bool) → Option A → Bool
-is_some_and test None = false
-is_some_and test (Some x) = test x
+-- ---- the beginnings of tokens
 
--- ---- paths
+-- what stands behind this token, if it is the first
+abbrev pub behind : List ℕ → List Token → Option (List Token)
+behind text [] = None
+behind text (t ∷ ts) = if bytes_eq text t.spelling then Some ts else None
 
--- there are no arguments
-abbrev pub has_no_args : Args → Bool
-has_no_args args.None = true
-has_no_args (args.Angle' s row) = false
-has_no_args (args.Round' s inputs output) = false
+-- what there is, or else the tokens themselves
+abbrev pub or_all : List Token → Option (List Token) → List Token
+or_all tokens None = tokens
+or_all tokens (Some rest) = rest
 
--- the segment is this name, without arguments
-abbrev pub is_plain_word : List ℕ → Segment → Bool
-is_plain_word word s = has_no_args (out-Segment s).args && bytes_eq word (out-Segment s).ident.text
+-- what stands behind `::`
+abbrev pub behind_colons : List Token → Option (List Token)
+behind_colons tokens = option_and_then (behind (codes ":")) (behind (codes ":") tokens)
 
--- the name of a segment without arguments
-abbrev pub plain_name : Segment → Option (List ℕ)
-plain_name s = if has_no_args (out-Segment s).args then Some (out-Segment s).ident.text else None
+-- the token is `core` or `std`
+abbrev pub is_root : Token → Bool
+is_root t = bytes_eq (codes "core") t.spelling || bytes_eq (codes "std") t.spelling
 
--- `core` or `std`
-abbrev pub is_root : Segment → Bool
-is_root s = is_plain_word (codes "core") s || is_plain_word (codes "std") s
+-- what stands behind one of these
+abbrev pub behind_root : List Token → Option (List Token)
+behind_root [] = None
+behind_root (t ∷ ts) = if is_root t then Some ts else None
 
--- the last name of `core::primitive::name` or `std::primitive::name`
-abbrev pub name_behind : Segment → Segment → Segment → Option (List ℕ)
-name_behind root middle name = if is_root root && is_plain_word (codes "primitive") middle then plain_name name else None
+-- what stands behind `core::` or `std::`, with a leading `::` or without
+abbrev pub behind_crate : List Token → Option (List Token)
+behind_crate tokens = option_and_then behind_colons (behind_root (or_all tokens (behind_colons tokens)))
 
--- the name by which segments, behind a leading `::` or not, may be a primitive type: the one word without `::`, or the word
--- in `primitive` of `core` or `std`
-abbrev pub name_at : Bool → List Segment → Option (List ℕ)
-name_at leading [] = None
-name_at leading (name ∷ []) = if leading then None else plain_name name
-name_at leading (root ∷ name ∷ []) = None
-name_at leading (root ∷ middle ∷ name ∷ []) = name_behind root middle name
-name_at leading (a ∷ b ∷ c ∷ d ∷ more) = None
+-- what stands behind `core::primitive::` or `std::primitive::`, with a leading `::` or without
+abbrev pub behind_module : List Token → Option (List Token)
+behind_module tokens = option_and_then behind_colons (option_and_then (behind (codes "primitive")) (behind_crate tokens))
 
--- that of a path
-abbrev pub name_of_path : Path → Option (List ℕ)
-name_of_path p = name_at (out-Path p).leading (out-Path p).segments
+-- the tokens of a type without this module
+abbrev pub without_module : List Token → List Token
+without_module tokens = or_all tokens (behind_module tokens)
 
--- ---- types
+-- ---- primitive types
 
--- the name by which a type may be a primitive one
-abbrev pub name_of_form : TypeForm → Option (List ℕ)
-name_of_form (form.Path' args.Args-Round-1-None' p) = name_of_path p
-name_of_form _ = None
+-- the tokens are one of this spelling
+abbrev pub is_alone : List ℕ → List Token → Bool
+is_alone text [] = false
+is_alone text (t ∷ []) = bytes_eq text t.spelling
+is_alone text (t ∷ u ∷ ts) = false
 
-abbrev pub name_of : Ty → Option (List ℕ)
-name_of ty = name_of_form ty.form
+-- the type is the primitive one of this name: by the word, or as one of the module
+abbrev pub is_primitive : List ℕ → List Token → Bool
+is_primitive name ty = is_alone name (without_module ty)
 
--- the first of the types
-abbrev pub first_type : {n : _} → Row_of-Ty n → Option Ty
-first_type args.end_of-Ty = None
-first_type (args.more_of-Ty f w rest) = Some (record { form = f; written = w })
+-- the type is an integer type
+abbrev pub is_integer : List Token → Bool
+is_integer ty =
+    is_primitive (codes "u8") ty || is_primitive (codes "u16") ty || is_primitive (codes "u32") ty || is_primitive (codes "u64") ty
+    || is_primitive (codes "u128") ty || is_primitive (codes "usize") ty || is_primitive (codes "i8") ty || is_primitive (codes "i16") ty
+    || is_primitive (codes "i32") ty || is_primitive (codes "i64") ty || is_primitive (codes "i128") ty || is_primitive (codes "isize") ty
 
--- the type behind a reference, whatever its lifetime, with `mut` or without
-abbrev pub referred_in : TypeForm → Option Ty
-referred_in (form.Reference' mutable s ty) = first_type ty
-referred_in _ = None
+-- ---- references
 
-abbrev pub referred : Ty → Option Ty
-referred ty = referred_in ty.form
+abbrev pub is_lifetime : TokenKind → Bool
+is_lifetime Lifetime = true
+is_lifetime Ident = false
+is_lifetime (Literal l) = false
+is_lifetime (Punct c joint) = false
+is_lifetime (Start b) = false
+is_lifetime (Stop b) = false
+is_lifetime Doc = false
 
--- the type of the elements of an array
-abbrev pub element_in : TypeForm → Option Ty
-element_in (form.Array' s ty length) = first_type ty
-element_in _ = None
+-- the tokens without a lifetime in front
+abbrev pub without_lifetime : List Token → List Token
+without_lifetime [] = []
+without_lifetime (t ∷ ts) = if is_lifetime t.kind then ts else t ∷ ts
 
-abbrev pub element : Ty → Option Ty
-element ty = element_in ty.form
+-- the tokens without `mut` in front
+abbrev pub without_mut : List Token → List Token
+without_mut tokens = or_all tokens (behind (codes "mut") tokens)
 
--- ---- names
+-- the type behind a reference, with a lifetime and `mut` or without
+abbrev pub referred : List Token → Option (List Token)
+referred ty = option_map (λ inner. without_mut (without_lifetime inner)) (behind (codes "&") ty)
 
--- the type is the primitive one of this name
-abbrev pub is_primitive : List ℕ → Ty → Bool
-is_primitive word ty = is_some_and (λ name. bytes_eq word name) (name_of ty)
+-- the type is a reference to `str`
+abbrev pub is_text : List Token → Bool
+is_text ty = elim (referred ty) [ None ↦ false | Some inner ↦ is_primitive (codes "str") inner ]
 
--- the integer types
-abbrev pub integers : List (List ℕ)
-integers =
-    codes "u8" ∷ codes "u16" ∷ codes "u32" ∷ codes "u64" ∷ codes "u128" ∷ codes "usize"
-    ∷ codes "i8" ∷ codes "i16" ∷ codes "i32" ∷ codes "i64" ∷ codes "i128" ∷ codes "isize" ∷ []
+-- the type of the elements of an array or a slice, and what stands behind it
+abbrev pub elements : List Token → Option (List Token)
+elements ty = option_map without_module (behind (codes "[") ty)
 
--- the name is that of an integer type
-abbrev pub names_integer : List ℕ → Bool
-names_integer name = list_any (λ word. bytes_eq word name) integers
+-- what stands behind `u8` and `;`
+abbrev pub behind_bytes : List Token → Option (List Token)
+behind_bytes tokens = option_and_then (behind (codes ";")) (behind (codes "u8") tokens)
 
--- the type is one of them
-abbrev pub is_integer : Ty → Bool
-is_integer ty = is_some_and names_integer (name_of ty)
+-- the type is an array of `u8`: its elements and `;` begin it
+abbrev pub is_byte_array : List Token → Bool
+is_byte_array ty = is_some (option_and_then behind_bytes (elements ty))
+
+-- the type is a reference to one
+abbrev pub is_bytes : List Token → Bool
+is_bytes ty = elim (referred ty) [ None ↦ false | Some inner ↦ is_byte_array inner ]

@@ -5,7 +5,7 @@ ghost use Rattle.educe_tokens.specs.Appends.{Appends};
 ghost use Rattle.educe_tokens.specs.WrittenLexemes.{written_lexemes};
 ghost use Rattle.educe_attrs_generated.specs.Adjusted as spec;
 
-use crate::primitive::{element, is_integer, is_primitive, referred};
+use crate::primitive::{is_bytes, is_integer, is_primitive, is_text};
 use crate::word::is_word;
 use educe_syntax::{Expr, ExprForm, Ty};
 use educe_tokens::{
@@ -28,41 +28,9 @@ fn is_truth(token: &Token) -> bool
     is_word(token, "true") || is_word(token, "false")
 }
 
-/// Whether the type is a reference to `str`.
-#[tactic(auto, using(crate::proofs::Words::chars_str))]
-fn is_text(ty: &Ty) -> bool
-    ensures { result ≡ spec.fits_literal LiteralKind.Str ty.now }
-{
-    match referred(ty) {
-        Some(inner) => is_primitive(inner, "str"),
-        None => false,
-    }
-}
-
-/// Whether the type is an array of `u8`.
-#[tactic(auto, using(crate::proofs::Words::chars_u8))]
-fn is_byte_array(ty: &Ty) -> bool
-    ensures { result ≡ spec.is_byte_array ty.now }
-{
-    match element(ty) {
-        Some(inner) => is_primitive(inner, "u8"),
-        None => false,
-    }
-}
-
-/// Whether the type is a reference to an array of `u8`.
-fn is_bytes(ty: &Ty) -> bool
-    ensures { result ≡ spec.fits_literal LiteralKind.ByteStr ty.now }
-{
-    match referred(ty) {
-        Some(inner) => is_byte_array(inner),
-        None => false,
-    }
-}
-
 /// Whether the type is that of literals of this kind.
 #[tactic(auto, using(crate::proofs::Words::chars_char, crate::proofs::Words::chars_u8))]
-fn fits_literal(kind: LiteralKind, ty: &Ty) -> bool
+fn fits_literal(kind: LiteralKind, ty: &[Token]) -> bool
     ensures { result ≡ spec.fits_literal kind ty.now }
 {
     match kind {
@@ -76,7 +44,7 @@ fn fits_literal(kind: LiteralKind, ty: &Ty) -> bool
 
 /// Whether the type is that of a literal, or of a truth value, which is an identifier.
 #[tactic(auto, using(crate::proofs::Words::chars_bool))]
-fn fits_kind(kind: TokenKind, ty: &Ty) -> bool
+fn fits_kind(kind: TokenKind, ty: &[Token]) -> bool
     ensures { result ≡ spec.fits_kind kind ty.now }
 {
     match kind {
@@ -91,7 +59,7 @@ fn fits(kind: TokenKind, ty: Option<&Ty>) -> bool
     ensures { result ≡ spec.fits kind (option_copied ty.entry) }
 {
     match ty {
-        Some(ty) => fits_kind(kind, ty),
+        Some(ty) => fits_kind(kind, ty.written.tokens().as_slice()),
         None => false,
     }
 }

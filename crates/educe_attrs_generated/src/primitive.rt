@@ -1,132 +1,191 @@
-//! Primitive types by their names (Rust Reference, Types; documentation of `core`, the module
+//! Primitive types by their tokens (Rust Reference, Types; documentation of `core`, the module
 //! `primitive`).
 ghost use Rattle.std.specs.Prelude.{◌≡◌, chars};
 ghost use Rattle.std.specs.Option.{option_copied};
 ghost use Rattle.educe_attrs_generated.specs.Types as spec;
 
-use educe_syntax::{Args, Path, Segment, Ty, TypeForm, is_spelled};
-use educe_tokens::Spelling;
+use educe_syntax::is_spelled;
+use educe_tokens::{Token, TokenKind};
 
-/// The integer types.
-const INTEGERS: [&str; 12] = [
-    "u8", "u16", "u32", "u64", "u128", "usize", "i8", "i16", "i32", "i64", "i128", "isize",
-];
-
-/// Whether there are no arguments.
-#[tactic(auto, using(crate::proofs::Forms::form_laws))]
-fn has_no_args(args: &Args) -> bool
-    ensures { result ≡ spec.has_no_args args.now }
+/// What stands behind this token, if it is the first.
+fn behind<'a>(tokens: &'a [Token], text: &str) -> Option<&'a [Token]>
+    ensures { option_copied result ≡ spec.behind (chars text.now) tokens.now }
 {
-    matches!(args, Args::None)
-}
-
-/// Whether the segment is this name, without arguments.
-fn is_plain_word(segment: &Segment, word: &str) -> bool
-    ensures { result ≡ spec.is_plain_word (chars word.now) segment.now }
-{
-    has_no_args(&segment.args) && is_spelled(&segment.ident.text, word)
-}
-
-/// The name of a segment without arguments.
-fn plain_name(segment: &Segment) -> Option<&Spelling>
-    ensures { option_copied result ≡ spec.plain_name segment.now }
-{
-    if has_no_args(&segment.args) {
-        Some(&segment.ident.text)
-    } else {
-        None
+    match tokens {
+        [first, rest @ ..] if is_spelled(&first.spelling, text) => Some(rest),
+        _ => None,
     }
 }
 
-/// Whether the segment is `core` or `std`.
+/// What stands behind `::`.
+#[tactic(auto, using(crate::proofs::Words::chars_colon))]
+fn behind_colons(tokens: &[Token]) -> Option<&[Token]>
+    ensures { option_copied result ≡ spec.behind_colons tokens.now }
+{
+    behind(behind(tokens, ":")?, ":")
+}
+
+/// Whether the token is `core` or `std`.
 #[tactic(auto, using(crate::proofs::Words::chars_core, crate::proofs::Words::chars_std))]
-fn is_root(segment: &Segment) -> bool
-    ensures { result ≡ spec.is_root segment.now }
+fn is_root(token: &Token) -> bool
+    ensures { result ≡ spec.is_root token.now }
 {
-    is_plain_word(segment, "core") || is_plain_word(segment, "std")
+    is_spelled(&token.spelling, "core") || is_spelled(&token.spelling, "std")
 }
 
-/// The name in `primitive` of `core` or `std`.
+/// What stands behind `core` or `std`.
+fn behind_root(tokens: &[Token]) -> Option<&[Token]>
+    ensures { option_copied result ≡ spec.behind_root tokens.now }
+{
+    match tokens {
+        [first, rest @ ..] if is_root(first) => Some(rest),
+        _ => None,
+    }
+}
+
+/// The tokens without a leading `::`.
+fn without_colons(tokens: &[Token]) -> &[Token]
+    ensures { result.now ≡ spec.or_all tokens.now (spec.behind_colons tokens.now) }
+{
+    match behind_colons(tokens) {
+        Some(rest) => rest,
+        None => tokens,
+    }
+}
+
+/// What stands behind `core::` or `std::`, with a leading `::` or without.
+fn behind_crate(tokens: &[Token]) -> Option<&[Token]>
+    ensures { option_copied result ≡ spec.behind_crate tokens.now }
+{
+    behind_colons(behind_root(without_colons(tokens))?)
+}
+
+/// What stands behind `core::primitive::` or `std::primitive::`, with a leading `::` or without.
 #[tactic(auto, using(crate::proofs::Words::chars_primitive))]
-fn name_behind<'a>(root: &Segment, middle: &Segment, name: &'a Segment) -> Option<&'a Spelling>
-    ensures { option_copied result ≡ spec.name_behind root.now middle.now name.now }
+fn behind_module(tokens: &[Token]) -> Option<&[Token]>
+    ensures { option_copied result ≡ spec.behind_module tokens.now }
 {
-    if is_root(root) && is_plain_word(middle, "primitive") {
-        plain_name(name)
-    } else {
-        None
+    behind_colons(behind(behind_crate(tokens)?, "primitive")?)
+}
+
+/// The tokens of a type without this module.
+fn without_module(tokens: &[Token]) -> &[Token]
+    ensures { result.now ≡ spec.without_module tokens.now }
+{
+    match behind_module(tokens) {
+        Some(rest) => rest,
+        None => tokens,
     }
 }
 
-/// The name by which a path may be a primitive type.
-fn name_of_path(path: &Path) -> Option<&Spelling>
-    ensures { option_copied result ≡ spec.name_of_path path.now }
+/// Whether the type is the primitive one of this name: by the word, or as one of the module
+/// `primitive` of `core` or `std`.
+pub fn is_primitive(ty: &[Token], name: &str) -> bool
+    ensures { result ≡ spec.is_primitive (chars name.now) ty.now }
 {
-    match path.segments.as_slice() {
-        [name] if !path.leading => plain_name(name),
-        [root, middle, name] => name_behind(root, middle, name),
-        _ => None,
+    match without_module(ty) {
+        [word] => is_spelled(&word.spelling, name),
+        _ => false,
     }
 }
 
-/// The name by which a type may be a primitive one.
-#[tactic(auto, using(crate::proofs::Forms::form_laws))]
-fn name_of(ty: &Ty) -> Option<&Spelling>
-    ensures { option_copied result ≡ spec.name_of ty.now }
+/// Whether the type is an integer type.
+#[tactic(auto, using(crate::proofs::Words::integer_names))]
+pub fn is_integer(ty: &[Token]) -> bool
+    ensures { result ≡ spec.is_integer ty.now }
 {
-    match &ty.form {
-        TypeForm::Path(None, path) => name_of_path(path),
-        _ => None,
+    is_primitive(ty, "u8")
+        || is_primitive(ty, "u16")
+        || is_primitive(ty, "u32")
+        || is_primitive(ty, "u64")
+        || is_primitive(ty, "u128")
+        || is_primitive(ty, "usize")
+        || is_primitive(ty, "i8")
+        || is_primitive(ty, "i16")
+        || is_primitive(ty, "i32")
+        || is_primitive(ty, "i64")
+        || is_primitive(ty, "i128")
+        || is_primitive(ty, "isize")
+}
+
+/// The tokens without a lifetime in front.
+fn without_lifetime(tokens: &[Token]) -> &[Token]
+    ensures { result.now ≡ spec.without_lifetime tokens.now }
+{
+    match tokens {
+        [first, rest @ ..] if matches!(first.kind, TokenKind::Lifetime) => rest,
+        _ => tokens,
     }
 }
 
-/// The type behind a reference.
-#[tactic(auto, using(crate::proofs::Forms::form_laws))]
-pub fn referred(ty: &Ty) -> Option<&Ty>
+/// The tokens without `mut` in front.
+#[tactic(auto, using(crate::proofs::Words::chars_mut))]
+fn without_mut(tokens: &[Token]) -> &[Token]
+    ensures { result.now ≡ spec.without_mut tokens.now }
+{
+    match behind(tokens, "mut") {
+        Some(rest) => rest,
+        None => tokens,
+    }
+}
+
+/// The type behind a reference, with a lifetime and `mut` or without.
+#[tactic(auto, using(crate::proofs::Words::chars_ampersand))]
+fn referred(ty: &[Token]) -> Option<&[Token]>
     ensures { option_copied result ≡ spec.referred ty.now }
 {
-    match &ty.form {
-        TypeForm::Reference(_, ty) => Some(ty.get()),
-        _ => None,
+    match behind(ty, "&") {
+        Some(inner) => Some(without_mut(without_lifetime(inner))),
+        None => None,
     }
 }
 
-/// The type of the elements of an array.
-#[tactic(auto, using(crate::proofs::Forms::form_laws))]
-pub fn element(ty: &Ty) -> Option<&Ty>
-    ensures { option_copied result ≡ spec.element ty.now }
+/// Whether the type is a reference to `str`.
+#[tactic(auto, using(crate::proofs::Words::chars_str))]
+pub fn is_text(ty: &[Token]) -> bool
+    ensures { result ≡ spec.is_text ty.now }
 {
-    match &ty.form {
-        TypeForm::Array(ty, _) => Some(ty.get()),
-        _ => None,
-    }
-}
-
-/// Whether the type is the primitive one of this name: the word, or that word in the module
-/// `primitive` of `core` or `std`.
-pub fn is_primitive(ty: &Ty, word: &str) -> bool
-    ensures { result ≡ spec.is_primitive (chars word.now) ty.now }
-{
-    match name_of(ty) {
-        Some(name) => is_spelled(name, word),
+    match referred(ty) {
+        Some(inner) => is_primitive(inner, "str"),
         None => false,
     }
 }
 
-/// Whether the name is that of an integer type.
-#[tactic(auto, using(crate::proofs::Integers::integers_table))]
-fn names_integer(name: &Spelling) -> bool
-    ensures { result ≡ spec.names_integer name.now }
+/// The type of the elements of an array or a slice, and what stands behind it.
+#[tactic(auto, using(crate::proofs::Words::chars_square))]
+fn elements(ty: &[Token]) -> Option<&[Token]>
+    ensures { option_copied result ≡ spec.elements ty.now }
 {
-    INTEGERS.iter().any(|word| is_spelled(name, word))
+    match behind(ty, "[") {
+        Some(inner) => Some(without_module(inner)),
+        None => None,
+    }
 }
 
-/// Whether the type is an integer type.
-pub fn is_integer(ty: &Ty) -> bool
-    ensures { result ≡ spec.is_integer ty.now }
+/// What stands behind `u8` and `;`.
+#[tactic(auto, using(crate::proofs::Words::chars_u8, crate::proofs::Words::chars_semicolon))]
+fn behind_bytes(tokens: &[Token]) -> Option<&[Token]>
+    ensures { option_copied result ≡ spec.behind_bytes tokens.now }
 {
-    match name_of(ty) {
-        Some(name) => names_integer(name),
+    behind(behind(tokens, "u8")?, ";")
+}
+
+/// Whether the type is an array of `u8`.
+fn is_byte_array(ty: &[Token]) -> bool
+    ensures { result ≡ spec.is_byte_array ty.now }
+{
+    match elements(ty) {
+        Some(inner) => behind_bytes(inner).is_some(),
+        None => false,
+    }
+}
+
+/// Whether the type is a reference to an array of `u8`.
+pub fn is_bytes(ty: &[Token]) -> bool
+    ensures { result ≡ spec.is_bytes ty.now }
+{
+    match referred(ty) {
+        Some(inner) => is_byte_array(inner),
         None => false,
     }
 }
