@@ -23,7 +23,7 @@ pub use built_in::built_in_path;
 pub use callee::callee_of;
 pub use evaluator::{Outcome, Scope, eval};
 pub use form::{Form, Forms, Known};
-pub use keys::key_word;
+pub use keys::{index_word, key_word};
 pub use shared::Shared;
 pub use speller::spell;
 pub use value::{FieldValue, FieldValues, Value};

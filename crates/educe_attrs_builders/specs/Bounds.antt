@@ -1,0 +1,29 @@
+-- What is said of a type of which only `bound` may be said (documentation of `educe`, Generic parameters bound to the trait).
+use Rattle.std.specs.Prelude.{◌≡◌, Bool, true, false, Option, Some, None}
+use Rattle.educe_bound.specs.declared.bound.Bound.{Bound}
+use Rattle.educe_bound.specs.declared.bound.Bound.TheVariants.{Disabled, Auto, All, Custom}
+use Rattle.educe_attrs_values.specs.declared.choices.WherePredicatesOrBool.{WherePredicatesOrBool}
+use Rattle.educe_attrs_values.specs.declared.choices.WherePredicatesOrBool.TheVariants as said
+use Rattle.educe_attrs_rows.specs.declared.row.Row.{Row}
+use Rattle.educe_attrs_rows.specs.declared.row.TheConstants.Row.{EMPTY}
+use Rattle.educe_attrs_places.specs.declared.place.FieldSettings.{FieldSettings}
+use Rattle.educe_attrs_builders.specs.declared.bound_only.TypeAttribute.{TypeAttribute}
+
+-- the trait alone, and `bound`
+abbrev pub bound_row : Bool → Bool → Row
+bound_row flag bound = record EMPTY { flag = flag; bound = bound }
+
+-- the bound that is said: `true` and nothing mean those that the trait needs
+abbrev pub bound_of : Option WherePredicatesOrBool → Bound
+bound_of None = Auto
+bound_of (Some (said.Bool true)) = Auto
+bound_of (Some (said.Bool false)) = Disabled
+bound_of (Some said.All) = All
+bound_of (Some (said.WherePredicates predicates)) = Custom predicates
+
+-- the attribute of a type of which only the bound is said
+abbrev pub bound_attribute : FieldSettings → TypeAttribute
+bound_attribute settings = record { bound = bound_of settings.values.bound }
+
+abbrev pub IsBound : FieldSettings → TypeAttribute → Type 0
+IsBound settings attribute = attribute ≡ bound_attribute settings
