@@ -42,7 +42,8 @@ pub(crate) fn bound_of(said: Option<WherePredicatesOrBool>) -> Bound
 pub(crate) fn bound_attribute(settings: FieldSettings) -> TypeAttribute
     ensures { result ≡ spec.bound_attribute settings }
 {
+    let values = settings.values;
     TypeAttribute {
-        bound: bound_of(settings.values.bound),
+        bound: bound_of(values.bound),
     }
 }

@@ -2,7 +2,7 @@
 ghost use Rattle.std.specs.Prelude.{◌≡◌, IfOk, IfErr};
 ghost use Rattle.educe_bound.specs.declared.traits.Trait.{Trait};
 ghost use Rattle.educe_attrs_rows.specs.declared.row.Row.{Row};
-ghost use Rattle.educe_attrs_rows.specs.Metas.{IsNamed};
+ghost use Rattle.educe_attrs_values.specs.Metas.{IsNamed};
 ghost use Rattle.educe_attrs_places.specs.declared.place.FieldSettings.{FieldSettings};
 ghost use Rattle.educe_attrs_places.specs.Causes.{NoCause};
 ghost use Rattle.educe_attrs_places.specs.Places as places;
@@ -30,7 +30,7 @@ pub trait AttributeBuilder {
     ghost row_of: { Self → Row };
 
     // the attribute is of these settings
-    ghost IsOf: { Self → FieldSettings → Attribute → Type 0 };
+    ghost IsOf: { Self → FieldSettings → Self.Attribute → Type 0 };
 
     /// The forms that the place allows.
     fn row(&self) -> Row
@@ -46,6 +46,7 @@ pub trait AttributeBuilder {
 
     /// What a meta of the trait says of the place. It is refused exactly where it has a cause, or
     /// memory fails.
+    #[tactic(auto, using(crate::proofs::Refused::memory_of_meta))]
     final fn build_from_meta(
         &self,
         alloc: Global,
@@ -74,6 +75,7 @@ pub trait AttributeBuilder {
 pub trait TypeBuilder: AttributeBuilder {
     /// What the attributes of a type or a variant say of the trait. They are refused exactly where
     /// they have a cause, or memory fails.
+    #[tactic(auto, using(crate::proofs::Refused::memory_of_place, crate::proofs::Refused::stopped))]
     final fn build_from_attributes(
         &self,
         alloc: Global,
@@ -108,6 +110,7 @@ pub trait FieldBuilder: AttributeBuilder {
     /// What the attributes of a field say of the trait; of an order that has none of its own, those
     /// of the other one, where both are listed. They are refused exactly where they have a cause, or
     /// memory fails.
+    #[tactic(auto, using(crate::proofs::Refused::memory_of_place, crate::proofs::Refused::stopped))]
     final fn build_from_attributes(
         &self,
         alloc: Global,

@@ -1,5 +1,5 @@
 //! The settings of `Clone`.
-ghost use Rattle.educe_attrs_rows.specs.Metas.{IsNamed};
+ghost use Rattle.educe_attrs_values.specs.Metas.{IsNamed};
 ghost use Rattle.educe_attrs_builders.specs.Building.{Reads};
 ghost use Rattle.educe_attrs_builders.specs.Bounds.{bound_row, IsBound};
 ghost use Rattle.educe_attrs_builders.specs.Cloned as fields;
@@ -16,7 +16,7 @@ use std::alloc::{AllocError, Global};
 pub use crate::bound_only::TypeAttribute;
 
 /// The forms of the attribute that a type allows.
-#[derive(Clone, Copy, Debug, PartialEq, Eq)]
+#[derive(Clone, Copy)]
 pub struct TypeAttributeBuilder {
     pub enable_flag: bool,
     pub enable_bound: bool,
@@ -72,7 +72,7 @@ pub struct FieldAttribute {
 }
 
 /// The forms of the attribute that a field allows.
-#[derive(Clone, Copy, Debug, PartialEq, Eq)]
+#[derive(Clone, Copy)]
 pub struct FieldAttributeBuilder {
     pub enable_method: bool,
 }
@@ -103,8 +103,9 @@ impl AttributeBuilder for FieldAttributeBuilder {
         _alloc: Global,
         settings: FieldSettings,
     ) -> Result<FieldAttribute, AllocError> {
+        let values = settings.values;
         Ok(FieldAttribute {
-            method: settings.values.method,
+            method: values.method,
         })
     }
 }

@@ -35,9 +35,10 @@ pub(crate) fn compared_row(enable_ignore: bool, enable_method: bool, enable_rank
 pub(crate) fn compared_attribute(settings: FieldSettings) -> FieldAttribute
     ensures { result ≡ spec.compared_attribute settings }
 {
+    let values = settings.values;
     FieldAttribute {
-        ignore: settings.values.ignore.unwrap_or(false),
-        method: settings.values.method,
+        ignore: values.ignore.unwrap_or(false),
+        method: values.method,
     }
 }
 

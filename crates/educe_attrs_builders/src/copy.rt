@@ -1,10 +1,12 @@
 //! The settings of `Copy`.
-ghost use Rattle.educe_attrs_rows.specs.Metas.{IsNamed};
+ghost use Rattle.std.specs.Prelude.{MatchResult};
+ghost use Rattle.educe_attrs_values.specs.Metas.{IsNamed};
 ghost use Rattle.educe_attrs_builders.specs.Building.{Reads};
 ghost use Rattle.educe_attrs_builders.specs.Bounds.{bound_row, IsBound};
 ghost use Rattle.educe_attrs_builders.specs.NoField as fields;
 
 use crate::bound_only::{bound_attribute, bound_row};
+use crate::no_field::refused;
 use crate::builder::{AttributeBuilder, FieldBuilder, TypeBuilder};
 use educe_attrs_places::FieldSettings;
 use educe_attrs_rows::Row;
@@ -17,7 +19,7 @@ pub use crate::bound_only::TypeAttribute;
 pub use crate::no_field::FieldAttribute;
 
 /// The forms of the attribute that a type allows.
-#[derive(Clone, Copy, Debug, PartialEq, Eq)]
+#[derive(Clone, Copy)]
 pub struct TypeAttributeBuilder {
     pub enable_flag: bool,
     pub enable_bound: bool,
@@ -67,7 +69,7 @@ impl TypeAttributeBuilder {
 }
 
 /// The forms of the attribute that a field allows.
-#[derive(Clone, Copy, Debug, PartialEq, Eq)]
+#[derive(Clone, Copy)]
 pub struct FieldAttributeBuilder;
 
 impl AttributeBuilder for FieldAttributeBuilder {
@@ -100,15 +102,16 @@ impl AttributeBuilder for FieldAttributeBuilder {
 impl FieldBuilder for FieldAttributeBuilder {}
 
 impl FieldAttributeBuilder {
-    /// What a `Copy` attribute says of a field, as `build_from_meta`.
+    /// Refuses a `Copy` attribute of a field, whatever it says.
     pub fn build_from_copy_meta(
         &self,
         alloc: Global,
         meta: &Meta,
     ) -> Result<FieldAttribute, EduceError>
         requires { IsNamed meta.now }
-        ensures { Reads fields.no_row fields.IsOfNothing meta.now result }
+        ensures reads { Reads fields.no_row fields.IsOfNothing meta.now result }
+        ensures refused { MatchResult result (λ _. ⊥) (fields.IsOutOfPlace meta.now) }
     {
-        self.build_from_meta(alloc, meta)
+        refused(alloc, meta)
     }
 }

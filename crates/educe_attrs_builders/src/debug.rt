@@ -1,7 +1,7 @@
 //! The settings of `Debug`.
 ghost use Rattle.std.specs.Prelude.{◌≡◌, Option, IfOk};
 ghost use Rattle.educe_attrs_values.specs.declared.choices.IdentOrBool.{IdentOrBool};
-ghost use Rattle.educe_attrs_rows.specs.Metas.{IsNamed};
+ghost use Rattle.educe_attrs_values.specs.Metas.{IsNamed};
 ghost use Rattle.educe_attrs_builders.specs.Building.{Reads};
 ghost use Rattle.educe_attrs_builders.specs.Debug as spec;
 

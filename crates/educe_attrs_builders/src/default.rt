@@ -4,7 +4,7 @@ ghost use Rattle.std.specs.Option.{option_copied};
 ghost use Rattle.educe_bound.specs.declared.traits.Trait.TheVariants as derived;
 ghost use Rattle.educe_tokens.specs.Refusals.{placeless};
 ghost use Rattle.educe_tokens.specs.declared.error.Kind.TheVariants.{Alloc};
-ghost use Rattle.educe_attrs_rows.specs.Metas.{IsNamed};
+ghost use Rattle.educe_attrs_values.specs.Metas.{IsNamed};
 ghost use Rattle.educe_attrs_places.specs.Causes.{NoCause};
 ghost use Rattle.educe_attrs_places.specs.Places as places;
 ghost use Rattle.educe_attrs_builders.specs.Building.{Reads, OfError};
@@ -36,7 +36,7 @@ pub struct TypeAttribute {
 }
 
 /// The forms of the attribute that a type or a variant allows.
-#[derive(Clone, Copy, Debug, PartialEq, Eq)]
+#[derive(Clone, Copy)]
 pub struct TypeAttributeBuilder {
     pub enable_flag: bool,
     pub enable_new: bool,
@@ -127,7 +127,7 @@ pub struct FieldAttribute {
 }
 
 /// The forms of the attribute that a field allows.
-#[derive(Clone, Copy, Debug, PartialEq, Eq)]
+#[derive(Clone, Copy)]
 pub struct FieldAttributeBuilder {
     pub enable_flag: bool,
     pub enable_expression: bool,
@@ -167,6 +167,7 @@ impl FieldAttributeBuilder {
 
     /// What a `Default` attribute says of a field of the type. It is refused exactly where it has a
     /// cause, or memory fails.
+    #[tactic(auto, using(crate::proofs::Refused::memory_of_meta))]
     pub fn build_from_default_meta(
         &self,
         alloc: Global,
@@ -184,6 +185,7 @@ impl FieldAttributeBuilder {
 
     /// What the attributes of a field of the type say of `Default`. They are refused exactly where
     /// they have a cause, or memory fails.
+    #[tactic(auto, using(crate::proofs::Refused::memory_of_place, crate::proofs::Refused::stopped))]
     pub fn build_from_attributes(
         &self,
         alloc: Global,

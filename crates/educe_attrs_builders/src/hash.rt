@@ -1,5 +1,6 @@
 //! The settings of `Hash`.
-ghost use Rattle.educe_attrs_rows.specs.Metas.{IsNamed};
+ghost use Rattle.educe_attrs_values.specs.Metas.{IsNamed};
+ghost use Rattle.std.specs.Prelude.{false};
 ghost use Rattle.educe_attrs_builders.specs.Building.{Reads};
 ghost use Rattle.educe_attrs_builders.specs.Bounds.{bound_row, IsBound};
 ghost use Rattle.educe_attrs_builders.specs.Compared as fields;
@@ -18,7 +19,7 @@ pub use crate::bound_only::TypeAttribute;
 pub use crate::compared::FieldAttribute;
 
 /// The forms of the attribute that a type allows.
-#[derive(Clone, Copy, Debug, PartialEq, Eq)]
+#[derive(Clone, Copy)]
 pub struct TypeAttributeBuilder {
     pub enable_flag: bool,
     pub enable_bound: bool,
@@ -68,7 +69,7 @@ impl TypeAttributeBuilder {
 }
 
 /// The forms of the attribute that a field allows.
-#[derive(Clone, Copy, Debug, PartialEq, Eq)]
+#[derive(Clone, Copy)]
 pub struct FieldAttributeBuilder {
     pub enable_ignore: bool,
     pub enable_method: bool,
@@ -76,6 +77,7 @@ pub struct FieldAttributeBuilder {
 
 impl AttributeBuilder for FieldAttributeBuilder {
     ghost use Rattle.educe_bound.specs.declared.traits.Trait.TheVariants.{Hash};
+    ghost use Rattle.std.specs.Prelude.{false};
     ghost use Rattle.educe_attrs_builders.specs.Compared.{compared_row, IsCompared};
 
     type Attribute = FieldAttribute;

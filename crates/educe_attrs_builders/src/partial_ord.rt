@@ -1,5 +1,5 @@
 //! The settings of `PartialOrd`.
-ghost use Rattle.educe_attrs_rows.specs.Metas.{IsNamed};
+ghost use Rattle.educe_attrs_values.specs.Metas.{IsNamed};
 ghost use Rattle.educe_attrs_builders.specs.Building.{Reads};
 ghost use Rattle.educe_attrs_builders.specs.Bounds.{bound_row, IsBound};
 ghost use Rattle.educe_attrs_builders.specs.Compared.{compared_row};
@@ -18,7 +18,7 @@ use std::alloc::{AllocError, Global};
 pub use crate::bound_only::TypeAttribute;
 
 /// The forms of the attribute that a type allows.
-#[derive(Clone, Copy, Debug, PartialEq, Eq)]
+#[derive(Clone, Copy)]
 pub struct TypeAttributeBuilder {
     pub enable_flag: bool,
     pub enable_bound: bool,
@@ -80,7 +80,7 @@ pub struct FieldAttribute {
 }
 
 /// The forms of the attribute that a field allows.
-#[derive(Clone, Copy, Debug, PartialEq, Eq)]
+#[derive(Clone, Copy)]
 pub struct FieldAttributeBuilder {
     pub enable_ignore: bool,
     pub enable_method: bool,
@@ -113,12 +113,14 @@ impl AttributeBuilder for FieldAttributeBuilder {
         _alloc: Global,
         settings: FieldSettings,
     ) -> Result<FieldAttribute, AllocError> {
+        let method_returns_ordering = settings.method_returns_ordering;
+        let values = settings.values;
         Ok(FieldAttribute {
-            ignore: settings.values.ignore.unwrap_or(false),
-            method: settings.values.method,
-            method_returns_ordering: settings.method_returns_ordering,
-            rank: number_of(settings.values.rank, self.rank),
-            rank_span: place_of(settings.values.rank),
+            ignore: values.ignore.unwrap_or(false),
+            method: values.method,
+            method_returns_ordering,
+            rank: number_of(values.rank, self.rank),
+            rank_span: place_of(values.rank),
         })
     }
 }

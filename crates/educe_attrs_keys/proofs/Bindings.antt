@@ -16,6 +16,7 @@ use Rattle.unicode_ident.proofs.IdentLemmas.{is_xid_continue-ascii, is_xid_start
 use Rattle.educe_tokens.specs.Chars.{is_word_start}
 use Rattle.educe_tokens.specs.TokenKind.TheVariants.{Ident}
 use Rattle.educe_tokens.specs.Pieces.{spells}
+use Rattle.educe_tokens.specs.Spells.{IsWord}
 use Rattle.educe_syntax.specs.Keywords.{unraw}
 
 -- XID_Start or `_`, then XID_Continue
@@ -62,25 +63,9 @@ digits_continue (c ∷ cs) h = and_from _ _ (digit_continues c h.0) (digits_cont
 pub decimal_continues : (n : ℕ) → n < 2 ^ 64 → Continues (decimal n)
 decimal_continues n small = digits_continue (decimal n) (decimal_is_IsNumeral n small).0.1
 
--- behind `r#` stands less than the text
-shorter : (c d : ℕ) (cs : List ℕ) → ((c == 114) && (d == 35)) ≡ true → unraw (c ∷ d ∷ cs) ≡ c ∷ d ∷ cs → ⊥
-shorter c d cs raw same =
-    let cut : cs ≡ c ∷ d ∷ cs = sym (cond-true ((c == 114) && (d == 35)) cs (c ∷ d ∷ cs) raw) ∙ same in
-    absurd (omega (arith, ap length cut))
-
--- an identifier without `r#` is a word
-plain_word : (text : List ℕ) → IsTrue (spells Ident text) → unraw text ≡ text → is_word text ≡ true
-plain_word [] h same = absurd (false≢true h)
-plain_word (c ∷ []) h same = ⊎_elim (λ w. w) (λ r. absurd (false≢true r)) (or_cases _ _ h)
-plain_word (c ∷ d ∷ cs) h same = ⊎_elim (λ w. w) (λ r. absurd (shorter c d cs (and_parts ((c == 114) && (d == 35)) _ r).0 same)) (or_cases _ _ h)
-
 -- a word, and what goes on with it, are an identifier
-longer_word : (word rest : List ℕ) → is_word word ≡ true → Continues rest → IsTrue (spells Ident (word ++ rest))
-longer_word [] rest h more = absurd (false≢true h)
-longer_word (c ∷ cs) rest h more =
-    let p = and_parts (is_word_start c) _ h in
-    or_left _ _ (and_from _ _ p.0 (list_all-append is_xid_continue cs rest ∙ and_from _ _ p.1 more))
-
--- an identifier without `r#`, and what goes on with it, are one
-pub longer_name : (prefix rest : List ℕ) → IsTrue (spells Ident prefix) → unraw prefix ≡ prefix → Continues rest → IsTrue (spells Ident (prefix ++ rest))
-longer_name prefix rest h plain more = longer_word prefix rest (plain_word prefix h plain) more
+pub longer_word : (word rest : List ℕ) → IsWord word → Continues rest → IsTrue (spells Ident (word ++ rest))
+longer_word word rest own more =
+    let whole : list_all is_xid_continue (own.more ++ rest) ≡ true = list_all-append is_xid_continue own.more rest ∙ and_from _ _ own.continues more in
+    let P : List ℕ → Type 0 = λ w. IsTrue (spells Ident (w ++ rest)) in
+    subst P (sym own.is) (or_left _ _ (and_from _ _ own.starts whole))

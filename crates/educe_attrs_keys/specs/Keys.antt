@@ -32,7 +32,7 @@ binding_text prefix (Index index) = prefix ++ decimal index
 
 -- what stands before the value of a field: its name and a colon, or nothing
 abbrev pub name_lexemes : IdentOrIndex → List Lexeme
-name_lexemes (Ident name) = key_lexeme (Ident name) ∷ quoted (codes ":")
+name_lexemes (Ident name) = key_lexeme (Ident name) ∷ [] ++ quoted (codes ":")
 name_lexemes (Index index) = []
 
 -- an initializer of a field, with a comma behind it

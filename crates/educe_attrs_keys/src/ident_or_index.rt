@@ -4,11 +4,11 @@ ghost use Rattle.std.specs.Prelude.{◌≡◌, IsTrue, IfOk, OnOk, [], ◌∷◌
 ghost use Rattle.std.specs.Option.{option_copied};
 ghost use Rattle.educe_tokens.specs.TokenKind.TheVariants as token;
 ghost use Rattle.educe_tokens.specs.Pieces.{spells};
+ghost use Rattle.educe_tokens.specs.Spells.{IsWord};
 ghost use Rattle.educe_tokens.specs.Lexes.{lexemes};
 ghost use Rattle.educe_tokens.specs.Appends.{Appends, HasPrefix};
 ghost use Rattle.educe_tokens.specs.Text.{is_written};
 ghost use Rattle.educe_tokens.proofs.Printable.{well_formed_from, ends_apart_from, lexes_back_from};
-ghost use Rattle.educe_syntax.specs.Keywords.{unraw};
 ghost use Rattle.educe_attrs_keys.specs.Keys.{key_of, key_lexeme, key_lexemes, binding_text, name_lexemes, field_lexemes};
 ghost use Rattle.educe_attrs_keys.specs.KeyLaws.{key_printable};
 
@@ -65,8 +65,7 @@ impl IdentOrIndex {
     /// without `r#` or the decimal digits of the index (Rust Reference, Identifiers). Fails only
     /// where memory runs out.
     pub fn to_binding(&self, alloc: Global, prefix: &str) -> Result<Ident, AllocError>
-        requires is_ident { IsTrue (spells token.Ident (chars prefix.now)) }
-        requires is_plain { unraw (chars prefix.now) ≡ chars prefix.now }
+        requires { IsWord (chars prefix.now) }
         ensures text { IfOk result (λ ident. ident.text ≡ binding_text (chars prefix.now) self.now) }
         ensures nowhere { IfOk result (λ ident. ident.span ≡ Span.NONE) }
     {
@@ -87,15 +86,23 @@ impl IdentOrIndex {
         ensures written { IfOk result (λ tokens.
             IsTrue (is_written (lexemes value.now)) → IsTrue (is_written (lexemes tokens))) }
     {
+        let tokens = self.field_tokens(alloc, value)?;
+        Ok(tokens)
+    }
+}
+
+impl IdentOrIndex {
+    /// The tokens of an initializer.
+    fn field_tokens(&self, alloc: Global, value: &TokenStream) -> Result<TokenStream, AllocError>
+        ensures { IfOk result (λ tokens. lexemes tokens ≡ field_lexemes self.now (lexemes value.now)) }
+    {
         let mut tokens = Seq::new(alloc);
         self.push_name(alloc, &mut tokens)?;
         tokens.append(value.duplicate(alloc)?)?;
         quote(alloc, &mut tokens, ",")?;
         Ok(tokens)
     }
-}
 
-impl IdentOrIndex {
     /// Appends the name of the field and a colon, where it has a name.
     fn push_name(&self, alloc: Global, tokens: &mut TokenStream) -> Result<(), AllocError>
         ensures ok { OnOk result (Appends (name_lexemes self.now) tokens.old tokens.new) }
