@@ -1,0 +1,9 @@
+pub mod Words
+pub mod Faults
+pub mod Deciding
+pub mod Texts
+pub mod OneWord
+pub mod Integers
+pub mod ByRule
+pub mod ValueLaws
+pub mod ReaderLaws

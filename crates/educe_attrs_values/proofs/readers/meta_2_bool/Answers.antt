@@ -1,0 +1,8 @@
+use Rattle.educe_attrs_values.specs.declared.kind.ValueKind.TheVariants.{Truth}
+use Rattle.educe_attrs_values.proofs.ReaderLaws.{answers}
+use Rattle.educe_attrs_values.proofs.readers.meta_2_bool.Goals as goal
+
+pub returns : goal.returns
+returns c =
+    let a = answers Truth c.named_path.result.now c.args.meta.now c.named_path.ensures c.read_truth.result c.read_truth.ensures c.told.result c.told.ensures in
+    record { said = a.said; cause = a.cause; uncaused = a.uncaused }

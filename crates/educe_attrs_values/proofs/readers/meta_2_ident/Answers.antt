@@ -1,0 +1,8 @@
+use Rattle.educe_attrs_values.specs.declared.kind.ValueKind.TheVariants.{Ident}
+use Rattle.educe_attrs_values.proofs.ReaderLaws.{answers}
+use Rattle.educe_attrs_values.proofs.readers.meta_2_ident.Goals as goal
+
+pub returns : goal.returns
+returns c =
+    let a = answers Ident c.named_path.result.now c.args.meta.now c.named_path.ensures c.read_ident.result c.read_ident.ensures c.told.result c.told.ensures in
+    record { said = a.said; cause = a.cause; uncaused = a.uncaused }

@@ -1,0 +1,50 @@
+-- What the laws of lexing and of rules decide, as results.
+use Rattle.std.specs.Prelude.{◌≡◌, ◌⊎◌, ℕ, List, Result, Ok, Err}
+use Rattle.std.proofs.Common.{inl, inr}
+use Rattle.educe_tokens.specs.declared.error.EduceError.{EduceError}
+use Rattle.educe_tokens.specs.declared.token.Token.{Token}
+use Rattle.educe_tokens.specs.Causes.{HasCause, IsLexicalCause}
+use Rattle.educe_tokens.specs.Steps.{IsReading}
+use Rattle.educe_syntax.specs.Causes.{IsUncaused, IsSingle}
+use Rattle.educe_syntax.specs.Laws.{RuleLaws}
+use Rattle.educe_syntax.specs.Parsed.{IsWhole, IsParseCause}
+use Rattle.educe_syntax.specs.Rules.{Rule}
+use Rattle.educe_syntax.specs.Steps.{Tokens}
+use Rattle.educe_syntax.specs.TokenLaws.{lawful_lexing}
+
+-- There is one value, or one cause why there is none, and never both; out of memory aside.
+pub record Decision {A : Type 0} (Is : A → Type 0) (IsCause : EduceError → Type 0) : Type 0 where
+  pub decided : ((x : A) × Is x) ⊎ HasCause IsCause
+  pub one : (x y : A) → Is x → Is y → x ≡ y
+  pub uncaused : (x : A) → Is x → IsUncaused IsCause
+  pub single : IsSingle IsCause
+
+abbrev pub answer_of : {A : Type 0} {Is : A → Type 0} {IsCause : EduceError → Type 0} → ((x : A) × Is x) ⊎ HasCause IsCause → Result A EduceError
+answer_of (inl found) = Ok found.0
+answer_of (inr cause) = Err cause.error
+
+-- of a text: its tokens
+abbrev pub of_text : (text : List ℕ) → Decision (IsReading text) (IsLexicalCause text)
+of_text text = record {
+  decided = lawful_lexing.decided text;
+  one = λ ts us r s. lawful_lexing.one_list text ts us r.lexes s.lexes;
+  uncaused = lawful_lexing.uncaused text;
+  single = lawful_lexing.one_cause text;
+}
+
+-- of tokens by a rule: their value
+abbrev pub by_rule : {A : Type 0} {g : Rule A} → RuleLaws g → (tokens : Tokens) → Decision (IsWhole g tokens) (IsParseCause g tokens)
+by_rule laws tokens = record {
+  decided = laws.decided tokens;
+  one = laws.one_reading tokens;
+  uncaused = laws.uncaused tokens;
+  single = laws.one_cause tokens;
+}
+
+-- the tokens of a text, or the cause why it has none
+unfoldable pub lexed : List ℕ → Result (List Token) EduceError
+lexed text = answer_of (of_text text).decided
+
+-- the value of tokens by a rule, or the cause why they have none
+unfoldable pub parsed : {A : Type 0} {g : Rule A} → RuleLaws g → Tokens → Result A EduceError
+parsed laws tokens = answer_of (by_rule laws tokens).decided

@@ -1,0 +1,13 @@
+pub mod Chains
+pub mod Words
+pub mod Metas
+pub mod Kinds
+pub mod Refusals
+pub mod Decisions
+pub mod Texts
+pub mod Integers
+pub mod Sources
+pub mod Readings
+pub mod Values
+pub mod Causes
+pub mod Laws

@@ -1,0 +1,38 @@
+-- The texts of strings (Rust Reference, String literals; Raw string literals).
+use Rattle.std.specs.Prelude.{ℕ, ◌==◌, List, [], ◌∷◌, drop, if◌then◌else◌, Option, Some, None}
+use Rattle.educe_tokens.specs.LiteralKind.TheVariants.{Int, Str, ByteStr, Char, Byte}
+use Rattle.educe_tokens.specs.TokenKind.{TokenKind}
+use Rattle.educe_tokens.specs.TokenKind.TheVariants as token
+use Rattle.educe_tokens.specs.QuoteKind.TheVariants.{Str as InStr}
+use Rattle.educe_tokens.specs.Within.TheVariants.{Open}
+use Rattle.educe_tokens.specs.Chars.{begins}
+use Rattle.educe_tokens.specs.Machine.{given}
+use Rattle.educe_tokens.specs.RawStrings.{raw_value}
+use Rattle.educe_tokens.specs.declared.token.Token.{Token}
+
+-- the text of a string literal: between the quotes of a raw one, or what the parts of another stand for
+abbrev pub literal_text : List ℕ → List ℕ
+literal_text spelling = if begins (λ c. c == 114) spelling then raw_value spelling else given (Open InStr) (drop 1 spelling)
+
+-- the text of a token that is a string; any other has none
+abbrev pub text_of_kind : TokenKind → List ℕ → Option (List ℕ)
+text_of_kind (token.Literal Str) spelling = Some (literal_text spelling)
+text_of_kind (token.Literal Int) spelling = None
+text_of_kind (token.Literal ByteStr) spelling = None
+text_of_kind (token.Literal Char) spelling = None
+text_of_kind (token.Literal Byte) spelling = None
+text_of_kind token.Ident spelling = None
+text_of_kind token.Lifetime spelling = None
+text_of_kind (token.Punct c joint) spelling = None
+text_of_kind (token.Start b) spelling = None
+text_of_kind (token.Stop b) spelling = None
+text_of_kind token.Doc spelling = None
+
+abbrev pub text_in : Token → Option (List ℕ)
+text_in t = text_of_kind t.kind t.spelling
+
+-- the text of the one string that the tokens are
+abbrev pub only_text : List Token → Option (List ℕ)
+only_text [] = None
+only_text (t ∷ []) = text_in t
+only_text (t ∷ u ∷ ts) = None

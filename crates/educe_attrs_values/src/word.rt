@@ -1,0 +1,72 @@
+//! Words, and the names of metas.
+ghost use Rattle.std.specs.Prelude.{◌≡◌, chars, IfOk};
+ghost use Rattle.std.specs.Option.{option_copied};
+ghost use Rattle.educe_attrs_values.specs.Words as spec;
+
+use educe_syntax::{Meta, MetaPath, Terminal, is_spelled, path_to_string};
+use educe_tokens::{Span, Spelling, Token};
+use std::alloc::{AllocError, Global};
+
+/// Whether the token is the word as it is spelled, with no `r#`.
+fn is_word(token: &Token, word: &str) -> bool
+    ensures { result ≡ spec.is_word (chars word.now) token.now }
+{
+    Terminal::AnyWord.accepts(token) && is_spelled(&token.spelling, word)
+}
+
+/// Whether the tokens are the one word, as it is spelled, with no `r#`.
+pub fn is_one_word(tokens: &[Token], word: &str) -> bool
+    ensures { result ≡ spec.is_one_word (chars word.now) tokens.now }
+{
+    match tokens {
+        [token] => is_word(token, word),
+        _ => false,
+    }
+}
+
+/// From the first of the tokens to the last; 0 to 0 where there is none.
+pub fn place_of(tokens: &[Token]) -> Span
+    ensures { result ≡ spec.place_of tokens.now }
+{
+    match (tokens.first(), tokens.last()) {
+        (Some(first), Some(last)) => Span {
+            start: first.span.start,
+            end: last.span.end,
+        },
+        _ => Span::NONE,
+    }
+}
+
+/// The text of a path, without blanks.
+pub fn name_of(alloc: Global, path: &MetaPath) -> Result<Spelling, AllocError>
+    ensures { IfOk result (λ name. name ≡ spec.text_of path.now) }
+{
+    let text = path_to_string(alloc, path)?;
+    Spelling::from_str(alloc, text.as_str())
+}
+
+/// The path that a meta begins with; documentation has none.
+pub fn path_of(meta: &Meta) -> Option<&MetaPath>
+    ensures { option_copied result ≡ spec.path_of meta.now }
+{
+    match meta {
+        Meta::Word(path) => Some(path),
+        Meta::List(path, _, _) => Some(path),
+        Meta::NameValue(path, _, _) => Some(path),
+        Meta::Doc(_) => None,
+        Meta::Unread(path, _, _) => Some(path),
+    }
+}
+
+/// The place of a meta, from its path to its end.
+pub fn meta_place(meta: &Meta) -> Span
+    ensures { result ≡ spec.meta_place meta.now }
+{
+    match meta {
+        Meta::Word(path) => place_of(path.written.tokens().as_slice()),
+        Meta::List(_, _, span) => *span,
+        Meta::NameValue(_, _, span) => *span,
+        Meta::Doc(token) => token.span,
+        Meta::Unread(_, _, span) => *span,
+    }
+}
