@@ -72,8 +72,8 @@ impl IdentOrIndex {
         match self {
             IdentOrIndex::Ident(name) => behind_prefix(alloc, prefix, name.unraw()),
             IdentOrIndex::Index(index) => {
-                let digits = index.to_string(alloc)?;
-                behind_prefix(alloc, prefix, &digits)
+                let digits = index_word(alloc, *index as usize)?;
+                behind_prefix(alloc, prefix, digits.as_str())
             }
         }
     }

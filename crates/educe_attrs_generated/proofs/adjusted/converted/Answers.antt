@@ -1,0 +1,18 @@
+use Rattle.std.proofs.Common.{◌≡◌, sym, ap, ◌∙◌}
+use Rattle.educe_tokens.specs.Copied.{copied}
+use Rattle.educe_tokens.specs.Lexes.{lexemes}
+use Rattle.educe_tokens.specs.WrittenLexemes.{written_lexemes}
+use Rattle.educe_tokens.proofs.Appending.{lexemes-Appends}
+use Rattle.educe_attrs_generated.specs.Adjusted.{into}
+use Rattle.educe_attrs_generated.proofs.Printed.{fits, kept, into_printable}
+use Rattle.educe_attrs_generated.proofs.adjusted.converted.Goals as goal
+
+pub new-requires-2 : goal.new-requires-2
+new-requires-2 c =
+    let made : lexemes c.in_ok-new.field-0 ≡ into (written_lexemes c.args.value.now) = ap lexemes c.in_ok-new.ensures ∙ lexemes-Appends c.new-tokens.ensures c.in_ok-push_into.ensures in
+    fits c.in_ok-new.field-0 _ made (into_printable c.args.value.now)
+
+pub returns : goal.returns
+returns c =
+    let made : lexemes c.in_ok-new.field-0 ≡ into (written_lexemes c.args.value.now) = ap lexemes c.in_ok-new.ensures ∙ lexemes-Appends c.new-tokens.ensures c.in_ok-push_into.ensures in
+    ap (λ ts. copied (lexemes ts)) c.new-2.ensures ∙ kept c.in_ok-new.field-0 _ made (into_printable c.args.value.now) ∙ made

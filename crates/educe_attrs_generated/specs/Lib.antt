@@ -1,0 +1,6 @@
+pub mod Words
+pub mod Inside
+pub mod Lints
+pub mod Packed
+pub mod Types
+pub mod Adjusted

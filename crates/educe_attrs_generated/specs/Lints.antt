@@ -1,0 +1,62 @@
+-- The attributes of generated items (Rust Reference, Lint check attributes; the `automatically_derived` attribute).
+use Rattle.std.specs.Prelude.{Bool, ◌||◌, if◌then◌else◌, List, [], ◌++◌, codes}
+use Rattle.std.specs.List.{flat_map}
+use Rattle.educe_tokens.specs.declared.token.Token.{Token}
+use Rattle.educe_tokens.specs.declared.written.Written.{Written}
+use Rattle.educe_tokens.specs.Copied.{copied, may_be_copied}
+use Rattle.educe_tokens.specs.Lexes.{Lexeme, lexemes}
+use Rattle.educe_tokens.specs.Quote.{quoted}
+use Rattle.educe_tokens.specs.WrittenLexemes.{written_lexemes}
+use Rattle.educe_syntax.specs.Attribute.{Attribute}
+use Rattle.educe_syntax.specs.Meta.{Meta}
+use Rattle.educe_syntax.specs.Meta.TheVariants as said
+use Rattle.educe_syntax.specs.MetaPath.{MetaPath}
+use Rattle.educe_attrs_generated.specs.Inside.{inside}
+use Rattle.educe_attrs_generated.specs.Words.{is_one_word}
+
+-- ---- one attribute
+
+-- the path is `allow`, `warn` or `deny`
+abbrev pub sets_level : MetaPath → Bool
+sets_level path = is_one_word (codes "allow") path.written.tokens || is_one_word (codes "warn") path.written.tokens || is_one_word (codes "deny") path.written.tokens
+
+-- the path is `expect`
+abbrev pub expects : MetaPath → Bool
+expects path = is_one_word (codes "expect") path.written.tokens
+
+-- the attribute of the path and what stands behind it
+abbrev pub attribute : MetaPath → List Lexeme → List Lexeme
+attribute path behind = quoted (codes "# [") ++ (written_lexemes path.written ++ (behind ++ quoted (codes "]")))
+
+-- `#[allow(..)]` of these lints
+abbrev pub allowing : List Lexeme → List Lexeme
+allowing lints = quoted (codes "# [ allow (") ++ (copied lints ++ quoted (codes ") ]"))
+
+-- the same of what stands in a bracket pair, whose own brackets close in order
+abbrev pub allowed : List Token → List Lexeme
+allowed tokens = if may_be_copied (lexemes (inside tokens)) then allowing (lexemes (inside tokens)) else []
+
+-- the lint attribute for a list of the type
+abbrev pub lint_of_list : MetaPath → Written → List Lexeme
+lint_of_list path list =
+    if sets_level path then attribute path (written_lexemes list) else
+    if expects path then allowed list.tokens else []
+
+-- the lint attribute of generated items for an attribute of the type: one that sets a level, as it was written; for an
+-- `expect` list one that allows the same, since generated code need not cause the warning that is expected
+abbrev pub lint_of : Meta → List Lexeme
+lint_of (said.Word path) = if sets_level path then attribute path [] else []
+lint_of (said.List path list place) = lint_of_list path list
+lint_of (said.NameValue path value place) = if sets_level path then attribute path (quoted (codes "=") ++ written_lexemes value.written) else []
+lint_of (said.Doc t) = []
+lint_of (said.Unread path behind place) = if sets_level path then attribute path (written_lexemes behind) else []
+
+-- ---- all of them
+
+-- the lint attributes of the type, in order
+abbrev pub lints : List Attribute → List Lexeme
+lints attributes = flat_map (λ (a : Attribute). lint_of a.meta) attributes
+
+-- the attributes of an impl
+abbrev pub impl_attributes : List Attribute → List Lexeme
+impl_attributes attributes = quoted (codes "# [ automatically_derived ]") ++ lints attributes

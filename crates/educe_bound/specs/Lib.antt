@@ -1,0 +1,3 @@
+pub mod Traits
+pub mod Words
+pub mod Named
