@@ -1,5 +1,5 @@
 -- The values of tokens by a rule, and why they have none.
-use Rattle.std.proofs.Common.{◌≡◌, ℕ, ◌≤◌, Bool, true, false, IsTrue, List, ◌∷◌, length, refl, sym, subst, ◌∙◌, ap, Option, Some, None, Result, Ok, Err, encode_utf8_all}
+use Rattle.std.proofs.Common.{◌≡◌, ℕ, ◌≤◌, Bool, true, false, IsTrue, List, length, refl, sym, subst, ◌∙◌, ap, Option, Some, None, Result, Ok, Err, encode_utf8_all}
 use Rattle.std.specs.Prelude.{◌≢◌, if◌then◌else◌, nat_le}
 use Rattle.educe_tokens.specs.declared.error.EduceError.{EduceError}
 use Rattle.educe_tokens.specs.declared.error.Kind.TheVariants as kind

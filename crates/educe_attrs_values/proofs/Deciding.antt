@@ -1,5 +1,5 @@
 -- What follows from decisions: of texts, and of tokens by a rule.
-use Rattle.std.proofs.Common.{◌≡◌, ℕ, List, sym, subst, ◌∙◌, ap, Result, Ok, Err, ◌⊎◌, inl, inr}
+use Rattle.std.proofs.Common.{◌≡◌, ℕ, List, sym, subst, ◌∙◌, ap, Ok, Err, ◌⊎◌, inl, inr}
 use Rattle.std.specs.Prelude.{◌≢◌}
 use Rattle.educe_tokens.specs.declared.error.EduceError.{EduceError}
 use Rattle.educe_tokens.specs.declared.error.Kind.TheVariants.{Alloc}

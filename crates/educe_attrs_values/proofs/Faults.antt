@@ -1,10 +1,9 @@
 -- The faults of kinds of errors.
-use Rattle.std.proofs.Common.{◌≡◌, ℕ, List, Bool, true, false, refl}
+use Rattle.std.proofs.Common.{◌≡◌, ℕ, List, Bool, refl}
 use Rattle.std.specs.Prelude.{◌≢◌}
 use Rattle.educe_tokens.specs.declared.error.Kind.{Kind}
 use Rattle.educe_tokens.specs.declared.error.Kind.TheVariants.{Alloc, TooDeep, NotCarried}
 use Rattle.educe_tokens.specs.declared.span.Span.{Span}
-use Rattle.educe_attrs_values.specs.declared.fault.Fault.{Fault}
 use Rattle.educe_attrs_values.specs.declared.fault.Fault.TheVariants as fault
 use Rattle.educe_attrs_values.specs.Readings.{fault_by}
 

@@ -1,5 +1,5 @@
 -- Integers of 64 bits.
-use Rattle.std.proofs.Common.{◌≡◌, ℕ, zero, suc, ◌<◌, ◌≤◌, ◌^◌, true, false, List, [], ◌∷◌, drop, length, refl, sym, subst, ◌∙◌, ap, arith, cond, Option, Some, None, Result, Ok, Err, FitsSigned, encode_utf8_all}
+use Rattle.std.proofs.Common.{◌≡◌, ℕ, zero, suc, ◌<◌, ◌≤◌, ◌^◌, true, false, List, [], ◌∷◌, drop, refl, sym, subst, ◌∙◌, ap, arith, cond, Option, Some, None, Result, Ok, Err, FitsSigned, encode_utf8_all}
 use Rattle.std.specs.Prelude.{Bool, ℤ, pos, neg_ℤ, if◌then◌else◌, nat_lt, nat_le, option_and_then}
 use Rattle.std.specs.Result.{OkIff, result_ok}
 use Rattle.std.specs.Str.{all_ascii_digits}
@@ -7,8 +7,6 @@ use Rattle.std.specs.Str.Parse.{IsNumeral, ParsesSigned, digits_value, starts_wi
 use Rattle.std.proofs.lemmas.Bool.Decides.{nat_tests}
 use Rattle.std.proofs.lemmas.Str.Parse.{IsNumeralModel, numerals_by_value, tells_all_ascii_digits}
 use mir.Syntax.{w64}
-use Rattle.educe_tokens.specs.LiteralKind.TheVariants.{Str}
-use Rattle.educe_tokens.specs.TokenKind.TheVariants as token
 use Rattle.educe_tokens.specs.IntValue.{int_value, value_of}
 use Rattle.educe_tokens.specs.Lexes.{lexeme_of}
 use Rattle.educe_tokens.specs.declared.token.Token.{Token}

@@ -6,7 +6,7 @@ use Rattle.educe_syntax.specs.MetaPath.{MetaPath}
 use Rattle.educe_attrs_values.specs.declared.kind.ValueKind.{ValueKind}
 use Rattle.educe_attrs_values.specs.declared.stop.Stop.{Stop}
 use Rattle.educe_attrs_values.specs.declared.stop.Stop.TheVariants.{Memory, Refused}
-use Rattle.educe_attrs_values.specs.Causes.{IsValueCause, IsReaderCause, HasNoReaderCause}
+use Rattle.educe_attrs_values.specs.Causes.{IsReaderCause, HasNoReaderCause}
 use Rattle.educe_attrs_values.specs.Chains.{Gives, map_err}
 use Rattle.educe_attrs_values.specs.Kinds.{ValueOf}
 use Rattle.educe_attrs_values.specs.Readings.{value_of}

@@ -1,5 +1,5 @@
 -- The texts of strings.
-use Rattle.std.proofs.Common.{◌≡◌, ℕ, Bool, true, false, List, [], ◌∷◌, drop, refl, sym, subst, ◌∙◌, ap, Option, Some, None, IfSome, IfNone, Result, Ok, Err, IfOk, option_map}
+use Rattle.std.proofs.Common.{◌≡◌, ℕ, List, [], ◌∷◌, drop, refl, sym, subst, ◌∙◌, ap, Option, Some, None, IfSome, IfNone, Result, Ok, Err, IfOk, option_map}
 use Rattle.std.specs.Prelude.{◌==◌, if◌then◌else◌}
 use Rattle.std.specs.declared.alloc.AllocError.{AllocError}
 use Rattle.educe_tokens.specs.Chars.{begins}

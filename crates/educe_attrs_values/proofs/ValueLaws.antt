@@ -4,7 +4,6 @@ use Rattle.std.specs.Prelude.{◌&&◌, ◌||◌, if◌then◌else◌, is_some}
 use Rattle.std.proofs.lemmas.Bool.{and_parts, and_from, false≢true}
 use Rattle.educe_tokens.specs.declared.error.EduceError.{EduceError}
 use Rattle.educe_tokens.specs.declared.token.Token.{Token}
-use Rattle.educe_syntax.specs.Ident.{Ident}
 use Rattle.educe_syntax.specs.Laws.{lawful_name, lawful_path, lawful_expression, lawful_predicates}
 use Rattle.educe_syntax.specs.Meta.{Meta}
 use Rattle.educe_syntax.specs.MetaPath.{MetaPath}
@@ -22,17 +21,16 @@ use Rattle.educe_attrs_values.specs.declared.kind.ValueKind.TheVariants as kind
 use Rattle.educe_attrs_values.specs.declared.source.Source.{Source}
 use Rattle.educe_attrs_values.specs.declared.stop.Stop.{Stop}
 use Rattle.educe_attrs_values.specs.declared.stop.Stop.TheVariants.{Memory, Refused}
-use Rattle.educe_attrs_values.specs.Causes.{IsCarried, IsValueCause}
+use Rattle.educe_attrs_values.specs.Causes.{IsValueCause}
 use Rattle.educe_attrs_values.specs.Chains.{map_ok}
 use Rattle.educe_attrs_values.specs.Integers.{integer_in}
 use Rattle.educe_attrs_values.specs.Kinds.{ValueOf, bare, opens_strings}
 use Rattle.educe_attrs_values.specs.Laws.{ValueLaws}
 use Rattle.educe_attrs_values.specs.Readings.{truth_in, or_wrong, standing, plain, is_empty_text, named, name_or, name_in, is_star, may_be_predicates, bounded, bound_or, bound_in, reading, or_refused, or_missing, value_among, value_of}
-use Rattle.educe_attrs_values.specs.Refusals as refusals
 use Rattle.educe_attrs_values.specs.Sources.{value_source, value_place}
 use Rattle.educe_attrs_values.specs.Texts.{only_text}
-use Rattle.educe_attrs_values.specs.Values.{ReadsPlain, ReadsBy, IsTruth, IsStar, IsName, IsBound, Reads, HasNoValue, HoldsAmong, Holds}
-use Rattle.educe_attrs_values.proofs.ByRule.{ok_one, err_one, ok_no_err, plain_is, plain_back, by_back, found_is, found_back, Explains, carried_standing, carried_closed, standing_explained, plain_explained}
+use Rattle.educe_attrs_values.specs.Values.{ReadsPlain, ReadsBy, IsName, IsBound, Reads, HasNoValue, HoldsAmong, Holds}
+use Rattle.educe_attrs_values.proofs.ByRule.{ok_one, err_one, ok_no_err, plain_is, plain_back, found_is, found_back, Explains, carried_standing, carried_closed, standing_explained, plain_explained}
 use Rattle.educe_attrs_values.proofs.Integers.{integer_is, integer_read}
 use Rattle.educe_attrs_values.proofs.OneWord.{truth_is, truth_read, truth_none, no_truth, string_no_truth, string_no_star, star_is, star_read, star_no_truth, star_none}
 

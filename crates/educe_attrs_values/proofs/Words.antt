@@ -1,5 +1,5 @@
 -- Words, as characters.
-use Rattle.std.proofs.Common.{◌≡◌, ℕ, List, [], ◌∷◌, refl, sym, ap, ◌∙◌, codes, Some}
+use Rattle.std.proofs.Common.{◌≡◌, ℕ, List, [], ◌∷◌, refl, ap, ◌∙◌, codes, Some}
 use Rattle.std.specs.Str.{bytes_eq, chars}
 use Rattle.educe_syntax.specs.TokenLaws.{ascii_chars}
 use Rattle.educe_attrs_values.specs.Readings.{is_empty_text}

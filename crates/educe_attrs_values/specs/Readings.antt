@@ -5,7 +5,6 @@ use Rattle.educe_tokens.specs.declared.error.Kind.{Kind}
 use Rattle.educe_tokens.specs.declared.error.Kind.TheVariants as error
 use Rattle.educe_tokens.specs.declared.span.Span.{Span}
 use Rattle.educe_tokens.specs.declared.span.TheConstants.{SOURCE_LIMIT}
-use Rattle.educe_tokens.specs.declared.token.Token.{Token}
 use Rattle.educe_syntax.specs.Laws.{RuleLaws, lawful_name, lawful_path, lawful_expression, lawful_predicates}
 use Rattle.educe_syntax.specs.Meta.{Meta}
 use Rattle.educe_syntax.specs.MetaPath.{MetaPath}

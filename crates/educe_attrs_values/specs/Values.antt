@@ -1,5 +1,5 @@
 -- What tokens are as a value of a kind, and what a parameter says (documentation of `educe`, Traits).
-use Rattle.std.specs.Prelude.{◌≡◌, ◌⊎◌, ℕ, ℤ, pos, neg_ℤ, ◌<◌, ◌≤◌, ◌^◌, Bool, true, false, IsTrue, List, [], ◌∷◌, drop, length, encode_utf8_all, Option, Some, None}
+use Rattle.std.specs.Prelude.{◌≡◌, ℕ, ℤ, pos, neg_ℤ, ◌<◌, ◌≤◌, ◌^◌, Bool, true, false, IsTrue, List, [], ◌∷◌, drop, length, encode_utf8_all, Option, Some, None}
 use Rattle.std.specs.Str.Parse.{IsNumeral, digits_value, starts_with_minus, without_leading_plus}
 use Rattle.educe_tokens.specs.declared.span.TheConstants.{SOURCE_LIMIT}
 use Rattle.educe_tokens.specs.declared.token.Token.{Token}

@@ -1,8 +1,11 @@
-//! The traits that can be derived, and lists of them (documentation of the crate `educe`, Traits).
+//! The traits that can be derived, lists of them, and the bounds that attributes ask for
+//! (documentation of the crate `educe`, Traits; Bounds).
 #![tactic(auto)]
 
+mod bound;
 mod named;
 mod traits;
 mod word;
 
+pub use bound::Bound;
 pub use traits::{Trait, Traits, all_listed, each_once, is_listed, same_trait};

@@ -1,0 +1,142 @@
+-- The settings of a trait at a field, as they are read.
+use Rattle.std.proofs.Common.{◌≡◌, List, [], refl, sym, subst, ◌∙◌, ap, Option, Some, None, Result, Ok, Err, ◌⊎◌, inl, inr}
+use Rattle.std.specs.Prelude.{IfOk, IfErr}
+use Rattle.std.specs.Result.{result_unwrap_or}
+use Rattle.educe_tokens.specs.declared.error.EduceError.{EduceError}
+use Rattle.educe_bound.specs.declared.traits.Trait.{Trait}
+use Rattle.educe_syntax.specs.Attribute.{Attribute}
+use Rattle.educe_syntax.specs.Meta.{Meta}
+use Rattle.educe_attrs_values.specs.Chains.{Gives, and_then, map_ok}
+use Rattle.educe_attrs_values.specs.declared.stop.Stop.{Stop}
+use Rattle.educe_attrs_values.specs.declared.stop.Stop.TheVariants.{Memory, Refused}
+use Rattle.educe_attrs_rows.specs.declared.row.Row.{Row}
+use Rattle.educe_attrs_rows.specs.declared.values.Values.{Values}
+use Rattle.educe_attrs_rows.specs.Settings.{no_values}
+use Rattle.educe_attrs_places.specs.declared.place.FieldSettings.{FieldSettings}
+use Rattle.educe_attrs_places.specs.Causes.{OfStop, NoCause}
+use Rattle.educe_attrs_places.specs.Lists.{AreMetas}
+use Rattle.educe_attrs_places.specs.Said.{listed_metas, read_one, IsUnsaid, IsSaidCause}
+use Rattle.educe_attrs_places.specs.Places.{fallback, own_settings, or_taken, read_other, or_other, read_among, read_field, field_settings, IsFieldSaid, IsFieldCause, OfField}
+use Rattle.educe_attrs_places.proofs.SaidLaws.{said_cause, said_uncaused, says_there, is_unsaid, not_unsaid, metas_listed, listed_cause, listed_uncaused}
+use Rattle.educe_attrs_rows.proofs.Chained.{ok_one, err_one, chained, mapped, mapped_err}
+
+module _ (which : Trait) (row : Row) (listed : List Trait) (attributes : List Attribute) where
+  module _ (found : List Meta) (are : AreMetas attributes found) where
+    -- ---- causes
+
+    other_err : read_one which row found None ≡ Ok None → (e : EduceError) (o : Option Trait) → fallback which listed ≡ o → read_other which row found o ≡ Err (Refused e) → IsFieldCause which row listed attributes e
+    other_err none e None is h = absurd (cc)
+    other_err none e (Some other) is h =
+        IsFieldCause.other_meta other is (is_unsaid which row attributes found are none)
+        (said_cause other row attributes found are e (mapped_err (or_taken which) (read_one other row found None) (Refused e) h))
+
+    among_err_by : (e : EduceError) (r : Result (Option Values) Stop) → read_one which row found None ≡ r → and_then (or_other which row listed found) r ≡ Err (Refused e) → IsFieldCause which row listed attributes e
+    among_err_by e (Ok (Some v)) is h = absurd (cc)
+    among_err_by e (Ok None) is h = other_err is e (fallback which listed) refl h
+    among_err_by e (Err s) is h = IsFieldCause.own_meta (said_cause which row attributes found are e (is ∙ ap Err (err_one h)))
+
+    among_cause : (e : EduceError) → read_among which row listed found ≡ Err (Refused e) → IsFieldCause which row listed attributes e
+    among_cause e h = among_err_by e (read_one which row found None) refl h
+
+    other_uncaused : (v : FieldSettings) (o : Option Values) → read_one which row found None ≡ Ok o → or_other which row listed found o ≡ Ok v → (e : EduceError) (other : Trait) → fallback which listed ≡ Some other
+        → IsUnsaid which attributes → IsSaidCause other row attributes e → ⊥
+    other_uncaused v (Some w) read h e other is none cause = not_unsaid which row attributes found are w read none
+    other_uncaused v None read h e other is none cause =
+        let r = mapped (or_taken which) (read_one other row found None) v (sym (ap (read_other which row found) is) ∙ h) in
+        said_uncaused other row attributes found are r.0 r.1 e cause
+
+    among_uncaused : (v : FieldSettings) → read_among which row listed found ≡ Ok v → (e : EduceError) → IsFieldCause which row listed attributes e → ⊥
+    among_uncaused v h e (IsFieldCause.own_meta cause) =
+        let r = chained (or_other which row listed found) (read_one which row found None) v h in
+        said_uncaused which row attributes found are r.0 r.1 e cause
+    among_uncaused v h e (IsFieldCause.other_meta other is none cause) =
+        let r = chained (or_other which row listed found) (read_one which row found None) v h in
+        other_uncaused v r.0 r.1 r.2 e other is none cause
+
+    -- ---- what is said
+
+    no_fallback : fallback which listed ≡ None → (other : Trait) → fallback which listed ≡ Some other → IsUnsaid other attributes
+    no_fallback none other is = let bad : None ≡ Some other = sym none ∙ is in absurd (cc)
+
+    one_fallback : (other : Trait) → fallback which listed ≡ Some other → IsUnsaid other attributes → (o : Trait) → fallback which listed ≡ Some o → IsUnsaid o attributes
+    one_fallback other is unsaid o o_is =
+        let both : Some other ≡ Some o = sym is ∙ o_is in
+        let same : other ≡ o = cc in
+        subst (λ t. IsUnsaid t attributes) same unsaid
+
+    taken_said : IsUnsaid which attributes → (other : Trait) → fallback which listed ≡ Some other → (v : FieldSettings) (o : Option Values) → read_one other row found None ≡ Ok o → or_taken which o ≡ v
+        → IsFieldSaid which row listed attributes v
+    taken_said none other is v None h v_is =
+        subst (IsFieldSaid which row listed attributes) v_is (IsFieldSaid.none_said none (one_fallback other is (is_unsaid other row attributes found are h)))
+    taken_said none other is v (Some w) h v_is =
+        subst (IsFieldSaid which row listed attributes) v_is (IsFieldSaid.other_said other w is none (says_there other row attributes found are w h))
+
+    other_said : IsUnsaid which attributes → (v : FieldSettings) (o : Option Trait) → fallback which listed ≡ o → read_other which row found o ≡ Ok v → IsFieldSaid which row listed attributes v
+    other_said none v None is h = subst (IsFieldSaid which row listed attributes) (ok_one h) (IsFieldSaid.none_said none (no_fallback is))
+    other_said none v (Some other) is h =
+        let r = mapped (or_taken which) (read_one other row found None) v h in
+        taken_said none other is v r.0 r.1 r.2
+
+    said_as : (v : FieldSettings) (o : Option Values) → read_one which row found None ≡ Ok o → or_other which row listed found o ≡ Ok v → IsFieldSaid which row listed attributes v
+    said_as v (Some w) read h = subst (IsFieldSaid which row listed attributes) (ok_one h) (IsFieldSaid.own_said w (says_there which row attributes found are w read))
+    said_as v None read h = other_said (is_unsaid which row attributes found are read) v (fallback which listed) refl h
+
+    among_said : (v : FieldSettings) → read_among which row listed found ≡ Ok v → IsFieldSaid which row listed attributes v
+    among_said v h =
+        let r = chained (or_other which row listed found) (read_one which row found None) v h in
+        said_as v r.0 r.1 r.2
+
+  -- ---- the whole place
+
+  field_by : (e : EduceError) (r : Result (List Meta) Stop) → listed_metas listed attributes ≡ r → and_then (read_among which row listed) r ≡ Err (Refused e) → OfField which row listed attributes e
+  field_by e (Ok found) is h = inr (among_cause found (metas_listed listed attributes found is).are e h)
+  field_by e (Err s) is h = inl (listed_cause listed attributes e (is ∙ ap Err (err_one h)))
+
+  -- a refusal has a cause
+  pub field_cause : (e : EduceError) → read_field which row listed attributes ≡ Err (Refused e) → OfField which row listed attributes e
+  unfolding read_field
+  field_cause e h = field_by e (listed_metas listed attributes) refl h
+
+  -- where something is read, no cause stands
+  pub field_uncaused : (v : FieldSettings) → read_field which row listed attributes ≡ Ok v → NoCause (OfField which row listed attributes)
+  unfolding read_field
+  field_uncaused v h =
+      let metas = chained (read_among which row listed) (listed_metas listed attributes) v h in
+      let l = metas_listed listed attributes metas.0 metas.1 in
+      record {
+        none_stands = λ e cause. elim cause [
+          | inl list ↦ listed_uncaused listed attributes metas.0 l e list
+          | inr of ↦ among_uncaused metas.0 l.are v metas.2 e of
+        ];
+      }
+
+  -- what is read is what the metas say
+  pub field_said : (v : FieldSettings) → read_field which row listed attributes ≡ Ok v → IsFieldSaid which row listed attributes v
+  unfolding read_field
+  field_said v h =
+      let metas = chained (read_among which row listed) (listed_metas listed attributes) v h in
+      among_said metas.0 (metas_listed listed attributes metas.0 metas.1).are v metas.2
+
+  -- what is read is the settings
+  pub field_is : (v : FieldSettings) → read_field which row listed attributes ≡ Ok v → v ≡ field_settings which row listed attributes
+  unfolding field_settings
+  field_is v h = sym (ap (λ r. result_unwrap_or r (own_settings no_values)) h)
+
+  -- ---- the answer of a function that reads it
+
+  pub answer_settings : (r : Result FieldSettings Stop) → Gives Memory (read_field which row listed attributes) r → IfOk r (λ v. v ≡ field_settings which row listed attributes)
+  answer_settings (Ok v) h = field_is v h
+  answer_settings (Err s) h = tt
+
+  pub answer_said : (r : Result FieldSettings Stop) → Gives Memory (read_field which row listed attributes) r → IfOk r (λ v. IsFieldSaid which row listed attributes v)
+  answer_said (Ok v) h = field_said v h
+  answer_said (Err s) h = tt
+
+  pub answer_cause : (r : Result FieldSettings Stop) → Gives Memory (read_field which row listed attributes) r → IfErr r (λ s. OfStop (OfField which row listed attributes) s)
+  answer_cause (Ok v) h = tt
+  answer_cause (Err Memory) h = tt
+  answer_cause (Err (Refused e)) h = field_cause e (h (λ same. cc))
+
+  pub answer_uncaused : (r : Result FieldSettings Stop) → Gives Memory (read_field which row listed attributes) r → IfOk r (λ v. NoCause (OfField which row listed attributes))
+  answer_uncaused (Ok v) h = field_uncaused v h
+  answer_uncaused (Err s) h = tt

@@ -1,0 +1,9 @@
+pub mod Texts
+pub mod ListLaws
+pub mod NamedLaws
+pub mod SaidLaws
+pub mod PlaceLaws
+pub mod FieldLaws
+pub mod FieldsLaws
+pub mod ListingLaws
+pub mod Phased

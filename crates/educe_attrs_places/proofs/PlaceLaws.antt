@@ -1,0 +1,85 @@
+-- The settings of a trait at a type or a variant, as they are read.
+use Rattle.std.proofs.Common.{◌≡◌, List, [], refl, sym, subst, ◌∙◌, ap, Option, Some, None, Result, Ok, Err, ◌⊎◌, inl, inr}
+use Rattle.std.specs.Prelude.{IfOk, IfErr}
+use Rattle.std.specs.Result.{result_unwrap_or}
+use Rattle.educe_tokens.specs.declared.error.EduceError.{EduceError}
+use Rattle.educe_bound.specs.declared.traits.Trait.{Trait}
+use Rattle.educe_syntax.specs.Attribute.{Attribute}
+use Rattle.educe_syntax.specs.Meta.{Meta}
+use Rattle.educe_attrs_values.specs.Chains.{Gives, and_then, map_ok}
+use Rattle.educe_attrs_values.specs.declared.stop.Stop.{Stop}
+use Rattle.educe_attrs_values.specs.declared.stop.Stop.TheVariants.{Memory, Refused}
+use Rattle.educe_attrs_rows.specs.declared.row.Row.{Row}
+use Rattle.educe_attrs_rows.specs.declared.values.Values.{Values}
+use Rattle.educe_attrs_rows.specs.Settings.{no_values}
+use Rattle.educe_attrs_places.specs.Causes.{OfStop, NoCause}
+use Rattle.educe_attrs_places.specs.Lists.{AreMetas}
+use Rattle.educe_attrs_places.specs.Said.{listed_metas, read_one}
+use Rattle.educe_attrs_places.specs.Places.{or_nothing, read_place, place_settings, IsSaid, OfPlace}
+use Rattle.educe_attrs_places.proofs.SaidLaws.{said_cause, said_uncaused, says_there, is_unsaid, metas_listed, listed_cause, listed_uncaused}
+use Rattle.educe_attrs_rows.proofs.Chained.{err_one, chained, mapped, mapped_err}
+
+module _ (which : Trait) (row : Row) (listed : List Trait) (attributes : List Attribute) where
+  abbrev of_metas : List Meta → Result Values Stop
+  of_metas found = map_ok or_nothing (read_one which row found None)
+
+  place_by : (e : EduceError) (r : Result (List Meta) Stop) → listed_metas listed attributes ≡ r → and_then of_metas r ≡ Err (Refused e) → OfPlace which row listed attributes e
+  place_by e (Ok found) is h =
+      inr (said_cause which row attributes found (metas_listed listed attributes found is).are e (mapped_err or_nothing (read_one which row found None) (Refused e) h))
+  place_by e (Err s) is h = inl (listed_cause listed attributes e (is ∙ ap Err (err_one h)))
+
+  -- a refusal has a cause
+  pub place_cause : (e : EduceError) → read_place which row listed attributes ≡ Err (Refused e) → OfPlace which row listed attributes e
+  unfolding read_place
+  place_cause e h = place_by e (listed_metas listed attributes) refl h
+
+  -- where something is read, no cause stands
+  pub place_uncaused : (v : Values) → read_place which row listed attributes ≡ Ok v → NoCause (OfPlace which row listed attributes)
+  unfolding read_place
+  place_uncaused v h =
+      let metas = chained of_metas (listed_metas listed attributes) v h in
+      let l = metas_listed listed attributes metas.0 metas.1 in
+      let said = mapped or_nothing (read_one which row metas.0 None) v metas.2 in
+      record {
+        none_stands = λ e cause. elim cause [
+          | inl list ↦ listed_uncaused listed attributes metas.0 l e list
+          | inr own ↦ said_uncaused which row attributes metas.0 l.are said.0 said.1 e own
+        ];
+      }
+
+  said_by : (found : List Meta) → AreMetas attributes found → (o : Option Values) (v : Values) → read_one which row found None ≡ Ok o → or_nothing o ≡ v → IsSaid which row attributes v
+  said_by found are None v h is = subst (IsSaid which row attributes) is (IsSaid.by_none (is_unsaid which row attributes found are h))
+  said_by found are (Some w) v h is = subst (IsSaid which row attributes) is (IsSaid.by_meta w (says_there which row attributes found are w h))
+
+  -- what is read is what the metas say
+  pub place_said : (v : Values) → read_place which row listed attributes ≡ Ok v → IsSaid which row attributes v
+  unfolding read_place
+  place_said v h =
+      let metas = chained of_metas (listed_metas listed attributes) v h in
+      let l = metas_listed listed attributes metas.0 metas.1 in
+      let said = mapped or_nothing (read_one which row metas.0 None) v metas.2 in
+      said_by metas.0 l.are said.0 v said.1 said.2
+
+  -- what is read is the settings
+  pub place_is : (v : Values) → read_place which row listed attributes ≡ Ok v → v ≡ place_settings which row listed attributes
+  unfolding place_settings
+  place_is v h = sym (ap (λ r. result_unwrap_or r no_values) h)
+
+  -- ---- the answer of a function that reads it
+
+  pub answer_settings : (r : Result Values Stop) → Gives Memory (read_place which row listed attributes) r → IfOk r (λ v. v ≡ place_settings which row listed attributes)
+  answer_settings (Ok v) h = place_is v h
+  answer_settings (Err s) h = tt
+
+  pub answer_said : (r : Result Values Stop) → Gives Memory (read_place which row listed attributes) r → IfOk r (λ v. IsSaid which row attributes v)
+  answer_said (Ok v) h = place_said v h
+  answer_said (Err s) h = tt
+
+  pub answer_cause : (r : Result Values Stop) → Gives Memory (read_place which row listed attributes) r → IfErr r (λ s. OfStop (OfPlace which row listed attributes) s)
+  answer_cause (Ok v) h = tt
+  answer_cause (Err Memory) h = tt
+  answer_cause (Err (Refused e)) h = place_cause e (h (λ same. cc))
+
+  pub answer_uncaused : (r : Result Values Stop) → Gives Memory (read_place which row listed attributes) r → IfOk r (λ v. NoCause (OfPlace which row listed attributes))
+  answer_uncaused (Ok v) h = place_uncaused v h
+  answer_uncaused (Err s) h = tt

@@ -1,0 +1,17 @@
+-- Causes of refusals, whichever they are.
+use Rattle.educe_tokens.specs.declared.error.EduceError.{EduceError}
+use Rattle.educe_attrs_values.specs.declared.stop.Stop.{Stop}
+use Rattle.educe_attrs_values.specs.declared.stop.Stop.TheVariants.{Memory, Refused}
+
+-- why something is refused
+abbrev pub Cause : Type 1
+Cause = EduceError → Type 0
+
+-- no cause stands
+pub record NoCause (P : Cause) : Type 0 where
+  pub none_stands : (e : EduceError) → P e → ⊥
+
+-- a refusal has the cause; out of memory has none
+abbrev pub OfStop : Cause → Stop → Type 0
+OfStop P Memory = Unit {0}
+OfStop P (Refused e) = P e

@@ -1,0 +1,22 @@
+-- The settings of a trait at several fields.
+use Rattle.std.specs.Prelude.{List}
+use Rattle.std.specs.List.{AllByRecursion}
+use Rattle.educe_bound.specs.declared.traits.Trait.{Trait}
+use Rattle.educe_syntax.specs.Field.{Field}
+use Rattle.educe_attrs_rows.specs.declared.row.Row.{Row}
+use Rattle.educe_attrs_rows.specs.Among.{IsAmong}
+use Rattle.educe_attrs_places.specs.declared.place.FieldSettings.{FieldSettings}
+use Rattle.educe_attrs_places.specs.Causes.{Cause, NoCause}
+use Rattle.educe_attrs_places.specs.Places.{field_settings, OfField}
+
+-- those of one field
+abbrev pub settings_at : Trait → Row → List Trait → Field → FieldSettings
+settings_at which row listed field = field_settings which row listed field.attrs
+
+-- one of the fields is refused for this
+abbrev pub OfFields : Trait → Row → List Trait → List Field → Cause
+OfFields which row listed fields = λ e. (field : Field) × IsAmong field fields × OfField which row listed field.attrs e
+
+-- none is refused for any cause
+abbrev pub HaveNoCauses : Trait → Row → List Trait → List Field → Type 0
+HaveNoCauses which row listed fields = AllByRecursion (λ (field : Field). NoCause (OfField which row listed field.attrs)) fields

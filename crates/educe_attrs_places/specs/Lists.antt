@@ -1,0 +1,81 @@
+-- The metas of the `educe` lists of a place, and why a list has none.
+use Rattle.std.specs.Prelude.{◌≡◌, ◌≢◌, Bool, true, if◌then◌else◌, List, [], ◌∷◌, ◌++◌, codes, Some, Result, Ok}
+use Rattle.educe_tokens.specs.declared.error.EduceError.{EduceError}
+use Rattle.educe_tokens.specs.declared.error.Kind.TheVariants.{Alloc}
+use Rattle.educe_tokens.specs.declared.span.Span.{Span}
+use Rattle.educe_tokens.specs.declared.token.Token.{Token}
+use Rattle.educe_tokens.specs.declared.written.Written.{Written}
+use Rattle.educe_syntax.specs.Attribute.{Attribute}
+use Rattle.educe_syntax.specs.Attributes.{metas}
+use Rattle.educe_syntax.specs.Meta.{Meta}
+use Rattle.educe_syntax.specs.Meta.TheVariants as said
+use Rattle.educe_syntax.specs.MetaPath.{MetaPath}
+use Rattle.educe_syntax.specs.Parsed.{IsWhole, IsParseCause}
+use Rattle.educe_attrs_values.specs.Chains.{and_then}
+use Rattle.educe_attrs_values.specs.declared.stop.Stop.{Stop}
+use Rattle.educe_attrs_values.specs.Sources.{inside}
+use Rattle.educe_attrs_values.specs.Words.{is_one_word}
+use Rattle.educe_attrs_rows.specs.Among.{IsAmong}
+use Rattle.educe_attrs_values.specs.Metas.{IsNamed}
+use Rattle.educe_attrs_rows.specs.Metas.{metas_in}
+use Rattle.educe_attrs_values.specs.Words.{path_of}
+
+-- ---- the program
+
+-- the path is `educe`
+abbrev pub is_educe : MetaPath → Bool
+is_educe path = is_one_word (codes "educe") path.written.tokens
+
+-- the metas of an `educe` list; any other attribute of a place has none
+abbrev pub metas_of : Meta → Result (List Meta) Stop
+metas_of (said.Word path) = Ok []
+metas_of (said.List path tokens place) = if is_educe path then metas_in tokens.tokens else Ok []
+metas_of (said.NameValue path value place) = Ok []
+metas_of (said.Doc t) = Ok []
+metas_of (said.Unread path tokens place) = Ok []
+
+-- those of several attributes count as one list: these, and then those of the attributes
+abbrev pub all_metas : List Meta → List Attribute → Result (List Meta) Stop
+all_metas found [] = Ok found
+all_metas found (a ∷ more) = and_then (λ front. all_metas (found ++ front) more) (metas_of a.meta)
+
+-- ---- what they are
+
+-- the tokens of an `educe` list
+pub record IsEduce (a : Attribute) (tokens : List Token) : Type 0 where
+  pub path : MetaPath
+  pub written : Written
+  pub place : Span
+  pub is : a.meta ≡ said.List path written place
+  pub tokens_are : tokens ≡ written.tokens
+  pub named : is_educe path ≡ true
+
+-- the metas of an attribute: those of an `educe` list, and of any other none
+pub data AreOwn (a : Attribute) : List Meta → Type 0 where
+  educe : (tokens : List Token) (found : List Meta) → IsEduce a tokens → IsWhole metas (inside tokens) found → AreOwn a found
+  other : ((tokens : List Token) → IsEduce a tokens → ⊥) → AreOwn a []
+
+-- the metas of a place, of all its `educe` lists together
+pub data AreMetas : List Attribute → List Meta → Type 0 where
+  none_left : AreMetas [] []
+  one_more : (a : Attribute) (more : List Attribute) (front found : List Meta) → AreOwn a front → AreMetas more found → AreMetas (a ∷ more) (front ++ found)
+
+-- a meta of one of the lists has this name
+pub record IsNameIn (attributes : List Attribute) (path : MetaPath) : Type 0 where
+  pub attribute : Attribute
+  pub found : List Meta
+  pub meta : Meta
+  pub stands : IsAmong attribute attributes
+  pub own : AreOwn attribute found
+  pub among : IsAmong meta found
+  pub named : IsNamed meta
+  pub path_is : path_of meta ≡ Some path
+
+-- one of the lists is refused for this, since it is no list of metas
+pub record IsListCause (attributes : List Attribute) (e : EduceError) : Type 0 where
+  pub attribute : Attribute
+  pub tokens : List Token
+  pub stands : IsAmong attribute attributes
+  pub educe : IsEduce attribute tokens
+  pub cause : IsParseCause metas (inside tokens) e
+  pub has_place : e.kind ≢ Alloc

@@ -1,0 +1,9 @@
+pub mod Among
+pub mod Params
+pub mod Rows
+pub mod Usage
+pub mod Refusals
+pub mod Settings
+pub mod Metas
+pub mod Program
+pub mod Causes

@@ -1,0 +1,30 @@
+-- The parameters of traits.
+use Rattle.std.specs.Prelude.{ℕ, List, [], ◌∷◌, codes}
+use Rattle.educe_attrs_rows.specs.declared.param.Param.{Param}
+use Rattle.educe_attrs_rows.specs.declared.param.Param.TheVariants.{Name, NamedField, New, Expression, Ignore, Method, Rank, Bound}
+
+-- all parameters
+abbrev pub all_params : List Param
+all_params = Name ∷ NamedField ∷ New ∷ Expression ∷ Ignore ∷ Method ∷ Rank ∷ Bound ∷ []
+
+-- the word that names a parameter
+abbrev pub word_of : Param → List ℕ
+word_of Name = codes "name"
+word_of NamedField = codes "named_field"
+word_of New = codes "new"
+word_of Expression = codes "expression"
+word_of Ignore = codes "ignore"
+word_of Method = codes "method"
+word_of Rank = codes "rank"
+word_of Bound = codes "bound"
+
+-- the other word that names it; the same one where it has no other
+abbrev pub alias_of : Param → List ℕ
+alias_of Name = codes "rename"
+alias_of NamedField = codes "named_field"
+alias_of New = codes "new"
+alias_of Expression = codes "expr"
+alias_of Ignore = codes "ignore"
+alias_of Method = codes "method"
+alias_of Rank = codes "rank"
+alias_of Bound = codes "bound"

@@ -1,0 +1,22 @@
+-- The errors of attributes that their row does not allow, with their places and words.
+use Rattle.std.specs.Prelude.{[], ◌∷◌, encode_utf8_all}
+use Rattle.educe_tokens.specs.declared.error.EduceError.{EduceError}
+use Rattle.educe_tokens.specs.declared.error.Kind.TheVariants.{AttributeIncorrectPlace, AttributeIncorrectFormat, ParameterReset}
+use Rattle.educe_syntax.specs.MetaPath.{MetaPath}
+use Rattle.educe_attrs_values.specs.Refusals.{refusal, at_name}
+use Rattle.educe_attrs_values.specs.Words.{place_of, text_of}
+use Rattle.educe_attrs_rows.specs.declared.row.Row.{Row}
+use Rattle.educe_attrs_rows.specs.Usage.{with_usage}
+
+-- no form of the trait may stand there
+abbrev pub incorrect_place : MetaPath → EduceError
+incorrect_place path = at_name AttributeIncorrectPlace path
+
+-- the parameter stands there twice
+abbrev pub parameter_reset : MetaPath → EduceError
+parameter_reset path = at_name ParameterReset path
+
+-- a form is none of the row; the forms of the row are further words
+abbrev pub incorrect_format : Row → MetaPath → EduceError
+incorrect_format row path =
+    refusal AttributeIncorrectFormat (place_of path.written.tokens) (with_usage (text_of path ∷ []) (encode_utf8_all (text_of path)) row)

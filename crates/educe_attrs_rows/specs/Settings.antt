@@ -1,0 +1,221 @@
+-- What an attribute of a trait says.
+use Rattle.std.specs.Prelude.{ℤ, Bool, true, false, not, Option, Some, None, is_some, Result}
+use Rattle.educe_tokens.specs.declared.span.Span.{Span}
+use Rattle.educe_syntax.specs.Expr.{Expr}
+use Rattle.educe_syntax.specs.ExprPath.{ExprPath}
+use Rattle.educe_syntax.specs.Meta.{Meta}
+use Rattle.educe_syntax.specs.MetaPath.{MetaPath}
+use Rattle.educe_attrs_values.specs.declared.kind.ValueKind.{ValueKind}
+use Rattle.educe_attrs_values.specs.declared.kind.ValueKind.TheVariants as value
+use Rattle.educe_attrs_values.specs.declared.choices.IdentOrBool.{IdentOrBool}
+use Rattle.educe_attrs_values.specs.declared.choices.IdentOrBool.TheVariants as shown
+use Rattle.educe_attrs_values.specs.declared.choices.WherePredicatesOrBool.{WherePredicatesOrBool}
+use Rattle.educe_attrs_values.specs.declared.stop.Stop.{Stop}
+use Rattle.educe_attrs_values.specs.Chains.{map_ok}
+use Rattle.educe_attrs_values.specs.Kinds.{ValueOf}
+use Rattle.educe_attrs_values.specs.Readings.{value_of}
+use Rattle.educe_attrs_values.specs.Words.{meta_place}
+use Rattle.educe_attrs_rows.specs.declared.param.Param.{Param}
+use Rattle.educe_attrs_rows.specs.declared.param.Param.TheVariants.{Name, NamedField, New, Expression, Ignore, Method, Rank, Bound}
+use Rattle.educe_attrs_rows.specs.declared.row.Equals.{Equals}
+use Rattle.educe_attrs_rows.specs.declared.row.Equals.TheVariants as equals
+use Rattle.educe_attrs_rows.specs.declared.row.NameKind.{NameKind}
+use Rattle.educe_attrs_rows.specs.declared.row.NameKind.TheVariants as named
+use Rattle.educe_attrs_rows.specs.declared.row.Row.{Row}
+use Rattle.educe_attrs_rows.specs.declared.values.Rank.{Rank as Ranked}
+use Rattle.educe_attrs_rows.specs.declared.values.Values.{Values}
+
+-- ---- values
+
+-- nothing yet, of an attribute at this place
+abbrev pub values_at : Span → Values
+values_at place = record {
+  name = None;
+  named_field = None;
+  new = None;
+  expression = None;
+  ignore = None;
+  method = None;
+  rank = None;
+  bound = None;
+  flag = false;
+  span = place;
+}
+
+-- nothing, where no attribute stands
+abbrev pub no_values : Values
+no_values = values_at (record { start = 0; end = 0 })
+
+-- the trait alone, or an empty list
+abbrev pub bare_values : Span → Values
+bare_values place = record (values_at place) { flag = true }
+
+-- what a parameter gives
+abbrev pub Given : Param → Type 0
+Given Name = IdentOrBool
+Given NamedField = Bool
+Given New = Bool
+Given Expression = Expr
+Given Ignore = Bool
+Given Method = ExprPath
+Given Rank = Ranked
+Given Bound = WherePredicatesOrBool
+
+abbrev pub given : (p : Param) → Values → Option (Given p)
+given Name values = values.name
+given NamedField values = values.named_field
+given New values = values.new
+given Expression values = values.expression
+given Ignore values = values.ignore
+given Method values = values.method
+given Rank values = values.rank
+given Bound values = values.bound
+
+-- the values, where the parameter gives this
+abbrev pub set : (p : Param) → Given p → Values → Values
+set Name x values = record values { name = Some x }
+set NamedField b values = record values { named_field = Some b }
+set New b values = record values { new = Some b }
+set Expression x values = record values { expression = Some x }
+set Ignore b values = record values { ignore = Some b }
+set Method x values = record values { method = Some x }
+set Rank rank values = record values { rank = Some rank }
+set Bound x values = record values { bound = Some x }
+
+-- the parameter has a value
+abbrev pub has : Param → Values → Bool
+has p values = is_some (given p values)
+
+-- ---- the value of a parameter
+
+-- the kind of the value of `name`
+abbrev pub name_kind : Option NameKind → ValueKind
+name_kind None = value.Name
+name_kind (Some named.Ident) = value.Ident
+name_kind (Some (named.Name b)) = value.Name
+
+-- the name, of its value
+abbrev pub name_as : (kind : Option NameKind) → ValueOf (name_kind kind) → IdentOrBool
+name_as None x = x
+name_as (Some named.Ident) ident = shown.Ident ident
+name_as (Some (named.Name b)) x = x
+
+-- the kind of a parameter's value
+abbrev pub kind_of : Row → Param → ValueKind
+kind_of row Name = name_kind row.name
+kind_of row NamedField = value.Truth
+kind_of row New = value.Flag
+kind_of row Expression = value.Expr
+kind_of row Ignore = value.Flag
+kind_of row Method = value.Path
+kind_of row Rank = value.Integer
+kind_of row Bound = value.Bound
+
+-- an integer, and the place of the parameter that gives it
+abbrev pub ranked : Meta → ℤ → Ranked
+ranked meta n = record { number = n; span = meta_place meta }
+
+-- what a parameter gives, of its value
+abbrev pub given_as : (row : Row) (p : Param) → Meta → ValueOf (kind_of row p) → Given p
+given_as row Name meta x = name_as row.name x
+given_as row NamedField meta b = b
+given_as row New meta b = b
+given_as row Expression meta x = x
+given_as row Ignore meta b = b
+given_as row Method meta x = x
+given_as row Rank meta n = ranked meta n
+given_as row Bound meta x = x
+
+-- what a meta gives as this parameter
+abbrev pub give : (row : Row) (p : Param) → MetaPath → Meta → Result (Given p) Stop
+give row p path meta = map_ok (given_as row p meta) (value_of (kind_of row p) path meta)
+
+-- `name`
+abbrev pub name_by : Option NameKind → MetaPath → Meta → Result IdentOrBool Stop
+name_by None path meta = value_of value.Name path meta
+name_by (Some named.Ident) path meta = map_ok shown.Ident (value_of value.Ident path meta)
+name_by (Some (named.Name b)) path meta = value_of value.Name path meta
+
+-- `rank`
+abbrev pub rank_of : MetaPath → Meta → Result Ranked Stop
+rank_of path meta = map_ok (ranked meta) (value_of value.Integer path meta)
+
+-- ---- the values with that of one more parameter
+
+abbrev pub with_name : Option NameKind → MetaPath → Meta → Values → Result Values Stop
+with_name kind path meta values = map_ok (λ x. record values { name = Some x }) (name_by kind path meta)
+
+abbrev pub with_named_field : MetaPath → Meta → Values → Result Values Stop
+with_named_field path meta values = map_ok (λ b. record values { named_field = Some b }) (value_of value.Truth path meta)
+
+abbrev pub with_new : MetaPath → Meta → Values → Result Values Stop
+with_new path meta values = map_ok (λ b. record values { new = Some b }) (value_of value.Flag path meta)
+
+abbrev pub with_expression : MetaPath → Meta → Values → Result Values Stop
+with_expression path meta values = map_ok (λ x. record values { expression = Some x }) (value_of value.Expr path meta)
+
+abbrev pub with_ignore : MetaPath → Meta → Values → Result Values Stop
+with_ignore path meta values = map_ok (λ b. record values { ignore = Some b }) (value_of value.Flag path meta)
+
+abbrev pub with_method : MetaPath → Meta → Values → Result Values Stop
+with_method path meta values = map_ok (λ x. record values { method = Some x }) (value_of value.Path path meta)
+
+abbrev pub with_rank : MetaPath → Meta → Values → Result Values Stop
+with_rank path meta values = map_ok (λ rank. record values { rank = Some rank }) (rank_of path meta)
+
+abbrev pub with_bound : MetaPath → Meta → Values → Result Values Stop
+with_bound path meta values = map_ok (λ x. record values { bound = Some x }) (value_of value.Bound path meta)
+
+abbrev pub with_param : Row → Param → MetaPath → Meta → Values → Result Values Stop
+with_param row Name path meta values = with_name row.name path meta values
+with_param row NamedField path meta values = with_named_field path meta values
+with_param row New path meta values = with_new path meta values
+with_param row Expression path meta values = with_expression path meta values
+with_param row Ignore path meta values = with_ignore path meta values
+with_param row Method path meta values = with_method path meta values
+with_param row Rank path meta values = with_rank path meta values
+with_param row Bound path meta values = with_bound path meta values
+
+-- ---- the value behind `=`
+
+-- a value that may stand there: its kind, and what it says
+pub record Behind : Type 0 where
+  pub kind : ValueKind
+  pub says : ValueOf kind → Values → Values
+
+-- the field is kept, or it is ignored
+abbrev pub with_kept : Bool → Values → Values
+with_kept kept values = record values { ignore = Some (not kept) }
+
+-- the name that is shown, or whether the field is kept
+abbrev pub with_shown_or_kept : IdentOrBool → Values → Values
+with_shown_or_kept (shown.Ident ident) values = record values { name = Some (shown.Ident ident) }
+with_shown_or_kept (shown.Bool kept) values = with_kept kept values
+
+-- whether the field is kept
+abbrev pub kept : Behind
+kept = record { kind = value.Truth; says = with_kept }
+
+-- the name that is shown
+abbrev pub shown_name : Behind
+shown_name = record { kind = value.Ident; says = λ ident values. record values { name = Some (shown.Ident ident) } }
+
+-- the one or the other
+abbrev pub shown_or_kept : Behind
+shown_or_kept = record { kind = value.Name; says = with_shown_or_kept }
+
+-- the default value
+abbrev pub default_value : Behind
+default_value = record { kind = value.Expr; says = λ x values. record values { expression = Some x } }
+
+-- the value that may stand there, if one may
+abbrev pub behind : Equals → Option Behind
+behind equals.Nothing = None
+behind equals.Truth = Some kept
+behind equals.Ident = Some shown_name
+behind equals.Name = Some shown_or_kept
+behind equals.Expr = Some default_value
+
+-- what it says
+abbrev pub said_behind : Behind → MetaPath → Meta → Result Values Stop
+said_behind b name meta = map_ok (λ x. b.says x (values_at (meta_place meta))) (value_of b.kind name meta)
