@@ -24,13 +24,13 @@ for_place name meta (cause.equals b h value is own) = absurd (false≢true (sym 
 for_place name meta (cause.list h own) = absurd (false≢true (sym h))
 
 pub out_of_place : (meta : Meta) (e : EduceError) → IsCause no_row meta e → IsOutOfPlace meta e
-out_of_place meta e (cause.named name is own) = inr (name, is, for_place name meta own)
+out_of_place meta e (cause.own h) = inr (h.0, h.1, for_place h.0 meta h.2)
 out_of_place meta e cause.memory = inl refl
 
 -- so none is read
 place_stands : (meta : Meta) (name : MetaPath) → path_of meta ≡ Some name → HasNoCause no_row meta → ⊥
 place_stands meta name is none =
-    let same : AttributeIncorrectPlace ≡ Alloc = none.none_stands (incorrect_place name) (cause.named name is (cause.place refl)) in
+    let same : AttributeIncorrectPlace ≡ Alloc = none.none_stands (incorrect_place name) (cause.own (name, is, cause.place refl)) in
     cc
 
 pub never_read : (meta : Meta) → IsNamed meta → HasNoCause no_row meta → ⊥

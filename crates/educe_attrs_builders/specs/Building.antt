@@ -9,11 +9,11 @@ use Rattle.educe_attrs_rows.specs.declared.values.Values.{Values}
 use Rattle.educe_attrs_rows.specs.Causes.{Says, IsCause, HasNoCause}
 use Rattle.educe_attrs_places.specs.declared.place.FieldSettings.{FieldSettings}
 use Rattle.educe_attrs_places.specs.Causes.{Cause}
-use Rattle.educe_attrs_places.specs.Places.{own}
+use Rattle.educe_attrs_places.specs.Places.{own_settings}
 
 -- the attribute is of what the meta says, by the row of its place
 abbrev pub SaysAs : {A : Type 0} → Row → (FieldSettings → A → Type 0) → Meta → A → Type 0
-SaysAs row IsOf meta attribute = (values : Values) × Says row meta values × IsOf (own values) attribute
+SaysAs row IsOf meta attribute = (values : Values) × Says row meta values × IsOf (own_settings values) attribute
 
 -- what a call that reads a meta answers: an attribute of what the meta says, and then no cause stands; or a cause
 abbrev pub Reads : {A : Type 0} → Row → (FieldSettings → A → Type 0) → Meta → Result A EduceError → Type 0

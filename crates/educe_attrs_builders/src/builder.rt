@@ -82,7 +82,7 @@ pub trait TypeBuilder: AttributeBuilder {
         attributes: &Attributes,
         traits: &[Trait],
     ) -> Result<Self::Attribute, EduceError>
-        ensures settings { IfOk result (Self.IsOf self.now (places.own
+        ensures settings { IfOk result (Self.IsOf self.now (places.own_settings
             (places.place_settings Self.TRAIT (Self.row_of self.now) traits.now attributes.now))) }
         ensures cause { IfErr result (OfError
             (places.OfPlace Self.TRAIT (Self.row_of self.now) traits.now attributes.now)) }
