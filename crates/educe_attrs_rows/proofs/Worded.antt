@@ -13,7 +13,8 @@ use Rattle.educe_attrs_values.specs.Sources.{inside}
 use Rattle.educe_attrs_values.specs.Words.{text_of}
 use Rattle.educe_attrs_rows.specs.declared.row.Row.{Row}
 use Rattle.educe_attrs_rows.specs.Causes.{IsListCause, IsMetaCause, IsOwnCause, IsCause}
-use Rattle.educe_attrs_rows.specs.Usage.{line, with_line, with_heads, with_names, with_params, with_usage}
+use Rattle.educe_attrs_rows.specs.Settings.{kind_of}
+use Rattle.educe_attrs_rows.proofs.Lines.{usage_kept}
 
 -- those of values
 value_words : (k : ValueKind) (path : MetaPath) (meta : Meta) (e : EduceError) → IsValueCause k path meta e → HasWords e.kind e.words

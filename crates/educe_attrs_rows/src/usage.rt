@@ -76,8 +76,20 @@ fn with_names(alloc: Global, lines: Texts, name: &str, row: &Row) -> Result<Text
     let lines = with_line(alloc, lines, row.name.is_some(), name, "(name(NewName))")?;
     let lines = with_line(alloc, lines, shows_false(truth), name, "(name = false)")?;
     let lines = with_line(alloc, lines, shows_true(truth), name, "(name = true)")?;
-    let lines = with_line(alloc, lines, shows_false(named), name, "(named_field = false)")?;
-    with_line(alloc, lines, shows_true(named), name, "(named_field = true)")
+    let lines = with_line(
+        alloc,
+        lines,
+        shows_false(named),
+        name,
+        "(named_field = false)",
+    )?;
+    with_line(
+        alloc,
+        lines,
+        shows_true(named),
+        name,
+        "(named_field = true)",
+    )
 }
 
 /// The lines with a truth value behind `=`, and with the other parameters.

@@ -15,7 +15,7 @@ returns-in-Ok c = record {
 pub returns-in-Err : goal.returns-in-Err
 returns-in-Err c =
     let cause : IsCause c.args.row.now c.args.meta.now c.error_of.result =
-        subst (IsCause c.args.row.now c.args.meta.now) (sym c.error_of.ensures) (stop_cause c.args.row.now c.args.meta.now c.in-Err.stop c.in-Err.ensures) in
+    subst (IsCause c.args.row.now c.args.meta.now) (sym c.error_of.ensures) (stop_cause c.args.row.now c.args.meta.now c.in-Err.stop c.in-Err.ensures) in
     record {
       said = tt;
       cause = cause;

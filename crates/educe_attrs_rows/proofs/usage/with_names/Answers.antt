@@ -18,7 +18,7 @@ returns c =
     let second : c.in_ok-lines-2.lines ≡ two = c.in_ok-lines-2.ensures ∙ line_as name (codes "(name = false)") c.in_ok-lines.lines one c.shows_false.result (shows_false (shown row.name)) first off in
     let third : c.in_ok-lines-3.lines ≡ three = c.in_ok-lines-3.ensures ∙ line_as name (codes "(name = true)") c.in_ok-lines-2.lines two c.shows_true.result (shows_true (shown row.name)) second on in
     let fourth : c.in_ok-lines-4.lines ≡ four =
-        c.in_ok-lines-4.ensures ∙ line_as name (codes "(named_field = false)") c.in_ok-lines-3.lines three c.shows_false-2.result (shows_false row.named_field) third c.shows_false-2.ensures in
+    c.in_ok-lines-4.ensures ∙ line_as name (codes "(named_field = false)") c.in_ok-lines-3.lines three c.shows_false-2.result (shows_false row.named_field) third c.shows_false-2.ensures in
     ok_as c.with_line-5.result (with_line c.in_ok-lines-4.lines c.shows_true-2.result name (codes "(named_field = true)")) (with_line four (shows_true row.named_field) name (codes "(named_field = true)"))
     c.with_line-5.ensures
     (line_as name (codes "(named_field = true)") c.in_ok-lines-4.lines four c.shows_true-2.result (shows_true row.named_field) fourth c.shows_true-2.ensures)
