@@ -126,8 +126,12 @@ fn push_lint(alloc: Global, tokens: &mut TokenStream, meta: &Meta) -> Result<(),
     match meta {
         Meta::Word(path) if sets_level(path) => push_word(alloc, tokens, path),
         Meta::List(path, list, _) => push_of_list(alloc, tokens, path, list),
-        Meta::NameValue(path, value, _) if sets_level(path) => push_value(alloc, tokens, path, value),
-        Meta::Unread(path, behind, _) if sets_level(path) => push_tokens(alloc, tokens, path, behind),
+        Meta::NameValue(path, value, _) if sets_level(path) => push_value(
+            alloc, tokens, path, value,
+        ),
+        Meta::Unread(path, behind, _) if sets_level(path) => push_tokens(
+            alloc, tokens, path, behind,
+        ),
         _ => Ok(()),
     }
 }

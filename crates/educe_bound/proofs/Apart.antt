@@ -4,13 +4,14 @@ use Rattle.std.specs.Prelude.{◌↔◌, find, slice_index_or, IfSome}
 use Rattle.std.specs.List.{list_any}
 use Rattle.std.specs.Str.{bytes_eq}
 use Rattle.std.proofs.lemmas.Bool.{eqb-true, eq-eqb, false≢true}
+use Rattle.educe_tokens.specs.declared.token.Token.{Token}
 use Rattle.educe_syntax.specs.MetaPath.{MetaPath}
 use Rattle.educe_syntax.specs.Words.{IsOneWord}
+use Rattle.educe_attrs_values.proofs.OneWord.{one_word_to, one_word_from}
 use Rattle.educe_bound.specs.declared.traits.Trait.{Trait}
 use Rattle.educe_bound.specs.declared.traits.Trait.TheVariants.{Debug, Clone, Copy, PartialEq, Eq, PartialOrd, Ord, Hash, Default}
 use Rattle.educe_bound.specs.Traits.{variants, place, text_of, same_trait}
 use Rattle.educe_bound.specs.Named.{names_trait, trait_named}
-use Rattle.educe_bound.proofs.OneWord.{one_word_to, one_word_from, one_text}
 
 -- ---- places
 
@@ -54,6 +55,12 @@ of_name Default = refl
 -- traits of one name are one
 names_apart : (a b : Trait) → text_of a ≡ text_of b → a ≡ b
 names_apart a b e = let same : Some a ≡ Some b = sym (of_name a) ∙ ap trait_of e ∙ of_name b in cc
+
+-- one word is not two texts
+one_text : (tokens : List Token) (text other : List ℕ) → IsOneWord tokens text → IsOneWord tokens other → text ≡ other
+one_text [] text other h k = absurd h
+one_text (t ∷ []) text other h k = sym h.1 ∙ k.1
+one_text (t ∷ u ∷ ts) text other h k = absurd h
 
 -- ---- the trait that a path names
 

@@ -1,3 +1,3 @@
 pub mod Traits
-pub mod Words
 pub mod Named
+pub mod Bounds

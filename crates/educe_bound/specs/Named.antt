@@ -3,7 +3,7 @@ use Rattle.std.specs.Prelude.{Bool, find, Option}
 use Rattle.educe_syntax.specs.MetaPath.{MetaPath}
 use Rattle.educe_bound.specs.declared.traits.Trait.{Trait}
 use Rattle.educe_bound.specs.Traits.{text_of, variants}
-use Rattle.educe_bound.specs.Words.{is_one_word}
+use Rattle.educe_attrs_values.specs.Words.{is_one_word}
 
 -- the path is the name of the trait, as it is spelled
 abbrev pub names_trait : MetaPath → Trait → Bool

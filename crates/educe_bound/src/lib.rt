@@ -5,7 +5,6 @@
 mod bound;
 mod named;
 mod traits;
-mod word;
 
 pub use bound::Bound;
 pub use traits::{Trait, Traits, all_listed, each_once, is_listed, same_trait};

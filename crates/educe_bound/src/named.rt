@@ -3,14 +3,14 @@ ghost use Rattle.std.specs.Prelude.{◌≡◌, find};
 ghost use Rattle.educe_bound.specs.Named as spec;
 
 use crate::traits::Trait;
-use crate::word::is_one_word;
+use educe_attrs_values::is_one_word;
 use educe_syntax::MetaPath;
 
 /// Whether the path is the name of the trait.
 fn names_trait(path: &MetaPath, which: Trait) -> bool
     ensures { result ≡ spec.names_trait path.now which }
 {
-    is_one_word(path, which.name())
+    is_one_word(path.written.tokens().as_slice(), which.name())
 }
 
 /// The first of these traits that the path names.
