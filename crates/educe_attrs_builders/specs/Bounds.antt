@@ -1,9 +1,9 @@
 -- What is said of a type of which only `bound` may be said (documentation of `educe`, Generic parameters bound to the trait).
-use Rattle.std.specs.Prelude.{◌≡◌, Bool, true, false, Option, Some, None}
+use Rattle.std.specs.Prelude.{◌≡◌, Bool, Option, Some, None}
 use Rattle.educe_bound.specs.declared.bound.Bound.{Bound}
-use Rattle.educe_bound.specs.declared.bound.Bound.TheVariants.{Disabled, Auto, All, Custom}
+use Rattle.educe_bound.specs.Bounds as value
+use Rattle.educe_bound.specs.declared.bound.Bound.TheVariants.{Auto}
 use Rattle.educe_attrs_values.specs.declared.choices.WherePredicatesOrBool.{WherePredicatesOrBool}
-use Rattle.educe_attrs_values.specs.declared.choices.WherePredicatesOrBool.TheVariants as said
 use Rattle.educe_attrs_rows.specs.declared.row.Row.{Row}
 use Rattle.educe_attrs_rows.specs.declared.row.TheConstants.Row.{EMPTY}
 use Rattle.educe_attrs_places.specs.declared.place.FieldSettings.{FieldSettings}
@@ -13,13 +13,10 @@ use Rattle.educe_attrs_builders.specs.declared.bound_only.TypeAttribute.{TypeAtt
 abbrev pub bound_row : Bool → Bool → Row
 bound_row flag bound = record EMPTY { flag = flag; bound = bound }
 
--- the bound that is said: `true` and nothing mean those that the trait needs
+-- the bound that is said; without one, the bounds that the trait needs
 abbrev pub bound_of : Option WherePredicatesOrBool → Bound
 bound_of None = Auto
-bound_of (Some (said.Bool true)) = Auto
-bound_of (Some (said.Bool false)) = Disabled
-bound_of (Some said.All) = All
-bound_of (Some (said.WherePredicates predicates)) = Custom predicates
+bound_of (Some said) = value.bound_of said
 
 -- the attribute of a type of which only the bound is said
 abbrev pub bound_attribute : FieldSettings → TypeAttribute

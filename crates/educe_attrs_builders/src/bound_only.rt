@@ -30,11 +30,8 @@ pub(crate) fn bound_of(said: Option<WherePredicatesOrBool>) -> Bound
     ensures { result ≡ spec.bound_of said }
 {
     match said {
+        Some(value) => Bound::from_value(value),
         None => Bound::Auto,
-        Some(WherePredicatesOrBool::Bool(true)) => Bound::Auto,
-        Some(WherePredicatesOrBool::Bool(false)) => Bound::Disabled,
-        Some(WherePredicatesOrBool::All) => Bound::All,
-        Some(WherePredicatesOrBool::WherePredicates(predicates)) => Bound::Custom(predicates),
     }
 }
 
