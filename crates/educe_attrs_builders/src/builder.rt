@@ -89,7 +89,13 @@ pub trait TypeBuilder: AttributeBuilder {
         ensures uncaused { IfOk result (λ _. NoCause
             (places.OfPlace Self.TRAIT (Self.row_of self.now) traits.now attributes.now)) }
     {
-        match place_settings(alloc, Self::TRAIT, &self.row(), traits, attributes.as_slice()) {
+        match place_settings(
+            alloc,
+            Self::TRAIT,
+            &self.row(),
+            traits,
+            attributes.as_slice(),
+        ) {
             Ok(values) => {
                 let settings = FieldSettings {
                     values,
@@ -124,7 +130,13 @@ pub trait FieldBuilder: AttributeBuilder {
         ensures uncaused { IfOk result (λ _. NoCause
             (places.OfField Self.TRAIT (Self.row_of self.now) traits.now attributes.now)) }
     {
-        match field_settings(alloc, Self::TRAIT, &self.row(), traits, attributes.as_slice()) {
+        match field_settings(
+            alloc,
+            Self::TRAIT,
+            &self.row(),
+            traits,
+            attributes.as_slice(),
+        ) {
             Ok(settings) => match self.attribute(alloc, settings) {
                 Ok(attribute) => Ok(attribute),
                 Err(_) => Err(EduceError::alloc(alloc)),

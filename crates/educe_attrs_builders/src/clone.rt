@@ -4,6 +4,7 @@ ghost use Rattle.educe_attrs_builders.specs.Building.{Reads};
 ghost use Rattle.educe_attrs_builders.specs.Bounds.{bound_row, IsBound};
 ghost use Rattle.educe_attrs_builders.specs.Cloned as fields;
 
+pub use crate::bound_only::TypeAttribute;
 use crate::bound_only::{bound_attribute, bound_row};
 use crate::builder::{AttributeBuilder, FieldBuilder, TypeBuilder};
 use educe_attrs_places::FieldSettings;
@@ -12,8 +13,6 @@ use educe_bound::Trait;
 use educe_syntax::{ExprPath, Meta};
 use educe_tokens::EduceError;
 use std::alloc::{AllocError, Global};
-
-pub use crate::bound_only::TypeAttribute;
 
 /// The forms of the attribute that a type allows.
 #[derive(Clone, Copy)]

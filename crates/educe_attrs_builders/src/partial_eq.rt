@@ -5,18 +5,17 @@ ghost use Rattle.educe_attrs_builders.specs.Building.{Reads};
 ghost use Rattle.educe_attrs_builders.specs.Bounds.{bound_row, IsBound};
 ghost use Rattle.educe_attrs_builders.specs.Compared as fields;
 
+pub use crate::bound_only::TypeAttribute;
 use crate::bound_only::{bound_attribute, bound_row};
-use crate::compared::{compared_attribute, compared_row};
 use crate::builder::{AttributeBuilder, FieldBuilder, TypeBuilder};
+pub use crate::compared::FieldAttribute;
+use crate::compared::{compared_attribute, compared_row};
 use educe_attrs_places::FieldSettings;
 use educe_attrs_rows::Row;
 use educe_bound::Trait;
 use educe_syntax::Meta;
 use educe_tokens::EduceError;
 use std::alloc::{AllocError, Global};
-
-pub use crate::bound_only::TypeAttribute;
-pub use crate::compared::FieldAttribute;
 
 /// The forms of the attribute that a type allows.
 #[derive(Clone, Copy)]

@@ -5,17 +5,16 @@ ghost use Rattle.educe_attrs_builders.specs.Bounds.{bound_row, IsBound};
 ghost use Rattle.educe_attrs_builders.specs.Compared.{compared_row};
 ghost use Rattle.educe_attrs_builders.specs.PartialOrdered as fields;
 
+pub use crate::bound_only::TypeAttribute;
 use crate::bound_only::{bound_attribute, bound_row};
-use crate::compared::{compared_row, number_of, place_of};
 use crate::builder::{AttributeBuilder, FieldBuilder, TypeBuilder};
+use crate::compared::{compared_row, number_of, place_of};
 use educe_attrs_places::FieldSettings;
 use educe_attrs_rows::Row;
 use educe_bound::Trait;
 use educe_syntax::{ExprPath, Meta};
 use educe_tokens::{EduceError, Span};
 use std::alloc::{AllocError, Global};
-
-pub use crate::bound_only::TypeAttribute;
 
 /// The forms of the attribute that a type allows.
 #[derive(Clone, Copy)]
