@@ -23,7 +23,7 @@ pub fn key_word(alloc: Global, place: usize, field: &Field) -> Result<Word, Allo
 }
 
 /// The decimal digits of a place, as a word.
-fn index_word(alloc: Global, place: usize) -> Result<Word, AllocError>
+pub fn index_word(alloc: Global, place: usize) -> Result<Word, AllocError>
     ensures { IfOk result (λ word. word.text ≡ decimal place) }
 {
     let digits = place.to_string(alloc)?;

@@ -1,0 +1,25 @@
+-- What the calls of builders answer.
+use Rattle.std.specs.Prelude.{Result, MatchResult}
+use Rattle.educe_tokens.specs.declared.error.EduceError.{EduceError}
+use Rattle.educe_tokens.specs.declared.error.Kind.TheVariants.{Alloc}
+use Rattle.educe_tokens.specs.Refusals.{placeless}
+use Rattle.educe_syntax.specs.Meta.{Meta}
+use Rattle.educe_attrs_rows.specs.declared.row.Row.{Row}
+use Rattle.educe_attrs_rows.specs.declared.values.Values.{Values}
+use Rattle.educe_attrs_rows.specs.Causes.{Says, IsCause, HasNoCause}
+use Rattle.educe_attrs_places.specs.declared.place.FieldSettings.{FieldSettings}
+use Rattle.educe_attrs_places.specs.Causes.{Cause}
+use Rattle.educe_attrs_places.specs.Places.{own_settings}
+
+-- the attribute is of what the meta says, by the row of its place
+abbrev pub SaysAs : {A : Type 0} → Row → (FieldSettings → A → Type 0) → Meta → A → Type 0
+SaysAs row IsOf meta attribute = (values : Values) × Says row meta values × IsOf (own_settings values) attribute
+
+-- what a call that reads a meta answers: an attribute of what the meta says, and then no cause stands; or a cause
+abbrev pub Reads : {A : Type 0} → Row → (FieldSettings → A → Type 0) → Meta → Result A EduceError → Type 0
+Reads row IsOf meta result = MatchResult result (λ attribute. SaysAs row IsOf meta attribute × HasNoCause row meta) (λ e. IsCause row meta e)
+
+-- the refusal has the cause, or is for out of memory
+pub data OfError (P : Cause) : EduceError → Type 0 where
+  caused : {e : EduceError} → P e → OfError P e
+  memory : OfError P (placeless Alloc)
