@@ -24,12 +24,8 @@ pub use callee::callee_of;
 pub use educe_names::{UsedIdents, has_word, name_laws};
 pub use evaluator::{Outcome, Scope, eval};
 pub use form::{Form, Forms, Known};
-<<<<<<< HEAD
-pub use keys::key_word;
-pub use laws::{form_laws, key_laws};
-=======
 pub use keys::{index_word, key_word};
->>>>>>> b4576872eaafdf517b493917ce4e630cf7ab4f3d
+pub use laws::{form_laws, key_laws};
 pub use shared::Shared;
 pub use speller::spell;
 pub use value::{FieldValue, FieldValues, Value};
