@@ -1,12 +1,16 @@
 -- What a search of a text for a run of ASCII characters says of the characters.
-use Rattle.std.proofs.Common.{◌≡◌, ◌≢◌, ℕ, ◌<◌, ◌≤◌, List, ◌++◌, length, take, drop, chars, sym, ap, ◌∙◌, subst, arith, append_assoc, take-append-drop, length-append}
+use Rattle.std.proofs.Common.{◌≡◌, ◌≢◌, ℕ, ◌<◌, ◌≤◌, false, List, [], ◌∷◌, ◌++◌, length, get_or, take, drop, chars, sym, ap, ◌∙◌, subst, arith, append_assoc, take-append-drop, length-append}
 use Rattle.std.specs.Prelude.{encode_utf8_all}
-use Rattle.std.specs.Str.{IsUtf8, IsAscii}
+use Rattle.std.specs.Str.{IsUtf8, IsAscii, IsCharBoundary}
 use Rattle.std.specs.Str.Iter.{HasSubslice}
 use Rattle.std.specs.Str.Pattern.{LacksTextAt, HasTextAt, FindsText, SplitsAroundMatch}
 use Rattle.std.proofs.Math.Seq.{drop-append_seam}
+use Rattle.std.proofs.lemmas.Bool.{false_from_ne_true}
 use Rattle.std.proofs.lemmas.List.{length-take-le}
-use Rattle.std.proofs.lemmas.Str.{encodes-chars, encodes-append, encodes-IsAscii, length-le-encodes, chars-append, chars-IsAscii, IsUtf8-from_ascii}
+use Rattle.std.proofs.lemmas.Str.{encodes-chars, encodes-append, encodes-IsAscii, length-le-encodes, chars-append, chars-IsAscii, IsUtf8-from_ascii, IsCharBoundary-after_ascii}
+use Rattle.std.proofs.lemmas.Str.Ascii.{IsAscii-cons, IsAscii-nil}
+use Rattle.educe_tokens_pieces.specs.Fronts.{begins_pair}
+use Rattle.educe_tokens_pieces.proofs.BlockLaws.{pair_is}
 
 -- the bytes of a text in two parts
 parts_bytes : (bs xs ys : List ℕ) → IsUtf8 bs → chars bs ≡ xs ++ ys → bs ≡ encode_utf8_all xs ++ encode_utf8_all ys
@@ -55,3 +59,31 @@ split_run run bs front back a u v w s =
       run_parts run bs s.0 s.1 a u before behind s.2.1 ∙ (λ k. (chars (sym s.3 k) ++ run) ++ chars (sym s.4 k)),
       subst (λ q. IsFirstRun run (chars q)) (sym s.3) (first_run run bs s.0 s.1 a before within s.2.0 s.2.1),
     )
+
+-- two ASCII characters at the front
+pub pair_parts : (bs : List ℕ) (a b : ℕ) → a < 128 → b < 128 → get_or bs 0 0 ≡ a → get_or bs 1 0 ≡ b → 2 ≤ length bs → bs ≡ a ∷ b ∷ drop 2 bs
+pair_parts [] a b f g d e long = absurd (omega arith)
+pair_parts (c ∷ []) a b f g d e long = absurd (omega arith)
+pair_parts (c ∷ x ∷ bs) a b f g d e long = λ i. d i ∷ e i ∷ bs
+
+pair_ascii : (a b : ℕ) → a < 128 → b < 128 → IsAscii (a ∷ b ∷ [])
+pair_ascii a b f g = IsAscii-cons a (b ∷ []) f (IsAscii-cons b [] g IsAscii-nil)
+
+-- the text may be cut behind them
+pub pair_cut : (bs : List ℕ) (a b : ℕ) → a < 128 → b < 128 → IsUtf8 bs → bs ≡ a ∷ b ∷ drop 2 bs → IsCharBoundary bs 2
+pair_cut bs a b f g u e =
+    let long : 1 < length bs = omega (arith, ap length e) in
+    let last : get_or bs 1 0 < 128 = omega (arith, ap (λ t. get_or t 1 0) e, g) in
+    IsCharBoundary-after_ascii bs 1 u long last
+
+-- its characters are they and those behind them
+pub pair_chars : (bs : List ℕ) (a b : ℕ) → a < 128 → b < 128 → bs ≡ a ∷ b ∷ drop 2 bs → chars bs ≡ a ∷ b ∷ chars (drop 2 bs)
+pair_chars bs a b f g e =
+    ap chars e ∙ chars-append (a ∷ b ∷ []) (drop 2 bs) (IsUtf8-from_ascii (a ∷ b ∷ []) (pair_ascii a b f g)) ∙ ap (λ cs. cs ++ chars (drop 2 bs)) (chars-IsAscii (a ∷ b ∷ []) (pair_ascii a b f g))
+
+-- where the bytes don't begin with them, the characters don't
+pub pair_none : (bs : List ℕ) (a b : ℕ) → a < 128 → b < 128 → IsUtf8 bs → ((ys : List ℕ) → bs ≢ a ∷ b ∷ ys) → begins_pair a b (chars bs) ≡ false
+pair_none bs a b f g u none =
+    false_from_ne_true (begins_pair a b (chars bs)) (λ h.
+    let m = pair_is a b (chars bs) h in
+    none (encode_utf8_all m.0) (parts_bytes bs [] (a ∷ b ∷ m.0) u m.1 ∙ run_bytes (a ∷ b ∷ []) m.0 (pair_ascii a b f g)))
