@@ -4,12 +4,7 @@ use Rattle.educe_tokens.specs.declared.error.EduceError.{EduceError}
 use Rattle.educe_attrs_values.specs.declared.stop.Stop.{Stop}
 use Rattle.educe_attrs_values.specs.declared.stop.Stop.TheVariants.{Refused}
 use Rattle.educe_attrs_values.specs.Chains.{and_then, map_ok}
-
-pub ok_one : {A E : Type 0} {x y : A} → ◌≡◌ {A = Result A E} (Ok x) (Ok y) → x ≡ y
-ok_one h = cc
-
-pub err_one : {A E : Type 0} {x y : E} → ◌≡◌ {A = Result A E} (Err x) (Err y) → x ≡ y
-err_one h = cc
+pub use Rattle.educe_attrs_values.proofs.ByRule.{ok_one, err_one}
 
 pub chained : {A B E : Type 0} (f : A → Result B E) (r : Result A E) (y : B) → and_then f r ≡ Ok y → (x : A) × (r ≡ Ok x) × (f x ≡ Ok y)
 chained f (Ok x) y h = (x, refl, h)

@@ -1,5 +1,5 @@
 -- The lines of a message, one behind the other.
-use Rattle.std.proofs.Common.{◌≡◌, ◌∙◌, ℕ, ◌<◌, Bool, true, false, List, [], ◌∷◌, ◌++◌, length, length-append, arith, codes, Result, Ok, Err}
+use Rattle.std.proofs.Common.{◌≡◌, ◌∙◌, ℕ, ◌<◌, Bool, true, false, List, [], ◌∷◌, length, length-append, arith, codes, Result, Ok, Err}
 use Rattle.std.specs.Prelude.{IfOk, is_some}
 use Rattle.educe_attrs_rows.specs.declared.row.Row.{Row}
 use Rattle.educe_attrs_rows.specs.Usage.{line, with_line, takes_name, takes_expression, takes_truth, shown, shows_false, shows_true, with_heads, with_names, with_params, with_usage}

@@ -13,7 +13,7 @@ use Rattle.educe_syntax.specs.Laws.{lawful_metas}
 use Rattle.educe_syntax.specs.Meta.{Meta}
 use Rattle.educe_syntax.specs.Meta.TheVariants as said
 use Rattle.educe_syntax.specs.MetaPath.{MetaPath}
-use Rattle.educe_syntax.specs.Parsed.{IsWhole, IsParseCause}
+use Rattle.educe_syntax.specs.Parsed.{IsWhole}
 use Rattle.educe_attrs_values.specs.declared.stop.Stop.{Stop}
 use Rattle.educe_attrs_values.specs.declared.stop.Stop.TheVariants.{Memory, Refused}
 use Rattle.educe_attrs_values.specs.Causes.{IsValueCause}
@@ -27,12 +27,12 @@ use Rattle.educe_attrs_rows.specs.declared.param.Param.{Param}
 use Rattle.educe_attrs_rows.specs.declared.row.Row.{Row}
 use Rattle.educe_attrs_rows.specs.declared.values.Values.{Values}
 use Rattle.educe_attrs_rows.specs.Among.{IsAmong}
-use Rattle.educe_attrs_rows.specs.Causes.{param_in, IsReset, is_bare, AreGiven, Lists, Says, HasWrongForm, HasValue, IsListCause, IsMetaCause, IsOwnCause, IsCause, HasNoCause}
+use Rattle.educe_attrs_rows.specs.Causes.{AreGiven, Lists, Says, HasWrongForm, HasValue, IsListCause, IsMetaCause, IsOwnCause, IsCause, HasNoCause}
 use Rattle.educe_attrs_rows.specs.Metas.{metas_in}
-use Rattle.educe_attrs_rows.specs.Program.{read_params, read_bare, read_word, equals_as, read_equals, read_metas, read_list, placed, read_meta}
-use Rattle.educe_attrs_rows.specs.Refusals.{incorrect_place, incorrect_format, parameter_reset}
+use Rattle.educe_attrs_rows.specs.Program.{read_bare, read_word, equals_as, read_equals, read_metas, read_list, placed, read_meta}
+use Rattle.educe_attrs_rows.specs.Refusals.{incorrect_place, incorrect_format}
 use Rattle.educe_attrs_rows.specs.Rows.{param_of, is_empty}
-use Rattle.educe_attrs_rows.specs.Settings.{values_at, bare_values, given, kind_of, Behind, behind}
+use Rattle.educe_attrs_rows.specs.Settings.{values_at, bare_values, kind_of, Behind, behind}
 use Rattle.educe_attrs_rows.proofs.Among.{among_none}
 use Rattle.educe_attrs_rows.proofs.Chained.{ok_one, err_one, chained, mapped, mapped_err, refused_one}
 use Rattle.educe_attrs_rows.proofs.Listed.{metas_read, metas_back, metas_refused}

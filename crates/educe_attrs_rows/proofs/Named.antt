@@ -1,5 +1,5 @@
 -- The metas of a list have names: none is documentation, and none has a value that isn't read.
-use Rattle.std.proofs.Common.{◌≡◌, ℕ, Bool, List, [], ◌∷◌, sym, subst, inl, inr}
+use Rattle.std.proofs.Common.{ℕ, Bool, List, sym, subst, inl, inr}
 use Rattle.std.specs.List.{AllByRecursion}
 use Rattle.educe_tokens.specs.declared.token.Token.{Token}
 use Rattle.educe_syntax.specs.Attributes.{MetaTail, no_tail, group_tail, value_tail, unread_tail, meta_of, meta, metas, meta_path, written_group, at_group}

@@ -8,10 +8,9 @@ use Rattle.educe_syntax.specs.Meta.{Meta}
 use Rattle.educe_syntax.specs.MetaPath.{MetaPath}
 use Rattle.educe_attrs_values.specs.declared.kind.ValueKind.TheVariants as value
 use Rattle.educe_attrs_values.specs.declared.stop.Stop.{Stop}
-use Rattle.educe_attrs_values.specs.declared.stop.Stop.TheVariants.{Memory, Refused}
+use Rattle.educe_attrs_values.specs.declared.stop.Stop.TheVariants.{Refused}
 use Rattle.educe_attrs_values.specs.Causes.{IsValueCause}
 use Rattle.educe_attrs_values.specs.Chains.{and_then, map_ok}
-use Rattle.educe_attrs_values.specs.Kinds.{ValueOf}
 use Rattle.educe_attrs_values.specs.Readings.{value_of}
 use Rattle.educe_attrs_values.specs.Words.{path_of}
 use Rattle.educe_attrs_values.proofs.ValueLaws.{lawful_kind}
@@ -26,9 +25,9 @@ use Rattle.educe_attrs_rows.specs.Causes.{param_in, Gives, IsGiven, IsReset}
 use Rattle.educe_attrs_rows.specs.Program.{add_param, add_named, next_param, read_params}
 use Rattle.educe_attrs_rows.specs.Refusals.{incorrect_format, parameter_reset}
 use Rattle.educe_attrs_rows.specs.Rows.{param_of}
-use Rattle.educe_attrs_rows.specs.Settings.{values_at, bare_values, Given, given, set, has, kind_of, name_kind, name_as, given_as, ranked, give, name_by, rank_of, with_param}
+use Rattle.educe_attrs_rows.specs.Settings.{values_at, bare_values, Given, given, set, has, kind_of, name_kind, name_as, given_as, give, name_by, with_param}
 use Rattle.educe_attrs_rows.proofs.Among.{among_none, among_first, among_more, among_cases}
-use Rattle.educe_attrs_rows.proofs.Chained.{ok_one, err_one, chained, mapped, mapped_err, twice_mapped, mapped_same, refused_one}
+use Rattle.educe_attrs_rows.proofs.Chained.{ok_one, chained, mapped, mapped_err, twice_mapped, mapped_same, refused_one}
 
 -- ---- what is set
 

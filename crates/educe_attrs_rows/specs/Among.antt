@@ -1,5 +1,5 @@
 -- Items of lists.
-use Rattle.std.specs.Prelude.{◌≡◌, List, [], ◌∷◌, ◌++◌}
+use Rattle.std.specs.Prelude.{◌≡◌, List, ◌∷◌, ◌++◌}
 
 -- it stands in the list
 pub record IsAmong {X : Type 0} (x : X) (xs : List X) : Type 0 where
