@@ -1,10 +1,8 @@
 -- What `Default` says of a type, a variant or a field (documentation of `educe`, Default).
-use Rattle.std.specs.Prelude.{◌≡◌, true, false, if◌then◌else◌, Option, Some, None, unwrap_or}
+use Rattle.std.specs.Prelude.{◌≡◌, false, if◌then◌else◌, Option, Some, None, unwrap_or}
 use Rattle.educe_syntax.specs.Expr.{Expr}
-use Rattle.educe_syntax.specs.ExprForm.TheVariants.{Other}
 use Rattle.educe_syntax.specs.Ty.{Ty}
-use Rattle.educe_tokens.specs.WrittenLexemes.{written_lexemes}
-use Rattle.educe_attrs_generated.specs.Adjusted.{is_converted, adjusted}
+use Rattle.educe_attrs_generated.specs.Adjusted as value
 use Rattle.educe_attrs_rows.specs.declared.row.Row.{Row}
 use Rattle.educe_attrs_rows.specs.declared.row.TheConstants.Row.{EMPTY}
 use Rattle.educe_attrs_rows.specs.declared.row.Equals.TheVariants as equals
@@ -16,18 +14,12 @@ use Rattle.educe_attrs_builders.specs.declared.default.FieldAttribute.{FieldAttr
 use Rattle.educe_attrs_builders.specs.declared.default.FieldAttributeBuilder.{FieldAttributeBuilder}
 use Rattle.educe_attrs_builders.specs.Bounds.{bound_of}
 
--- the value as it is written for a field of the type, if there is one: converted, or as it was
-pub record IsWrittenFor (ty : Option Ty) (said written : Expr) : Type 0 where
-  pub tokens : written_lexemes written.written ≡ adjusted said.written ty
-  pub kept : is_converted said.written.tokens ty ≡ false → written ≡ said
-  pub form : is_converted said.written.tokens ty ≡ true → written.form ≡ Other
-
--- the default value as it is written; where none is said there is none
+-- the default value as it is written for a field of the type, if there is one; where none is said there is none
 abbrev pub IsAdjusted : Option Expr → Option Ty → Option Expr → Type 0
 IsAdjusted None ty None = Unit {0}
 IsAdjusted None ty (Some x) = ⊥
 IsAdjusted (Some said) ty None = ⊥
-IsAdjusted (Some said) ty (Some x) = IsWrittenFor ty said x
+IsAdjusted (Some said) ty (Some x) = value.IsAdjusted said ty x
 
 -- ---- types and variants
 
