@@ -75,7 +75,7 @@ pub trait AttributeBuilder {
 pub trait TypeBuilder: AttributeBuilder {
     /// What the attributes of a type or a variant say of the trait. They are refused exactly where
     /// they have a cause, or memory fails.
-    #[tactic(auto, using(crate::proofs::Refused::memory_of_place, crate::proofs::Refused::stopped))]
+    #[tactic(auto, using(crate::proofs::Refused::memory_of_place, crate::proofs::Refused::stopped, crate::proofs::Settings::said_as))]
     final fn build_from_attributes(
         &self,
         alloc: Global,
@@ -84,6 +84,8 @@ pub trait TypeBuilder: AttributeBuilder {
     ) -> Result<Self::Attribute, EduceError>
         ensures settings { IfOk result (Self.IsOf self.now (places.own_settings
             (places.place_settings Self.TRAIT (Self.row_of self.now) traits.now attributes.now))) }
+        ensures said { IfOk result (λ _. places.IsSaid Self.TRAIT (Self.row_of self.now) attributes.now
+            (places.place_settings Self.TRAIT (Self.row_of self.now) traits.now attributes.now)) }
         ensures cause { IfErr result (OfError
             (places.OfPlace Self.TRAIT (Self.row_of self.now) traits.now attributes.now)) }
         ensures uncaused { IfOk result (λ _. NoCause
@@ -116,7 +118,7 @@ pub trait FieldBuilder: AttributeBuilder {
     /// What the attributes of a field say of the trait; of an order that has none of its own, those
     /// of the other one, where both are listed. They are refused exactly where they have a cause, or
     /// memory fails.
-    #[tactic(auto, using(crate::proofs::Refused::memory_of_place, crate::proofs::Refused::stopped))]
+    #[tactic(auto, using(crate::proofs::Refused::memory_of_place, crate::proofs::Refused::stopped, crate::proofs::Settings::field_said_as))]
     final fn build_from_attributes(
         &self,
         alloc: Global,
@@ -124,6 +126,8 @@ pub trait FieldBuilder: AttributeBuilder {
         traits: &[Trait],
     ) -> Result<Self::Attribute, EduceError>
         ensures settings { IfOk result (Self.IsOf self.now
+            (places.field_settings Self.TRAIT (Self.row_of self.now) traits.now attributes.now)) }
+        ensures said { IfOk result (λ _. places.IsFieldSaid Self.TRAIT (Self.row_of self.now) traits.now attributes.now
             (places.field_settings Self.TRAIT (Self.row_of self.now) traits.now attributes.now)) }
         ensures cause { IfErr result (OfError
             (places.OfField Self.TRAIT (Self.row_of self.now) traits.now attributes.now)) }

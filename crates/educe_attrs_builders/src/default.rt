@@ -185,7 +185,7 @@ impl FieldAttributeBuilder {
 
     /// What the attributes of a field of the type say of `Default`. They are refused exactly where
     /// they have a cause, or memory fails.
-    #[tactic(auto, using(crate::proofs::Refused::memory_of_place, crate::proofs::Refused::stopped))]
+    #[tactic(auto, using(crate::proofs::Refused::memory_of_place, crate::proofs::Refused::stopped, crate::proofs::Settings::field_said_as))]
     pub fn build_from_attributes(
         &self,
         alloc: Global,
@@ -195,6 +195,8 @@ impl FieldAttributeBuilder {
     ) -> Result<FieldAttribute, EduceError>
         ensures settings { IfOk result (spec.IsField ty.now
             (places.field_settings derived.Default (spec.field_row self.now) traits.now attributes.now).values) }
+        ensures said { IfOk result (λ _. places.IsFieldSaid derived.Default (spec.field_row self.now) traits.now attributes.now
+            (places.field_settings derived.Default (spec.field_row self.now) traits.now attributes.now)) }
         ensures cause { IfErr result (OfError
             (places.OfField derived.Default (spec.field_row self.now) traits.now attributes.now)) }
         ensures uncaused { IfOk result (λ _. NoCause
