@@ -10,13 +10,7 @@ use Rattle.educe_syntax.specs.Reads.{read}
 use Rattle.educe_syntax.specs.Attributes.{metas}
 use Rattle.educe_syntax.specs.Parsed.{depth_limit, IsWhole, IsParseCause, syntax, too_deep, memory, stop_of}
 use Rattle.educe_syntax.specs.Laws.{lawful_metas}
-use Rattle.educe_attrs.specs.Metas.{inside, whole_value, metas_in, AreMetasInside}
-
--- what was read to its end
-ended : {A : Type 0} (read : Outcome A) (x : A) → whole_value read ≡ Some x → read ≡ Ok (x, [])
-ended (Ok (y, [])) x h = let same : y ≡ x = cc in ap (λ z. Ok (z, [])) same
-ended (Ok (y, t ∷ rest)) x h = absurd (cc)
-ended (Err e) x h = absurd (cc)
+use Rattle.educe_attrs.specs.Metas.{inside, whole_value, metas_in}
 
 -- what stops has no value
 stopped : {A : Type 0} (read : Outcome A) (e : ParseError) → stop_of read ≡ Some e → whole_value read ≡ None
@@ -30,16 +24,9 @@ unfolding metas_in
 found_inside tokens inner found is whole =
     sym (ap whole_value (ap (λ ts. read depth_limit metas ts) (sym is) ∙ (lawful_metas.by_program inner found).0 whole))
 
--- a refusal that is no want of memory says that there are none
+-- an error other than out of memory says that there are none
 pub none_inside : (tokens inner : List Token) (e : EduceError) → inner ≡ inside tokens → IsParseCause metas inner e → (e.kind ≡ Alloc) ⊎ (None ≡ metas_in tokens)
 unfolding metas_in
 none_inside tokens inner e is (syntax left no_reading stop) = inr (sym (ap (λ ts. whole_value (read depth_limit metas ts)) (sym is) ∙ stopped (read depth_limit metas inner) _ stop))
 none_inside tokens inner e is (too_deep front rest t no_reading stop where_is deep) = inr (sym (ap (λ ts. whole_value (read depth_limit metas ts)) (sym is) ∙ stopped (read depth_limit metas inner) _ stop))
 none_inside tokens inner e is memory = inl refl
-
--- the metas in a bracket pair are those of the grammar
-pub are_metas_inside : (tokens : List Token) → AreMetasInside tokens
-unfolding metas_in
-are_metas_inside tokens found =
-    let by_program = lawful_metas.by_program (inside tokens) found in
-    ((λ h. by_program.1 (ended (read depth_limit metas (inside tokens)) found h)), (λ h. ap whole_value (by_program.0 h)))

@@ -2,6 +2,7 @@ pub mod Gathered
 pub mod Words
 pub mod Rank
 pub mod Metas
+pub mod Laws
 pub mod Named
 pub mod Params
 pub mod Settings

@@ -15,9 +15,9 @@ use Rattle.educe_syntax.specs.Meta.{Meta}
 use Rattle.educe_syntax.specs.Meta.TheVariants as said
 use Rattle.educe_syntax.specs.MetaPath.{MetaPath}
 use Rattle.educe_syntax.specs.Parsed.{IsWhole, IsParseCause}
-use Rattle.educe_attrs_generated.specs.Inside.{inside}
+use Rattle.educe_attrs_values.specs.Sources.{inside}
 use Rattle.educe_attrs_generated.specs.Packed.{says_packed, ListsPacked, Packs}
-use Rattle.educe_attrs_generated.specs.Words.{is_one_word}
+use Rattle.educe_attrs_values.specs.Words.{is_one_word}
 
 -- the metas that were read are the only ones
 pub listed : (tokens inner : List Token) (found slice : List Meta) (r : Bool) → inner ≡ inside tokens → IsWhole metas inner found → slice ≡ found

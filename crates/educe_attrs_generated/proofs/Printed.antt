@@ -14,7 +14,7 @@ use Rattle.educe_syntax.specs.Attribute.{Attribute}
 use Rattle.educe_syntax.specs.Meta.{Meta}
 use Rattle.educe_syntax.specs.Meta.TheVariants as said
 use Rattle.educe_syntax.specs.MetaPath.{MetaPath}
-use Rattle.educe_attrs_generated.specs.Inside.{inside}
+use Rattle.educe_attrs_values.specs.Sources.{inside}
 use Rattle.educe_attrs_generated.specs.Lints.{sets_level, expects, attribute, allowing, allowed, lint_of_list, lint_of, lints, impl_attributes}
 use Rattle.educe_attrs_generated.specs.Adjusted.{into}
 

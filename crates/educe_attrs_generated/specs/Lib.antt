@@ -1,5 +1,3 @@
-pub mod Words
-pub mod Inside
 pub mod Lints
 pub mod Packed
 pub mod Types

@@ -11,8 +11,8 @@ use Rattle.educe_syntax.specs.Attribute.{Attribute}
 use Rattle.educe_syntax.specs.Meta.{Meta}
 use Rattle.educe_syntax.specs.Meta.TheVariants as said
 use Rattle.educe_syntax.specs.MetaPath.{MetaPath}
-use Rattle.educe_attrs_generated.specs.Inside.{inside}
-use Rattle.educe_attrs_generated.specs.Words.{is_one_word}
+use Rattle.educe_attrs_values.specs.Sources.{inside}
+use Rattle.educe_attrs_values.specs.Words.{is_one_word}
 
 -- ---- one attribute
 

@@ -8,8 +8,8 @@ use Rattle.educe_syntax.specs.Meta.{Meta}
 use Rattle.educe_syntax.specs.Meta.TheVariants as said
 use Rattle.educe_syntax.specs.MetaPath.{MetaPath}
 use Rattle.educe_syntax.specs.Parsed.{IsWhole}
-use Rattle.educe_attrs_generated.specs.Inside.{inside}
-use Rattle.educe_attrs_generated.specs.Words.{is_one_word}
+use Rattle.educe_attrs_values.specs.Sources.{inside}
+use Rattle.educe_attrs_values.specs.Words.{is_one_word}
 
 -- the path is `packed`
 abbrev pub is_packed_path : MetaPath → Bool

@@ -6,7 +6,7 @@ ghost use Rattle.educe_tokens.specs.WrittenLexemes.{written_lexemes};
 ghost use Rattle.educe_attrs_generated.specs.Adjusted as spec;
 
 use crate::primitive::{is_bytes, is_integer, is_primitive, is_text};
-use crate::word::is_word;
+use educe_attrs_values::is_word;
 use educe_syntax::{Expr, ExprForm, Ty};
 use educe_tokens::{
     LiteralKind, Seq, Token, TokenKind, TokenSlice, TokenStream, Written, append_written, quote,

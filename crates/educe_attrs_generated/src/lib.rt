@@ -5,7 +5,6 @@
 
 mod adjusted;
 mod balanced;
-mod inside;
 mod lints;
 mod packed;
 mod primitive;

@@ -9,8 +9,8 @@ ghost use Rattle.educe_tokens.specs.WrittenLexemes.{written_lexemes};
 ghost use Rattle.educe_attrs_generated.specs.Lints as spec;
 
 use crate::balanced::may_be_copied;
-use crate::inside::inside;
 use crate::word::is_one_word;
+use educe_attrs_values::inside;
 use educe_syntax::{Attributes, Expr, Meta, MetaPath};
 use educe_tokens::{Seq, TokenSlice, TokenStream, Written, append_written, quote};
 use std::alloc::{AllocError, Global};

@@ -3,8 +3,8 @@ ghost use Rattle.std.specs.Prelude.{◌≡◌, ◌↔◌, IsTrue, IfOk};
 ghost use Rattle.std.specs.List.{list_any};
 ghost use Rattle.educe_attrs_generated.specs.Packed as spec;
 
-use crate::inside::inside;
 use crate::word::is_one_word;
+use educe_attrs_values::inside;
 use educe_syntax::{Attributes, Meta, MetaPath, parse_metas};
 use educe_tokens::{Kind, TokenSlice};
 use std::alloc::{AllocError, Global};

@@ -1,20 +1,12 @@
 -- The texts of strings (Rust Reference, String literals; Raw string literals).
-use Rattle.std.specs.Prelude.{ℕ, ◌==◌, List, [], ◌∷◌, drop, if◌then◌else◌, Option, Some, None}
+use Rattle.std.specs.Prelude.{ℕ, List, [], ◌∷◌, Option, Some, None}
 use Rattle.educe_tokens.specs.LiteralKind.TheVariants.{Int, Str, ByteStr, Char, Byte}
+use Rattle.educe_tokens.specs.StringValue.{literal_text}
 use Rattle.educe_tokens.specs.TokenKind.{TokenKind}
 use Rattle.educe_tokens.specs.TokenKind.TheVariants as token
-use Rattle.educe_tokens.specs.QuoteKind.TheVariants.{Str as InStr}
-use Rattle.educe_tokens.specs.Within.TheVariants.{Open}
-use Rattle.educe_tokens.specs.Chars.{begins}
-use Rattle.educe_tokens.specs.Machine.{given}
-use Rattle.educe_tokens.specs.RawStrings.{raw_value}
 use Rattle.educe_tokens.specs.declared.token.Token.{Token}
 
--- the text of a string literal: between the quotes of a raw one, or what the parts of another stand for
-abbrev pub literal_text : List ℕ → List ℕ
-literal_text spelling = if begins (λ c. c == 114) spelling then raw_value spelling else given (Open InStr) (drop 1 spelling)
-
--- the text of a token that is a string; any other has none
+-- the text of a token that is a string; any other has none, documentation neither
 abbrev pub text_of_kind : TokenKind → List ℕ → Option (List ℕ)
 text_of_kind (token.Literal Str) spelling = Some (literal_text spelling)
 text_of_kind (token.Literal Int) spelling = None

@@ -8,7 +8,7 @@ use educe_tokens::{Span, Spelling, Token};
 use std::alloc::{AllocError, Global};
 
 /// Whether the token is the word as it is spelled, with no `r#`.
-fn is_word(token: &Token, word: &str) -> bool
+pub fn is_word(token: &Token, word: &str) -> bool
     ensures { result ≡ spec.is_word (chars word.now) token.now }
 {
     Terminal::AnyWord.accepts(token) && is_spelled(&token.spelling, word)

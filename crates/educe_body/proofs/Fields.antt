@@ -6,11 +6,11 @@ use Rattle.std.specs.List.{AllByRecursion}
 use Rattle.std.specs.Str.{bytes_eq}
 use Rattle.std.proofs.lemmas.Slice.Eq.{bytes_eq-Decides}
 use Rattle.educe_body.specs.declared.value.FieldValue.{FieldValue}
-use Rattle.educe_body.specs.declared.evaluator.Flow.{Flow}
 use Rattle.educe_body.specs.declared.evaluator.Flow.TheVariants.{Gives}
 use Rattle.educe_body.specs.declared.evaluator.Thing.TheVariants.{Part}
 use Rattle.educe_body.specs.Keys.{AreDifferent}
 use Rattle.educe_body.specs.Meaning.{part_of}
+use Rattle.educe_body.specs.Laws.{KeysGive}
 
 -- ---- texts
 
@@ -39,13 +39,6 @@ part_of-first k keys y values =
     ap (λ (b : Bool). if b then Gives (Part y) else part_of keys values k) (bytes_eq-same k)
 
 -- ---- all fields
-
--- by this look-up the keys give the values, one for each
-abbrev pub KeysGive : (List ℕ → Flow) → List (List ℕ) → List FieldValue → Type 0
-KeysGive look [] [] = Unit {0}
-KeysGive look [] (x ∷ values) = ⊥
-KeysGive look (k ∷ keys) [] = ⊥
-KeysGive look (k ∷ keys) (x ∷ values) = (look k ≡ Gives (Part x)) × KeysGive look keys values
 
 keys_give-past : (k : List ℕ) (y : FieldValue) (whole : List (List ℕ)) (all : List FieldValue) (keys : List (List ℕ)) (values : List FieldValue)
     → AllByRecursion (λ other. k ≢ other) keys → KeysGive (part_of whole all) keys values

@@ -120,7 +120,8 @@ no_index_by_first text bs is other n small e =
     let h = decimal_plain bs n small (bytes_decimal text bs n small is e) in absurd (false≢true (sym other ∙ h))
 
 -- what is read of a text that begins so is the number whose decimal digits it is
-pub index_is_read : {E : Type 0} (text bs : List ℕ) (r : Result ℕ E) (o : Option ℕ) → bs ≡ encode_utf8_all text → chars bs ≡ text → begins_plain bs ≡ true → ParsesUnsigned 64 10 bs r → o ≡ result_ok r → IsIndexOf text o
+pub index_is_read : {E : Type 0} (text bs : List ℕ) (r : Result ℕ E) (o : Option ℕ) → bs ≡ encode_utf8_all text → chars bs ≡ text → begins_plain bs ≡ true
+    → ParsesUnsigned 64 10 bs r → o ≡ result_ok r → IsIndexOf text o
 index_is_read {E = E} text bs (Ok n) o is spelled plain h same =
     let read = parse_plain own_digits {E = E} 64 bs (Ok n) h (plain_no_plus bs plain) in
     let small : n < 2 ^ 64 = subst (λ (m : ℕ). m < 2 ^ 64) (sym read.1) read.0.2 in

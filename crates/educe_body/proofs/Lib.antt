@@ -6,7 +6,6 @@ pub mod Heads
 pub mod Spelled
 pub mod Fields
 pub mod Indices
-pub mod Runs
-pub mod Having
 pub mod Apart
 pub mod MadePaths
+pub mod Lawful

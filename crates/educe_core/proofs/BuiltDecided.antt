@@ -61,6 +61,7 @@ built_if d twice =
       traits = found.0;
       traits_are = found.1;
       once = true_if _ (then_not (λ (built : IsBuilt d). subst (λ ts. IsTrue (each_once ts)) (one_some built.traits_are found.1) built.once) twice);
-      fitting = each_if (IsFitting found.0) (fitting_if found.0) (fields_of d) (then_not (λ (built : IsBuilt d). subst (λ ts. AllByRecursion (IsFitting ts) (fields_of d)) (one_some built.traits_are found.1) built.fitting) twice);
+      fitting = each_if (IsFitting found.0) (fitting_if found.0) (fields_of d)
+          (then_not (λ (built : IsBuilt d). subst (λ ts. AllByRecursion (IsFitting ts) (fields_of d)) (one_some built.traits_are found.1) built.fitting) twice);
       no_other = λ word. twice (λ built. built.no_other word);
     }

@@ -38,10 +38,10 @@ use Rattle.educe_body.specs.BuiltIn.{path_lexemes}
 use Rattle.educe_body.specs.Callees.{callee_named, callee_of, spellings}
 use Rattle.educe_body.specs.Meaning.{Scene, bindings_of, look_up, part_of, form_value, list_value, call_named, call_answer, reference_value, answer_flow, if_return, match_ordering, go_on, outcome_of}
 use Rattle.educe_body.specs.Keys.{AreDifferent, fields_of, key_of, keys_from, keys_of}
-use Rattle.educe_body.proofs.Fields.{KeysGive, KeysGive-part_of}
-use Rattle.educe_body.proofs.Rows.{form_value-Call, form_value-IfReturn, form_value-MatchOrdering}
+use Rattle.educe_body.specs.Laws.{KeysGive}
 use Rattle.educe_core.specs.Settings.{Kept, is_kept, kept_at, kept_from, kept_fields}
 use Rattle.educe_core.specs.Comparing.{Compared, compared_from, compared, comparison, comparison_answer, HaveTypes, IsAnswered, opposite_truth, order_answered, partial_order_answered, is_apart, differs_in_order, differs_in_partial_order, order_of, partial_order_of, equal, order, partial_order, meaning}
+use Rattle.educe_core.specs.BodyLaws.{lawful_keys, lawful_forms}
 use Rattle.educe_core.specs.Blocks.{IsReference, IsComparison, IsStep, step_of, last_of, IsInOrder, IsBody, Evaluates, scene_of}
 use Rattle.educe_core.proofs.Elements.{each_map}
 use Rattle.educe_core.proofs.Least.{first_where, least_by-first}
@@ -195,18 +195,19 @@ module _ (d : DeriveInput) (a b : Value) (table : Answers) (param : List ℕ) (i
       ∙ ap (λ (o : Option Referent). reference_value scene o (key_of place f)) other_found ∙ at
 
   -- the value of a comparison is the answer on the field's two values
-  comparison_value : (which : Trait) (place : ℕ) (f : Field) (x : Form) (y z : FieldValue) → IsComparison which param place f x → look_a (key_of place f) ≡ Gives (Part y) → look_b (key_of place f) ≡ Gives (Part z)
+  comparison_value : (which : Trait) (place : ℕ) (f : Field) (x : Form) (y z : FieldValue) → IsComparison which param place f x
+      → look_a (key_of place f) ≡ Gives (Part y) → look_b (key_of place f) ≡ Gives (Part z)
       → form_value scene names x ≡ answer_flow (answer_of table (comparison which) (Some y) (Some z))
   comparison_value which place f x y z is at_a at_b =
       ap (form_value scene names) is.is
-      ∙ form_value-Call scene names is.path (is.own ∷ is.others ∷ [])
+      ∙ lawful_forms.call scene names is.path (is.own ∷ is.others ∷ [])
       ∙ ap (λ (c : Option Callee). call_named scene c (map (form_value scene names) (is.own ∷ is.others ∷ []))) (callee_of-comparison which is.path is.path_is.made.tokens)
       ∙ (λ i. call_answer table (comparison which) (own_value place f is.own y is.own_is at_a i ∷ others_value place f is.others z is.others_is at_b i ∷ []))
 
   step_of-value : (which : Trait) (x : Form) → form_value scene names (step_of which x) ≡ step_flow which (form_value scene names x)
-  step_of-value PartialEq x = form_value-IfReturn scene names x
-  step_of-value PartialOrd x = form_value-MatchOrdering scene names x true Greater Less
-  step_of-value Ord x = form_value-MatchOrdering scene names x false Greater Less
+  step_of-value PartialEq x = lawful_forms.test scene names x
+  step_of-value PartialOrd x = lawful_forms.matches scene names x true Greater Less
+  step_of-value Ord x = lawful_forms.matches scene names x false Greater Less
 
   -- what the last form gives
   last_value : (which : Trait) (last : Thing) → outcome_of (list_value scene names last (form.Known (last_of which) ∷ [])) ≡ means which table []
@@ -277,7 +278,7 @@ body_evaluates which d body differ k table a b covers =
     let at_a = part_of (keys_of d) a.fields in
     let at_b = part_of (keys_of d) b.fields in
     let give : (v : Value) → HaveTypes fs fs v.fields → KeysGive (part_of (keys_of d) v.fields) (keys_of d) v.fields =
-    λ v types. KeysGive-part_of (keys_of d) v.fields differ (length_keys 0 fs ∙ length_from_types fs fs v.fields types) in
+    λ v types. lawful_keys.select (keys_of d) v.fields differ (length_keys 0 fs ∙ length_from_types fs fs v.fields types) in
     let give_a = give a covers.first.fields in
     let give_b = give b covers.second.fields in
     let same : compared which d a b ≡ map (seen at_a at_b) kept = compared-seen at_a at_b which 0 fs a.fields b.fields give_a give_b in

@@ -32,7 +32,7 @@ use Rattle.educe_attrs.specs.Said.{unless_educe, settings_said, settings_by}
 use Rattle.educe_attrs.specs.Settings.{begins_round, is_ignore_alone, fitting, order_params, params_for, with_params, setting_of, settings_in, params_of}
 use Rattle.educe_traits.specs.Traits.{same_trait}
 use Rattle.educe_attrs.specs.Words.{is_one_word}
-use Rattle.educe_attrs.proofs.Inside.{are_metas_inside}
+use Rattle.educe_attrs.specs.Laws.{lawful_inside}
 use Rattle.educe_body.specs.Keys.{shape_fields, fields_of}
 use Rattle.educe_core.specs.Settings.{settings_of, or_else, other_params, params_among, rank_place, Kept, is_kept, kept_at, kept_from, kept_fields, ReusesARank}
 use Rattle.educe_core.proofs.Elements.{In-all, In-from_Contains}
@@ -81,7 +81,8 @@ behind_first P [] all = tt
 behind_first P (x ∷ xs) all = all.1
 
 -- the lists of all items, one behind the other
-joined_step : {Y : Type 0} (Q : Y → Type 0) (found rest : Option (List Y)) → IfSome found (AllByRecursion Q) → IfSome rest (AllByRecursion Q) → IfSome (option_and_then (λ ys. behind ys rest) found) (AllByRecursion Q)
+joined_step : {Y : Type 0} (Q : Y → Type 0) (found rest : Option (List Y)) → IfSome found (AllByRecursion Q) → IfSome rest (AllByRecursion Q)
+    → IfSome (option_and_then (λ ys. behind ys rest) found) (AllByRecursion Q)
 joined_step Q None rest has more = tt
 joined_step Q (Some ys) None has more = tt
 joined_step Q (Some ys) (Some zs) has more = both_all Q ys zs has more
@@ -92,7 +93,8 @@ joined lists P Q each [] all = tt
 joined lists P Q each (x ∷ xs) all = joined_step Q (lists x) (all_joined lists xs) (each x all.0) (joined lists P Q each xs all.1)
 
 -- the values of all items
-some_all : {X Y : Type 0} (value : X → Option Y) (P : X → Type 0) (Q : Y → Type 0) → ((x : X) → P x → IfSome (value x) Q) → (xs : List X) → AllByRecursion P xs → IfSome (all_some value xs) (AllByRecursion Q)
+some_all : {X Y : Type 0} (value : X → Option Y) (P : X → Type 0) (Q : Y → Type 0) → ((x : X) → P x → IfSome (value x) Q)
+    → (xs : List X) → AllByRecursion P xs → IfSome (all_some value xs) (AllByRecursion Q)
 some_all value P Q each xs all = joined (λ x. alone (value x)) P Q (λ x has. mapped (λ y. y ∷ []) Q (AllByRecursion Q) (λ y one. (one, tt)) (value x) (each x has)) xs all
 
 -- the first that passes
@@ -173,7 +175,7 @@ module _ (P : ℕ → Type 0) where
       go None is = tt
       go (Some found) is =
           let within = take_all (λ (t : Token). P t.span.start) (length tokens - 2) (drop 1 tokens) (behind_first (λ (t : Token). P t.span.start) tokens placed) in
-          each_into (IsMetaPlaced (inside tokens)) MetaPlaced (meta_placed (inside tokens) within) found (lawful_places.metas (inside tokens) found ((are_metas_inside tokens found).0 is))
+          each_into (IsMetaPlaced (inside tokens)) MetaPlaced (meta_placed (inside tokens) within) found (lawful_places.metas (inside tokens) found ((lawful_inside tokens found).0 is))
 
   param_placed : (m : Meta) → MetaPlaced m → IfSome (param_of m) ParamPlaced
   param_placed (said.Word path) has = chosen ParamPlaced (is_one_word (codes "ignore") path.written.tokens) (Some Ignore) None tt tt

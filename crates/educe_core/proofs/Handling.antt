@@ -46,7 +46,8 @@ module _ {X : Type 0} (p : X → Bool) (xs : List X) (i : ℕ) (d x : X) (less :
   filter_more-skipped fails = ap (filter p) one_more ∙ filter-skipped p (take i xs) x fails
 
   -- an item for each that passes, and what holds of each that does
-  pub zip_passed : {Y : Type 0} (R : X → Y → Type 0) (old new : List Y) (y : Y) → AllZip R (filter p (take i xs)) old → p x ≡ true → R x y → new ≡ old ++ y ∷ [] → AllZip R (filter p (take (i + 1) xs)) new
+  pub zip_passed : {Y : Type 0} (R : X → Y → Type 0) (old new : List Y) (y : Y) → AllZip R (filter p (take i xs)) old → p x ≡ true → R x y
+      → new ≡ old ++ y ∷ [] → AllZip R (filter p (take (i + 1) xs)) new
   zip_passed {Y} R old new y zip passes one pushed =
       subst (λ (ys : List Y). AllZip R (filter p (take (i + 1) xs)) ys) (sym pushed)
       (subst (λ (zs : List X). AllZip R zs (old ++ y ∷ [])) (sym (filter_more-passed passes)) (zip_push R (filter p (take i xs)) old x y zip one))

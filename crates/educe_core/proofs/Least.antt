@@ -109,7 +109,8 @@ module _ {X : Type 0} (rank : X → ℤ) (p : X → Bool) where
         | inr later ↦ clash_ℤ (In-all (λ y. rank x <ℤ rank y) xs b above later) (best.below x (inl refl) passes)
       ]
 
-  first_step : (x : X) (xs : List X) (o : Option X) (t : Bool) → p x ≡ t → Rises rank (x ∷ xs) → IsBest (x ∷ xs) o → (IsBest xs o → o ≡ first_where p xs) → o ≡ (if t then Some x else first_where p xs)
+  first_step : (x : X) (xs : List X) (o : Option X) (t : Bool) → p x ≡ t → Rises rank (x ∷ xs) → IsBest (x ∷ xs) o → (IsBest xs o → o ≡ first_where p xs)
+      → o ≡ (if t then Some x else first_where p xs)
   first_step x xs o true passes rises best more = best_is_head x xs o passes rises.0 best
   first_step x xs o false fails rises best more = more (best_of_rest x xs o fails best)
 

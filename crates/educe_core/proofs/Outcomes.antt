@@ -27,7 +27,8 @@ whole-is : {P : List ℕ → Type 0} (source : Change) (input : List ℕ) → Re
 whole-is source input reads follows = told-whole source.before source.after input reads.taken reads.end follows
 
 -- what follows from having more bytes than the limit holds of the told bytes
-told-long : {P : List ℕ → Type 0} (before after : Option (List ℕ)) (input : List ℕ) → before ≡ ahead input after → length input ≡ 131_073 → ((x : List ℕ) → 131_072 < length x → P x) → IfSome before P
+told-long : {P : List ℕ → Type 0} (before after : Option (List ℕ)) (input : List ℕ) → before ≡ ahead input after → length input ≡ 131_073 → ((x : List ℕ) → 131_072 < length x → P x)
+    → IfSome before P
 told-long None after input taken long follows = tt
 told-long (Some x) None input taken long follows = cc
 told-long (Some x) (Some rest) input taken long follows =

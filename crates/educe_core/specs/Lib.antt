@@ -9,6 +9,8 @@ pub mod Blocks
 pub mod Headline
 pub mod Expansion
 pub mod Run
+pub mod BodyLaws
+pub mod Laws
 -- what clauses say of devices and of how a run ends, and the types that they name
 pub use Rattle.educe_core_devices.specs.Devices
 pub use Rattle.educe_core_devices.specs.Plan as Planned

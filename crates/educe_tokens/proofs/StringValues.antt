@@ -1,5 +1,5 @@
 -- The two forms of string literals, by their first character; the value of a string or of documentation, which is one.
-use Rattle.std.proofs.Common.{◌≡◌, ℕ, true, false, cond, List, [], ◌∷◌, drop, sym, ap, ◌∙◌, subst, ⊎_elim, arith}
+use Rattle.std.proofs.Common.{◌≡◌, ℕ, true, false, Option, Some, None, List, [], ◌∷◌, drop, refl, sym, ap, ◌∙◌, subst, ⊎_elim, arith}
 use Rattle.std.specs.Prelude.{◌==◌}
 use Rattle.std.proofs.lemmas.Bool.{or_cases, and_parts, cond-true, false≢true}
 use Rattle.std.proofs.lemmas.Bool.Decides.{nat_tests}
@@ -7,11 +7,9 @@ use Rattle.educe_tokens_pieces.specs.declared.kind.LiteralKind.TheVariants as li
 use Rattle.educe_tokens_pieces.specs.declared.kind.TokenKind.{TokenKind}
 use Rattle.educe_tokens_pieces.specs.declared.kind.TokenKind.TheVariants.{Ident, Lifetime, Literal, Punct, Start, Stop, Doc}
 use Rattle.educe_tokens_pieces.specs.declared.quotes.Quote.TheVariants.{Str}
-use Rattle.educe_tokens_pieces.specs.declared.quotes.Within.TheVariants.{Open}
 use Rattle.educe_tokens_pieces.specs.Chars.{begins}
-use Rattle.educe_tokens_pieces.specs.Comments.{doc_value}
-use Rattle.educe_tokens_pieces.specs.Machine.{is_str, given}
-use Rattle.educe_tokens_pieces.specs.RawStrings.{is_raw_str, raw_value}
+use Rattle.educe_tokens_pieces.specs.Machine.{is_str}
+use Rattle.educe_tokens_pieces.specs.RawStrings.{is_raw_str}
 use Rattle.educe_tokens_pieces.specs.Quotes.{Part, IsBody, value_of}
 use Rattle.educe_tokens_pieces.specs.Pieces.{spells}
 use Rattle.educe_tokens_pieces.proofs.Bodies.{body_ends}
@@ -19,7 +17,7 @@ use Rattle.educe_tokens_pieces.proofs.CommentLaws.{doc_value_is}
 use Rattle.educe_tokens_pieces.proofs.Quoted.{str_parts}
 use Rattle.educe_tokens_pieces.proofs.RawStrings.{raw_value_is}
 use Rattle.educe_tokens.specs.Lexes.{Lexeme}
-use Rattle.educe_tokens.specs.StringValue.{IsString, IsStringValue, parts as value_parts}
+use Rattle.educe_tokens.specs.StringValue.{IsString, IsStringValue, parts as value_parts, text_of_kind}
 
 -- a quote is no `r`
 quote_no_r : (c : ℕ) → (c == 34) ≡ true → (c == 114) ≡ false
@@ -52,29 +50,35 @@ quoted_value cs value found h body is =
 
 -- ---- one value
 
--- the value of a string literal
-abbrev literal_value : List ℕ → List ℕ
-literal_value text = cond (begins (λ c. c == 114) text) (raw_value text) (given (Open Str) (drop 1 text))
-
--- the value of a token of a kind that has one
-abbrev value_at : TokenKind → List ℕ → List ℕ
-value_at Ident text = []
-value_at Lifetime text = []
-value_at (Literal kind) text = literal_value text
-value_at (Punct c joint) text = []
-value_at (Start bracket) text = []
-value_at (Stop bracket) text = []
-value_at Doc text = doc_value text
-
 -- the value, computed
-value_is : (token : Lexeme) (value : List ℕ) → IsStringValue token value → value_at token.kind token.spelling ≡ value
-value_is token value (IsStringValue.parts text found body) = (body_ends Str text found body).1
-value_is token value (IsStringValue.raw text v own) = cond-true (begins (λ c. c == 114) text) _ _ (ap (begins (λ c. c == 114)) own.is) ∙ raw_value_is text v own
-value_is token value (IsStringValue.doc text v own) = doc_value_is text v own
+pub text_is : (token : Lexeme) (value : List ℕ) → IsStringValue token value → text_of_kind token.kind token.spelling ≡ Some value
+text_is token value (IsStringValue.parts text found body) = ap (λ (v : List ℕ). Some v) (body_ends Str text found body).1
+text_is token value (IsStringValue.raw text v own) =
+    ap (λ (v : List ℕ). Some v) (cond-true (begins (λ c. c == 114) text) _ _ (ap (begins (λ c. c == 114)) own.is) ∙ raw_value_is text v own)
+text_is token value (IsStringValue.doc text v own) = ap (λ (v : List ℕ). Some v) (doc_value_is text v own)
+
+-- a token of another kind has none
+pub text_none : (kind : TokenKind) (spelling : List ℕ) → (IsString kind → ⊥) → text_of_kind kind spelling ≡ None
+text_none (Literal literal.Int) cs other = refl
+text_none (Literal literal.Str) cs other = absurd (other IsString.str)
+text_none (Literal literal.ByteStr) cs other = refl
+text_none (Literal literal.Char) cs other = refl
+text_none (Literal literal.Byte) cs other = refl
+text_none Ident cs other = refl
+text_none Lifetime cs other = refl
+text_none (Punct c joint) cs other = refl
+text_none (Start b) cs other = refl
+text_none (Stop b) cs other = refl
+text_none Doc cs other = absurd (other IsString.doc)
+
+-- the value that there is
+abbrev value_in : Option (List ℕ) → List ℕ
+value_in None = []
+value_in (Some value) = value
 
 -- a token has one value
 pub string_value-one : (token : Lexeme) (value other : List ℕ) → IsStringValue token value → IsStringValue token other → value ≡ other
-string_value-one token value other own another = sym (value_is token value own) ∙ value_is token other another
+string_value-one token value other own another = ap value_in (sym (text_is token value own) ∙ text_is token other another)
 
 -- a token with a value is a string or documentation
 pub string_value-kind : (token : Lexeme) (value : List ℕ) → IsStringValue token value → IsString token.kind

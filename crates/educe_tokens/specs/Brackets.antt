@@ -4,6 +4,7 @@ use Rattle.educe_tokens_pieces.specs.declared.kind.Bracket.{Bracket}
 use Rattle.educe_tokens_pieces.specs.declared.kind.Bracket.TheVariants.{Round, Square, Curly}
 use Rattle.educe_tokens_pieces.specs.declared.kind.TokenKind.{TokenKind}
 use Rattle.educe_tokens_pieces.specs.declared.kind.TokenKind.TheVariants.{Ident, Lifetime, Literal, Punct, Start, Stop, Doc}
+use Rattle.educe_tokens.specs.declared.brackets.TheConstants.{NESTING}
 use Rattle.educe_tokens.specs.Lexes.{Lexeme}
 
 abbrev pub same_bracket : Bracket → Bracket → Bool
@@ -50,6 +51,6 @@ kinds found = map (λ lexeme. lexeme.kind) found
 abbrev pub IsBalanced : List Lexeme → Type 0
 IsBalanced found = IsTrue (closes [] (kinds found))
 
--- at most 128 brackets are open at once
+-- at most `NESTING` brackets are open at once
 abbrev pub IsShallow : List Lexeme → Type 0
-IsShallow found = IsTrue (nests 128 0 (kinds found))
+IsShallow found = IsTrue (nests NESTING 0 (kinds found))

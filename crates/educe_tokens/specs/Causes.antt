@@ -9,6 +9,7 @@ use Rattle.educe_tokens_pieces.specs.declared.kind.TokenKind.TheVariants.{Start}
 use Rattle.educe_tokens_pieces.specs.declared.kind.UncarriedKind.{UncarriedKind}
 use Rattle.educe_tokens_pieces.specs.declared.kind.PieceKind.TheVariants.{Uncarried}
 use Rattle.educe_tokens_scan.specs.Reading.{Piece, Reads, FitsNone}
+use Rattle.educe_tokens.specs.declared.brackets.TheConstants.{NESTING}
 use Rattle.educe_tokens.specs.declared.span.Span.{Span}
 use Rattle.educe_tokens.specs.declared.token.Token.{Token}
 use Rattle.educe_tokens.specs.declared.error.EduceError.{EduceError}
@@ -54,9 +55,9 @@ pub data IsLexicalCause (text : List ℕ) : EduceError → Type 0 where
   unclosed : (tokens : List Token) (innermost : Bracket) (outer : List Bracket) → Lexes text tokens
       → open_behind [] (kinds (lexemes tokens)) ≡ Some (innermost ∷ outer) → IsShallow (lexemes tokens)
       → IsLexicalCause text (syntax_at (empty_at (length (encode_utf8_all text))))
-  -- a token that opens a bracket where exactly 128 are open
+  -- a token that opens a bracket where exactly `NESTING` are open
   too_deep : (before : List Token) (token : Token) (behind : List Token) (outer : List Bracket) (b : Bracket)
-      → Meets text before token behind outer → token.kind ≡ Start b → length outer ≡ 128 → IsLexicalCause text (too_deep_at token.span)
+      → Meets text before token behind outer → token.kind ≡ Start b → length outer ≡ NESTING → IsLexicalCause text (too_deep_at token.span)
   -- out of memory
   memory : IsLexicalCause text (placeless Alloc)
 

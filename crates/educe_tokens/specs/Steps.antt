@@ -6,6 +6,7 @@ use Rattle.educe_tokens_pieces.specs.declared.kind.TokenKind.TheVariants.{Start}
 use Rattle.educe_tokens_pieces.specs.declared.kind.UncarriedKind.{UncarriedKind}
 use Rattle.educe_tokens_pieces.specs.declared.kind.PieceKind.{PieceKind}
 use Rattle.educe_tokens_pieces.specs.declared.kind.PieceKind.TheVariants.{Blank, Comment, Token as TokenPiece, Uncarried}
+use Rattle.educe_tokens.specs.declared.brackets.TheConstants.{NESTING}
 use Rattle.educe_tokens.specs.declared.brackets.BracketError.{BracketError}
 use Rattle.educe_tokens.specs.declared.brackets.BracketError.TheVariants as bracket
 use Rattle.educe_tokens.specs.declared.error.EduceError.{EduceError}
@@ -31,7 +32,7 @@ pub data IsCauseOfPiece (spelling : List ℕ) (span : Span) : PieceKind → Educ
 -- why one more token is refused behind these open brackets, the innermost first
 abbrev pub IsCauseOfKind : List Bracket → TokenKind → BracketError → Type 0
 IsCauseOfKind outer kind bracket.WrongClose = open_after outer kind ≡ None
-IsCauseOfKind outer kind bracket.TooDeep = (b : Bracket) × (kind ≡ Start b) × (length outer ≡ 128)
+IsCauseOfKind outer kind bracket.TooDeep = (b : Bracket) × (kind ≡ Start b) × (length outer ≡ NESTING)
 IsCauseOfKind outer kind bracket.Alloc = Unit {0}
 
 -- the refusal for it, of a token that lies there

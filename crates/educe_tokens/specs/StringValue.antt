@@ -1,13 +1,17 @@
 -- The value of a string literal, and the text of documentation (Rust Reference, String literals; Raw string literals; Doc
 -- comments).
-use Rattle.std.specs.Prelude.{ℕ, List, ◌∷◌}
+use Rattle.std.specs.Prelude.{ℕ, ◌==◌, cond, Option, Some, None, List, ◌∷◌, drop}
 use Rattle.educe_tokens_pieces.specs.declared.kind.LiteralKind.TheVariants as literal
 use Rattle.educe_tokens_pieces.specs.declared.kind.TokenKind.{TokenKind}
-use Rattle.educe_tokens_pieces.specs.declared.kind.TokenKind.TheVariants.{Literal, Doc}
+use Rattle.educe_tokens_pieces.specs.declared.kind.TokenKind.TheVariants.{Ident, Lifetime, Literal, Punct, Start, Stop, Doc}
 use Rattle.educe_tokens_pieces.specs.declared.quotes.Quote.TheVariants.{Str}
+use Rattle.educe_tokens_pieces.specs.declared.quotes.Within.TheVariants.{Open}
+use Rattle.educe_tokens_pieces.specs.Chars.{begins}
+use Rattle.educe_tokens_pieces.specs.Machine.{given}
 use Rattle.educe_tokens_pieces.specs.Quotes.{Part, IsBody, value_of}
-use Rattle.educe_tokens_pieces.specs.RawStrings.{IsRawOf}
-use Rattle.educe_tokens_pieces.specs.Comments.{IsDocOf}
+use Rattle.educe_tokens_pieces.specs.RawStrings.{raw_value, IsRawOf}
+use Rattle.educe_tokens_pieces.specs.Comments.{doc_value, IsDocOf}
+use Rattle.educe_tokens.specs.declared.token.Token.{Token}
 use Rattle.educe_tokens.specs.Lexes.{Lexeme}
 
 -- the tokens of this kind have a string as their value
@@ -24,3 +28,25 @@ pub data IsStringValue : Lexeme → List ℕ → Type 0 where
   raw : (text value : List ℕ) → IsRawOf text value → IsStringValue (record { kind = Literal literal.Str; spelling = text }) value
   -- what stands between the marks of documentation
   doc : (text value : List ℕ) → IsDocOf text value → IsStringValue (record { kind = Doc; spelling = text }) value
+
+-- the value of a string literal, computed: the text between the quotes of a raw one, or what the characters of another stand for
+abbrev pub literal_text : List ℕ → List ℕ
+literal_text cs = cond (begins (λ c. c == 114) cs) (raw_value cs) (given (Open Str) (drop 1 cs))
+
+-- the value of a token of the kind that is spelled so
+abbrev pub text_of_kind : TokenKind → List ℕ → Option (List ℕ)
+text_of_kind (Literal literal.Int) cs = None
+text_of_kind (Literal literal.Str) cs = Some (literal_text cs)
+text_of_kind (Literal literal.ByteStr) cs = None
+text_of_kind (Literal literal.Char) cs = None
+text_of_kind (Literal literal.Byte) cs = None
+text_of_kind Ident cs = None
+text_of_kind Lifetime cs = None
+text_of_kind (Punct c joint) cs = None
+text_of_kind (Start b) cs = None
+text_of_kind (Stop b) cs = None
+text_of_kind Doc cs = Some (doc_value cs)
+
+-- the value of a string literal, or the text of documentation; another token has none
+abbrev pub text_in : Token → Option (List ℕ)
+text_in token = text_of_kind token.kind token.spelling

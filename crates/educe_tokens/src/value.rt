@@ -2,10 +2,11 @@
 ghost use Rattle.std.specs.Prelude.{◌≡◌, ◌==◌, IsTrue, IfOk, IfSome, IfNone, chars};
 ghost use Rattle.educe_tokens_pieces.specs.Chars.{begins};
 ghost use Rattle.educe_tokens_pieces.specs.Pieces.{spells};
+ghost use Rattle.std.specs.Option.{option_map};
 ghost use Rattle.std.specs.String.{string_bytes};
 ghost use Rattle.educe_tokens.specs.Lexes.{lexeme_of};
 ghost use Rattle.educe_tokens.specs.IntValue.{int_value};
-ghost use Rattle.educe_tokens.specs.StringValue.{IsString, IsStringValue};
+ghost use Rattle.educe_tokens.specs.StringValue.{IsString, IsStringValue, text_in};
 
 use crate::token::Token;
 use educe_tokens_pieces::{LiteralKind, TokenKind, doc_value, raw_value, str_value};
@@ -30,6 +31,8 @@ pub fn string_value(alloc: Global, token: &Token) -> Result<Option<String>, Allo
     ensures some { IfOk result (λ value. IfSome value (λ text.
         IsStringValue (lexeme_of token.now) (chars (string_bytes text)))) }
     ensures none { IfOk result (λ value. IfNone value (IsString token.now.kind → ⊥)) }
+    // So it is a function of the token.
+    ensures value { IfOk result (λ value. option_map (λ text. chars (string_bytes text)) value ≡ text_in token.now) }
 {
     match token.kind {
         TokenKind::Literal(LiteralKind::Str) => {

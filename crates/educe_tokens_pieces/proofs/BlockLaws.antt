@@ -1,16 +1,11 @@
 -- Blocks: the count of those that are open ends just where the outermost closes.
-use Rattle.std.proofs.Common.{◌≡◌, ℕ, zero, suc, ◌+◌, ◌-◌, ◌<◌, Bool, true, false, ◌&&◌, List, [], ◌∷◌, ◌++◌, length, refl, sym, ap, ◌∙◌, subst, ⊎_elim, arith, append_assoc}
+use Rattle.std.proofs.Common.{◌≡◌, ℕ, zero, suc, ◌+◌, ◌-◌, ◌<◌, true, false, ◌&&◌, List, [], ◌∷◌, ◌++◌, length, refl, sym, ap, ◌∙◌, subst, ⊎_elim, arith, append_assoc}
 use Rattle.std.specs.Prelude.{◌==◌}
 use Rattle.std.proofs.lemmas.Bool.{and_parts, and_from, false≢true, false_from_ne_true, cases_Bool, eqb-true, eq-eqb, ne_eqb}
 use Rattle.educe_tokens_pieces.specs.Comments.{closes_comment}
+use Rattle.educe_tokens_pieces.specs.Fronts.{begins_pair}
 use Rattle.educe_tokens_pieces.specs.Spells.{BeginsWith, BeginsNot, Closes, Close, Other, Block}
 use Rattle.educe_tokens_pieces.proofs.Lists.{nil_from_empty}
-
--- the text begins with these two characters
-abbrev pub begins_pair : ℕ → ℕ → List ℕ → Bool
-begins_pair a b [] = false
-begins_pair a b (c ∷ []) = false
-begins_pair a b (c ∷ d ∷ cs) = (c == a) && (d == b)
 
 -- what is tested to begin so begins so
 pub pair_is : (a b : ℕ) (s : List ℕ) → begins_pair a b s ≡ true → BeginsWith (a ∷ b ∷ []) s

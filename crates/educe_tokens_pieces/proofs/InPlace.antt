@@ -1,21 +1,23 @@
 -- Scans of a text where it stands.
-use Rattle.std.proofs.Common.{◌≡◌, ◌≢◌, ℕ, ◌+◌, ◌-◌, ◌<◌, Bool, true, false, List, [], ◌∷◌, ◌++◌, length, take, drop, get_or, chars, refl, sym, ap, ◌∙◌, subst, arith, append_assoc, take-append-drop, length-append, length-drop, lit<}
-use Rattle.std.specs.Prelude.{◌==◌, encode_utf8_all}
+use Rattle.std.proofs.Common.{◌≡◌, ◌≢◌, ℕ, ◌+◌, ◌-◌, ◌<◌, Bool, true, false, List, [], ◌∷◌, ◌++◌, length, take, drop, get_or, chars, refl, sym, ap, ◌∙◌, subst, arith, append_assoc, take-append-drop, length-append, lit<, ⊎_elim}
+use Rattle.std.specs.Prelude.{◌==◌, ◌&&◌, encode_utf8_all}
 use Rattle.std.specs.List.{list_all}
-use Rattle.std.specs.Str.{IsUtf8, IsCharBoundary, NonePass, NoCharPasses}
+use Rattle.std.specs.Str.{IsUtf8, IsAscii, IsCharBoundary, NonePass, NoCharPasses}
 use Rattle.std.specs.Str.Pattern.{HasCharAt}
 use Rattle.std.proofs.Math.Seq.{take-append_seam, get_or-append_seam}
-use Rattle.std.proofs.lemmas.Bool.{and_from, and_right, false≢true, eqb-true, eq-eqb, ne_eqb}
+use Rattle.std.proofs.lemmas.Bool.{and_parts, and_from, and_right, false≢true, eqb-true, eq-eqb, ne_eqb, cases_Bool}
 use Rattle.std.proofs.lemmas.List.Folds.{list_all-append}
 use Rattle.std.proofs.lemmas.Str.{IsUtf8-take, IsUtf8-drop, IsCharBoundary-before_ascii, chars-append, chars_past_char, chars_from_encodes, encodes-chars, encodes-append, encode_ascii}
+use Rattle.std.proofs.lemmas.Str.Ascii.{IsAscii-cons, IsAscii-nil}
 use Rattle.educe_tokens_pieces.specs.Chars.{begins, is_in_line, is_word_start}
 use Rattle.educe_tokens_pieces.specs.Words.{is_word}
 use Rattle.unicode_ident.specs.Ident.{is_xid_continue}
 use Rattle.educe_tokens_pieces.specs.Comments.{closes_comment}
-use Rattle.educe_tokens_pieces.specs.Fronts.{HasFront, is_last}
+use Rattle.educe_tokens_pieces.specs.Fronts.{HasFront, begins_pair, is_last}
 use Rattle.educe_tokens_pieces.specs.declared.quotes.Within.{Within}
 use Rattle.educe_tokens_pieces.specs.declared.quotes.Next.TheVariants.{Go, End}
 use Rattle.educe_tokens_pieces.specs.Machine.{step, ends}
+use Rattle.educe_tokens_pieces.proofs.Searches.{IsFirstRun}
 
 -- behind a front of the text, the test goes on as another one
 pub record Goes (test later : List ℕ → Bool) (text rest : List ℕ) : Type 0 where
@@ -134,64 +136,63 @@ slash_ends bs r u h =
     (λ e. let p = last_parts 47 (chars bs) e in
     h.1 (encode_utf8_all p.0) (sym (encodes-chars bs u) ∙ ap encode_utf8_all p.1 ∙ encodes-append p.0 (47 ∷ []) ∙ ap (λ xs. encode_utf8_all p.0 ++ xs) slash_bytes))
 
--- the parts around the first such mark
-pub mark_split : (mark : ℕ) (bs front back : List ℕ) (i j : ℕ) → mark < 128 → IsUtf8 bs → NoCharPasses (λ d. d == mark) (take i bs) → HasCharAt mark bs i j → front ≡ take i bs → back ≡ drop j bs
-    → (chars bs ≡ chars front ++ mark ∷ chars back) × NonePass (λ d. d == mark) (chars front)
-mark_split mark bs front back i j small u none at f b =
-    let first = at.split ∙ ap (λ xs. xs ++ drop j bs) (encode_ascii mark small) in
-    let long : i < length bs = omega (arith, ap length first, length-drop i bs) in
-    let low : get_or bs i 0 < 128 = omega (arith, at.byte small, small) in
-    let cut = IsCharBoundary-before_ascii bs i long low in
-    let behind = chars_past_char (drop i bs) (drop j bs) mark (IsUtf8-drop bs i u cut) at.split in (
-      chars_split bs i u cut ∙ ap (λ cs. chars (take i bs) ++ cs) behind ∙ (λ k. chars (sym f k) ++ mark ∷ chars (sym b k)),
-      subst (NonePass (λ d. d == mark)) (chars_from_encodes none.0 (take i bs) (IsUtf8-take bs i u cut) none.1 ∙ ap chars (sym f)) none.2,
-    )
+-- a character that begins neither `/*` nor `*/` in a text begins neither in a front
+one_skipped : (inner c : ℕ) (cs zs more : List ℕ) → more ≡ cs ++ zs → begins_pair 47 42 (c ∷ more) ≡ false → begins_pair 42 47 (c ∷ more) ≡ false → closes_comment inner (c ∷ cs) ≡ closes_comment inner cs
+one_skipped inner c [] zs more e opens closes = refl
+one_skipped inner c (d ∷ cs) zs more e opens closes =
+    let flat : ((c == 47) && (d == 42)) ≡ false = sym (ap (λ t. begins_pair 47 42 (c ∷ t)) e) ∙ opens in
+    let within : ((c == 42) && (d == 47)) ≡ false = sym (ap (λ t. begins_pair 42 47 (c ∷ t)) e) ∙ closes in
+    rw (within, flat) refl
 
--- where a star stands behind characters that are none, they end with the slash that opens a comment with it, or are skipped
-star_opens : (inner : ℕ) (xs ys : List ℕ) → NonePass (λ d. d == 42) xs → is_last 47 xs ≡ true → closes_comment inner (xs ++ 42 ∷ ys) ≡ closes_comment (inner + 1) ys
-star_opens inner [] ys h l = absurd (false≢true l)
-star_opens inner (c ∷ []) ys h l = rw (h.0, l) refl
-star_opens inner (c ∷ d ∷ xs) ys h l = rw (h.0, h.1.0, and_right (c == 47) false refl) (star_opens inner (d ∷ xs) ys h.1 l)
+-- within a comment: `/*` opens one in it,
+module _ (inner : ℕ) (text rest : List ℕ) (goes : Goes (closes_comment 0) (closes_comment inner) text rest) where
+  pub block_opens : (behind : List ℕ) → rest ≡ 47 ∷ 42 ∷ behind → Goes (closes_comment 0) (closes_comment (inner + 1)) text behind
+  block_opens behind e = goes_on (closes_comment 0) (closes_comment inner) (closes_comment (inner + 1)) text rest behind (47 ∷ 42 ∷ []) goes e (λ cs zs f. refl)
 
-star_stays : (inner : ℕ) (xs ys : List ℕ) → NonePass (λ d. d == 42) xs → is_last 47 xs ≡ false → closes_comment inner (xs ++ 42 ∷ ys) ≡ closes_comment inner (42 ∷ ys)
-star_stays inner [] ys h l = refl
-star_stays inner (c ∷ []) ys h l = rw (h.0, l) refl
-star_stays inner (c ∷ d ∷ xs) ys h l = rw (h.0, h.1.0, and_right (c == 47) false refl) (star_stays inner (d ∷ xs) ys h.1 l)
+  -- `*/` closes one in it,
+  pub block_closes : (behind : List ℕ) → rest ≡ 42 ∷ 47 ∷ behind → inner ≢ 0 → Goes (closes_comment 0) (closes_comment (inner - 1)) text behind
+  block_closes behind e some =
+      goes_on (closes_comment 0) (closes_comment inner) (closes_comment (inner - 1)) text rest behind (42 ∷ 47 ∷ []) goes e (λ cs zs f. rw (ne_eqb inner 0 some) refl)
 
--- a star that no slash follows is skipped
-star_skips : (inner : ℕ) (cs zs more : List ℕ) → more ≡ cs ++ zs → begins (λ d. d == 47) more ≡ false → closes_comment inner (42 ∷ cs) ≡ closes_comment inner cs
-star_skips inner [] zs more e h = refl
-star_skips inner (c ∷ cs) zs more e h =
-    let other : (c == 47) ≡ false = sym (ap (begins (λ d. d == 47)) e) ∙ h in
-    rw other refl
+  -- or the outermost,
+  pub block_ends : (behind : List ℕ) → rest ≡ 42 ∷ 47 ∷ behind → inner ≡ 0 → HasFront (closes_comment 0) text behind
+  block_ends behind e zero =
+      goes_to (closes_comment 0) (closes_comment inner) text rest behind (42 ∷ 47 ∷ []) goes e (ap (λ n. closes_comment n (42 ∷ 47 ∷ [])) zero)
 
--- within a comment, at the next star: it opens a block with the slash before it,
-module _ (inner : ℕ) (text rest front more : List ℕ) (goes : Goes (closes_comment 0) (closes_comment inner) text rest) (is : rest ≡ front ++ 42 ∷ more) (none : NonePass (λ d. d == 42) front) where
-  one_is : rest ≡ (front ++ 42 ∷ []) ++ more
-  one_is = is ∙ sym (append_assoc front (42 ∷ []) more)
+  -- and a character that begins neither is skipped
+  pub block_stays : (c : ℕ) (more : List ℕ) → rest ≡ c ∷ more → begins_pair 47 42 rest ≡ false → begins_pair 42 47 rest ≡ false → Goes (closes_comment 0) (closes_comment inner) text more
+  block_stays c more e opens closes =
+      goes_on (closes_comment 0) (closes_comment inner) (closes_comment inner) text rest more (c ∷ []) goes e
+      (λ cs zs f. one_skipped inner c cs zs more f (sym (ap (begins_pair 47 42) e) ∙ opens) (sym (ap (begins_pair 42 47) e) ∙ closes))
 
-  two_are : (behind : List ℕ) → more ≡ 47 ∷ behind → rest ≡ (front ++ 42 ∷ 47 ∷ []) ++ behind
-  two_are behind e = is ∙ ap (λ cs. front ++ 42 ∷ cs) e ∙ sym (append_assoc front (42 ∷ 47 ∷ []) behind)
+-- two characters are not these two
+pub apart : (a b c d : ℕ) → (c ≡ a → d ≡ b → ⊥) → ((c == a) && (d == b)) ≡ false
+apart a b c d other =
+    ⊎_elim (λ e. let p = and_parts (c == a) _ e in absurd (other (eqb-true c a p.0) (eqb-true d b p.1))) (λ e. e) (cases_Bool ((c == a) && (d == b)))
 
-  pub block_opens : is_last 47 front ≡ true → Goes (closes_comment 0) (closes_comment (inner + 1)) text more
-  block_opens l =
-      goes_on (closes_comment 0) (closes_comment inner) (closes_comment (inner + 1)) text rest more (front ++ 42 ∷ []) goes one_is
-      (λ cs zs e. ap (closes_comment inner) (append_assoc front (42 ∷ []) cs) ∙ star_opens inner front cs none l)
+-- `*/` and `/*`
+abbrev pub block_end : List ℕ
+block_end = 42 ∷ 47 ∷ []
 
-  -- closes one with the slash behind it,
-  pub block_closes : (behind : List ℕ) → is_last 47 front ≡ false → more ≡ 47 ∷ behind → inner ≢ 0 → Goes (closes_comment 0) (closes_comment (inner - 1)) text behind
-  block_closes behind l e some =
-      goes_on (closes_comment 0) (closes_comment inner) (closes_comment (inner - 1)) text rest behind (front ++ 42 ∷ 47 ∷ []) goes (two_are behind e)
-      (λ cs zs f. ap (closes_comment inner) (append_assoc front (42 ∷ 47 ∷ []) cs) ∙ star_stays inner front (47 ∷ cs) none l ∙ rw (ne_eqb inner 0 some) refl)
+abbrev pub block_start : List ℕ
+block_start = 47 ∷ 42 ∷ []
 
-  -- closes the outermost,
-  pub block_ends : (behind : List ℕ) → is_last 47 front ≡ false → more ≡ 47 ∷ behind → inner ≡ 0 → HasFront (closes_comment 0) text behind
-  block_ends behind l e zero =
-      goes_to (closes_comment 0) (closes_comment inner) text rest behind (front ++ 42 ∷ 47 ∷ []) goes (two_are behind e)
-      (ap (λ n. closes_comment n (front ++ 42 ∷ 47 ∷ [])) zero ∙ star_stays 0 front (47 ∷ []) none l)
+pub block_end_ascii : IsAscii block_end
+block_end_ascii = IsAscii-cons 42 (47 ∷ []) (lit< tt) (IsAscii-cons 47 [] (lit< tt) IsAscii-nil)
 
-  -- or does nothing
-  pub block_stays : is_last 47 front ≡ false → begins (λ d. d == 47) more ≡ false → Goes (closes_comment 0) (closes_comment inner) text more
-  block_stays l h =
-      goes_on (closes_comment 0) (closes_comment inner) (closes_comment inner) text rest more (front ++ 42 ∷ []) goes one_is
-      (λ cs zs e. ap (closes_comment inner) (append_assoc front (42 ∷ []) cs) ∙ star_stays inner front cs none l ∙ star_skips inner cs zs more e h)
+pub block_start_ascii : IsAscii block_start
+block_start_ascii = IsAscii-cons 47 (42 ∷ []) (lit< tt) (IsAscii-cons 42 [] (lit< tt) IsAscii-nil)
+
+-- the first `*/` closes the comment, where no other opens before it
+first_closes : (cs : List ℕ) → IsFirstRun block_end cs → ((xs ys : List ℕ) → cs ≢ xs ++ (block_start ++ ys)) → is_last 47 cs ≡ false → closes_comment 0 (cs ++ block_end) ≡ true
+first_closes [] first none l = refl
+first_closes (c ∷ []) first none l = rw (and_right (c == 42) false refl, l) refl
+first_closes (c ∷ d ∷ cs) first none l =
+    let stays : ((c == 42) && (d == 47)) ≡ false = apart 42 47 c d (λ e f. first [] (c ∷ d ∷ cs) (cs ++ block_end) refl (omega arith) (λ i. e i ∷ f i ∷ (cs ++ block_end))) in
+    let flat : ((c == 47) && (d == 42)) ≡ false = apart 47 42 c d (λ e f. none [] cs (λ i. e i ∷ f i ∷ cs)) in
+    rw (stays, flat) (first_closes (d ∷ cs) (λ xs ws ys e. first (c ∷ xs) ws ys (ap (λ t. c ∷ t) e)) (λ xs ys e. none (c ∷ xs) ys (ap (λ t. c ∷ t) e)) l)
+
+-- so what is before it and itself are the front
+pub flat_ends : (text front rest : List ℕ) → text ≡ (front ++ block_end) ++ rest → IsFirstRun block_end front → ((xs ys : List ℕ) → front ≢ xs ++ (block_start ++ ys)) → is_last 47 front ≡ false
+    → HasFront (closes_comment 0) text rest
+flat_ends text front rest e first none l = record { front = front ++ block_end; is = e; passes = first_closes front first none l }

@@ -144,7 +144,7 @@ form_tested s base digits w =
 value_same : (s : List ℕ) (base : Base) (digits : List ℕ) → IsIntegerOf s base digits → int_value_of s ≡ digits_number base digits
 value_same s base digits w = let parts = parts_are s base digits w in λ i. digits_number (parts.base_is i) (parts.digits_are i)
 
--- what the test finds to be an integer that is carried is one
+-- what the test finds to be a supported integer is one
 pub int_spelled : (s : List ℕ) → is_int s ≡ true → IsInteger s
 int_spelled s h = let p = and_parts (has_int_form s) _ h in (base_of s, digits_of s, form_spelled s p.0, ltb-true _ _ p.1)
 
@@ -152,7 +152,7 @@ int_spelled s h = let p = and_parts (has_int_form s) _ h in (base_of s, digits_o
 pub int_tested : (s : List ℕ) → IsInteger s → is_int s ≡ true
 int_tested s h = and_from _ _ (form_tested s h.0 h.1 h.2) (ap (λ v. nat_lt v (2 ^ 128)) (value_same s h.0 h.1 h.2) ∙ lt-ltb _ _ h.3)
 
--- what the test finds to be an integer that is not carried is one
+-- what the test finds to be an unsupported integer is one
 pub wide_int_spelled : (s : List ℕ) → is_wide_int s ≡ true → IsWideInteger s
 wide_int_spelled s h = let p = and_parts (has_int_form s) _ h in (base_of s, digits_of s, form_spelled s p.0, ltb-false _ _ (not-true _ p.1))
 

@@ -23,5 +23,7 @@ pub mod BlockLaws
 pub mod NumberCuts
 pub mod FloatSpells
 pub mod IntegerSpells
+pub mod Searches
 pub mod InPlace
+pub mod Unclosed
 pub mod RawInPlace

@@ -29,7 +29,7 @@ use Rattle.educe_tokens_pieces.specs.Words.{continue_len}
 pub form_begins : (s : List ℕ) → has_int_form s ≡ true → begins is_ascii_digit s ≡ true
 form_begins s h = (and_parts (begins is_ascii_digit s) _ h).0
 
--- an integer that is carried does
+-- a supported integer does
 pub int_begins : (s : List ℕ) → is_int s ≡ true → begins is_ascii_digit s ≡ true
 int_begins s h = form_begins s (and_parts (has_int_form s) _ h).0
 
@@ -112,13 +112,13 @@ form_finds s r h m =
     let ended = not-true _ apart.0 in
     cond-false _ _ _ (int_no_tail s r suffix ended apart.1) ∙ ap (int_at (s ++ r)) (word_whole s r (int_words s h) ended) ∙ int_whole s r h
 
--- an integer that is carried is found
+-- a supported integer is found
 pub int_finds : (s r : List ℕ) → is_int s ≡ true → may_follow_int s r ≡ true → number_at (s ++ r) ≡ Some (Token (Literal Int), length s)
 int_finds s r h m =
     let parts = and_parts (has_int_form s) _ h in
     form_finds s r parts.0 m ∙ ap (λ kind. Some (kind, length s)) (cond-true _ _ _ parts.1)
 
--- so is one that is not carried
+-- so is an unsupported one
 pub wide_int_finds : (s r : List ℕ) → is_wide_int s ≡ true → may_follow_int s r ≡ true → number_at (s ++ r) ≡ Some (Uncarried WideInt, length s)
 wide_int_finds s r h m =
     let parts = and_parts (has_int_form s) _ h in

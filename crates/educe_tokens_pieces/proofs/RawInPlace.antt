@@ -1,15 +1,17 @@
 -- Scans of a raw text where it stands.
-use Rattle.std.proofs.Common.{◌≡◌, ℕ, zero, suc, ◌+◌, ◌<◌, ◌≤◌, true, false, Option, Some, None, List, [], ◌∷◌, ◌++◌, refl, sym, ap, ◌∙◌, subst, ⊎_elim, arith, append_assoc, append-nil}
-use Rattle.std.specs.Prelude.{◌==◌, nat_le}
+use Rattle.std.proofs.Common.{◌≡◌, ℕ, zero, suc, ◌+◌, ◌-◌, ◌≤◌, true, false, Option, Some, None, List, [], ◌∷◌, ◌++◌, take, drop, refl, sym, ap, ◌∙◌, subst, ⊎_elim, arith, append_assoc, append-nil, lit<}
+use Rattle.std.specs.Prelude.{◌==◌, ◌&&◌, nat_le}
+use Rattle.std.specs.List.{slice_range}
 use Rattle.std.specs.Option.{IfSome}
-use Rattle.std.specs.Str.{NonePass}
-use Rattle.std.proofs.lemmas.Bool.{leb-false, le-leb, lt-leb, eq-eqb, cases_lt}
-use Rattle.std.proofs.lemmas.List.{length-replicate}
-use Rattle.educe_tokens_pieces.specs.Chars.{begins}
+use Rattle.std.specs.Str.{IsAscii}
+use Rattle.std.proofs.lemmas.Bool.{and_parts, eqb-true, leb-true, le-leb, eq-eqb, cases_Bool}
+use Rattle.std.proofs.lemmas.List.{length-replicate, take-replicate}
+use Rattle.std.proofs.lemmas.Str.Ascii.{IsAscii-cons}
 use Rattle.educe_tokens_pieces.specs.Fronts.{HasFront}
 use Rattle.educe_tokens_pieces.specs.RawStrings.{mark_count, closes_raw, is_raw}
-use Rattle.educe_tokens_pieces.proofs.InPlace.{Goes, goes_on, goes_to}
-use Rattle.educe_tokens_pieces.proofs.RawStrings.{marks_of, marks_stay, mark_count-marks, raw_joined}
+use Rattle.educe_tokens_pieces.proofs.Texts.{IsAscii-replicate}
+use Rattle.educe_tokens_pieces.proofs.Searches.{IsFirstRun}
+use Rattle.educe_tokens_pieces.proofs.RawStrings.{marks_of, mark_count-marks, raw_joined}
 
 -- one `#` more in front
 marks_first : (n : ℕ) (xs : List ℕ) → marks_of n ++ 35 ∷ xs ≡ marks_of (suc n) ++ xs
@@ -20,26 +22,14 @@ marks_first (suc n) xs = ap (λ ys. 35 ∷ ys) (marks_first n xs)
 pub marks_more : (text xs ys : List ℕ) (n : ℕ) → text ≡ marks_of n ++ xs → xs ≡ 35 ∷ ys → text ≡ marks_of (n + 1) ++ ys
 marks_more text xs ys n e f = let one : suc n ≡ n + 1 = omega arith in e ∙ ap (λ zs. marks_of n ++ zs) f ∙ marks_first n ys ∙ ap (λ k. marks_of k ++ ys) one
 
--- the `#` in front are no more
-no_mark : (n : ℕ) (xs : List ℕ) → begins (λ c. c == 35) xs ≡ false → mark_count (marks_of n ++ xs) ≡ n
-no_mark zero [] h = refl
-no_mark zero (c ∷ xs) h = rw h refl
-no_mark (suc n) xs h = let more = no_mark n xs h in omega arith
-
--- so they are too few
-pub too_few : (text xs : List ℕ) (n marks : ℕ) → text ≡ marks_of n ++ xs → begins (λ c. c == 35) xs ≡ false → n < marks → nat_le marks (mark_count text) ≡ false
-too_few text xs n marks e h less = lt-leb marks (mark_count text) (omega (arith, ap mark_count e ∙ no_mark n xs h, less))
-
--- what is no quote is skipped
-skip_plain : (n : ℕ) (xs ys : List ℕ) → NonePass (λ c. c == 34) xs → closes_raw n (xs ++ ys) ≡ closes_raw n ys
-skip_plain n [] ys h = refl
-skip_plain n (c ∷ xs) ys h = rw h.0 (skip_plain n xs ys h.1)
-
--- fewer `#` stand in front of a front
-few_in_front : (n : ℕ) (cs zs more : List ℕ) → more ≡ cs ++ zs → nat_le n (mark_count more) ≡ false → nat_le n (mark_count cs) ≡ false
-few_in_front n cs zs more e h =
-    let fewer = leb-false n (mark_count (cs ++ zs)) (ap (λ t. nat_le n (mark_count t)) (sym e) ∙ h) in
-    ⊎_elim (λ k. lt-leb n (mark_count cs) k) (λ k. absurd (omega (arith, fewer, marks_stay n cs zs k))) (cases_lt (mark_count cs) n)
+-- as many `#` as there are stand in front
+marks_front : (n : ℕ) (s : List ℕ) → n ≤ mark_count s → s ≡ marks_of n ++ drop n s
+marks_front zero s h = refl
+marks_front (suc n) [] h = absurd (omega arith)
+marks_front (suc n) (c ∷ s) h =
+    ⊎_elim (λ e. let less : n ≤ mark_count s = omega (arith, rw e at h) in λ i. eqb-true c 35 e i ∷ marks_front n s less i)
+    (λ e. absurd (omega (arith, rw e at h)))
+    (cases_Bool (c == 35))
 
 -- so many `#` behind a quote close the text
 quote_closes_here : (n : ℕ) → closes_raw n (34 ∷ marks_of n) ≡ true
@@ -47,19 +37,35 @@ quote_closes_here n =
     let many : n ≤ mark_count (marks_of n) = subst (λ t. n ≤ mark_count t) (append-nil (marks_of n)) (mark_count-marks n []) in
     rw (le-leb n (mark_count (marks_of n)) many) (eq-eqb _ _ (length-replicate {A = ℕ} n 35))
 
--- at the next quote of a raw text: it is skipped,
-module _ (n : ℕ) (text rest front more : List ℕ) (goes : Goes (closes_raw n) (closes_raw n) text rest) (is : rest ≡ front ++ 34 ∷ more) (none : NonePass (λ c. c == 34) front) where
-  pub quote_stays : nat_le n (mark_count more) ≡ false → Goes (closes_raw n) (closes_raw n) text more
-  quote_stays few =
-      goes_on (closes_raw n) (closes_raw n) (closes_raw n) text rest more (front ++ 34 ∷ []) goes (is ∙ sym (append_assoc front (34 ∷ []) more))
-      (λ cs zs e. ap (closes_raw n) (append_assoc front (34 ∷ []) cs) ∙ skip_plain n front (34 ∷ cs) none ∙ rw (few_in_front n cs zs more e few) refl)
+-- `"` and so many `#`
+abbrev pub raw_end : ℕ → List ℕ
+raw_end n = 34 ∷ marks_of n
 
-  -- or closes the text with the `#` behind it
-  pub quote_ends : (behind : List ℕ) → more ≡ marks_of n ++ behind → HasFront (closes_raw n) text behind
-  quote_ends behind e =
-      goes_to (closes_raw n) (closes_raw n) text rest behind (front ++ 34 ∷ marks_of n) goes
-      (is ∙ ap (λ cs. front ++ 34 ∷ cs) e ∙ sym (append_assoc front (34 ∷ marks_of n) behind))
-      (skip_plain n front (34 ∷ marks_of n) none ∙ quote_closes_here n)
+pub raw_end_ascii : (n : ℕ) → IsAscii (raw_end n)
+raw_end_ascii n = IsAscii-cons 34 (marks_of n) (lit< tt) (IsAscii-replicate n 35 (lit< tt))
+
+-- it begins the longest one
+front_end : (n : ℕ) → n ≤ 255 → take (n + 1) (raw_end 255) ≡ raw_end n
+front_end n few = let one : suc n ≡ n + 1 = omega arith in ap (λ k. take k (raw_end 255)) (sym one) ∙ ap (λ cs. 34 ∷ cs) (take-replicate n 255 35 few)
+
+pub slice_end : (n : ℕ) → n ≤ 255 → slice_range (raw_end 255) 0 (n + 1) ≡ raw_end n
+slice_end n few = let all : n + 1 - 0 ≡ n + 1 = omega arith in ap (λ k. take k (raw_end 255)) all ∙ front_end n few
+
+-- the first of them closes the text
+first_closes : (n : ℕ) (cs : List ℕ) → IsFirstRun (raw_end n) cs → closes_raw n (cs ++ raw_end n) ≡ true
+first_closes n [] first = quote_closes_here n
+first_closes n (c ∷ cs) first =
+    let behind : List ℕ = cs ++ raw_end n in
+    let stays : ((c == 34) && nat_le n (mark_count behind)) ≡ false =
+    ⊎_elim (λ e.
+    let p = and_parts (c == 34) _ e in
+    absurd (first [] (c ∷ cs) (drop n behind) refl (omega arith) (λ i. eqb-true c 34 p.0 i ∷ marks_front n behind (leb-true _ _ p.1) i)))
+    (λ e. e) (cases_Bool ((c == 34) && nat_le n (mark_count behind))) in
+    rw stays (first_closes n cs (λ xs ws ys e. first (c ∷ xs) ws ys (ap (λ t. c ∷ t) e)))
+
+-- so what is before it and itself are the front
+pub raw_ends : (n : ℕ) (text front rest : List ℕ) → text ≡ (front ++ raw_end n) ++ rest → IsFirstRun (raw_end n) front → HasFront (closes_raw n) text rest
+raw_ends n text front rest e first = record { front = front ++ raw_end n; is = e; passes = first_closes n front first }
 
 -- the whole raw text
 pub raw_front : (n : ℕ) (text quoted body rest : List ℕ) → n ≤ 255 → text ≡ marks_of n ++ quoted → quoted ≡ 34 ∷ body → HasFront (closes_raw n) body rest → HasFront is_raw text rest

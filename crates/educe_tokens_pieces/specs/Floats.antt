@@ -1,4 +1,4 @@
--- Floats, which are read and not carried (Rust Reference, Floating-point literals).
+-- Floats, which are unsupported literals (Rust Reference, Floating-point literals).
 use Rattle.std.specs.Prelude.{ℕ, ◌==◌, Bool, false, cond, ◌&&◌, ◌||◌, List, [], ◌∷◌, take, drop, codes}
 use Rattle.std.specs.List.{list_any, prefix_len}
 use Rattle.std.specs.Str.{bytes_eq}

@@ -73,11 +73,11 @@ int_value_of cs = digits_value (radix (base_of cs)) (filter (λ c. not (c == 95)
 abbrev pub fits_u128 : List ℕ → Bool
 fits_u128 cs = nat_lt (int_value_of cs) (2 ^ 128)
 
--- an integer that is carried
+-- a supported integer
 abbrev pub is_int : List ℕ → Bool
 is_int cs = has_int_form cs && fits_u128 cs
 
--- an integer that is too large to be carried
+-- an integer that is too large to be supported
 abbrev pub is_wide_int : List ℕ → Bool
 is_wide_int cs = has_int_form cs && not (fits_u128 cs)
 

@@ -52,7 +52,7 @@ with_digit base value c = cond (c == 95) value (value * radix base + digit_value
 abbrev pub digits_number : Base → List ℕ → ℕ
 digits_number base ds = digits_value (radix base) (filter (λ c. not (c == 95)) ds)
 
--- an integer is carried where its value allows it
+-- an integer is supported where its value allows it
 abbrev pub int_kind : List ℕ → PieceKind
 int_kind cs = cond (fits_u128 cs) (Token (Literal Int)) (Uncarried WideInt)
 

@@ -1,5 +1,5 @@
--- The pieces that a text consists of (Rust Reference, Lexical structure): blanks, comments, tokens, and literals that are
--- read and not carried. A piece has two tests: its spelling alone, and what may follow it.
+-- The pieces that a text consists of (Rust Reference, Lexical structure): blanks, comments, tokens, and unsupported
+-- literals. A piece has two tests: its spelling alone, and what may follow it.
 use Rattle.std.specs.Prelude.{ℕ, ◌==◌, Bool, true, false, ◌&&◌, ◌||◌, not, List, [], ◌∷◌}
 use Rattle.std.specs.Bool.{beq}
 use Rattle.unicode_ident.specs.Ident.{is_xid_continue}
@@ -44,7 +44,7 @@ spells (Start b) cs = is_only (opener b) cs
 spells (Stop b) cs = is_only (closer b) cs
 spells Doc cs = is_doc cs
 
--- the spelling is one literal that is not carried
+-- the spelling is one unsupported literal
 abbrev pub spells_uncarried : UncarriedKind → List ℕ → Bool
 spells_uncarried Float cs = is_float cs
 spells_uncarried WideInt cs = is_wide_int cs

@@ -191,7 +191,7 @@ Spells (Start b) text = text ≡ opener b ∷ []
 Spells (Stop b) text = text ≡ closer b ∷ []
 Spells Doc text = IsLineDoc text ⊎ IsBlockDoc text
 
--- the text is one literal that is not carried
+-- the text is one unsupported literal
 abbrev pub SpellsUncarried : UncarriedKind → List ℕ → Type 0
 SpellsUncarried Float text = IsFloat text
 SpellsUncarried WideInt text = IsWideInteger text

@@ -1,4 +1,4 @@
-//! Floats, which are read and not carried (Rust Reference, Floating-point literals).
+//! Floats, which are unsupported literals (Rust Reference, Floating-point literals).
 ghost use Rattle.std.specs.Prelude.{◌≡◌, ◌≤◌, ◌+◌, ◌==◌, ◌||◌, length};
 ghost use Rattle.std.specs.List.{list_any, prefix_len};
 ghost use Rattle.std.specs.Char.{is_ascii_digit};

@@ -1,12 +1,13 @@
 //! Pieces where they stand in a text, with no list of its characters. Each function answers what
 //! follows the piece.
-ghost use Rattle.std.specs.Prelude.{◌≡◌, ◌<◌, ◌++◌, ◌∷◌, ◌==◌, [], false, chars, length, IsTrue, IfSome, MatchOption};
+ghost use Rattle.std.specs.Prelude.{◌≡◌, ◌+◌, ◌<◌, ◌++◌, ◌∷◌, ◌==◌, [], false, chars, length, IsTrue, IfSome, MatchOption};
 ghost use Rattle.std.specs.List.{list_all};
 ghost use Rattle.educe_tokens_pieces.specs.Chars.{begins, is_blank, is_in_line};
 ghost use Rattle.educe_tokens_pieces.specs.Words.{is_word, touches_word};
 ghost use Rattle.unicode_ident.specs.Ident.{is_xid_continue};
 ghost use Rattle.educe_tokens_pieces.specs.Comments.{closes_comment};
-ghost use Rattle.educe_tokens_pieces.specs.Fronts.{HasFront, is_last};
+ghost use Rattle.educe_tokens_pieces.specs.CommentScan.{closing_len};
+ghost use Rattle.educe_tokens_pieces.specs.Fronts.{HasFront, begins_pair, is_last};
 ghost use Rattle.educe_tokens_pieces.specs.Machine.{ends};
 ghost use Rattle.educe_tokens_pieces.specs.Pieces.{ends_word_before};
 ghost use Rattle.educe_tokens_pieces.specs.declared.quotes.Within.{Within};
@@ -127,27 +128,62 @@ fn ends_in_slash(text: &str) -> bool
     text.ends_with('/')
 }
 
-/// What follows the block comment that the text is in, if it closes.
-pub fn behind_block(text: &str) -> Option<&str>
-    ensures { IfSome result (λ rest. HasFront (closes_comment 0) (chars text.now) (chars rest.now)) }
+/// What follows the two marks, which are ASCII, where a text begins with them.
+fn behind_pair(text: &str, first: u8, second: u8) -> Option<&str>
+    requires ascii { (first < 128) × (second < 128) }
+    ensures parts { IfSome result (λ rest. chars text.now ≡ first ∷ second ∷ chars rest.now) }
+    ensures none { result ≡ None → begins_pair first second (chars text.now) ≡ false }
+    ensures shorter { IfSome result (λ rest. length rest.now + 2 ≡ length text.now) }
+{
+    let bytes = text.as_bytes();
+    if bytes.len() < 2 {
+        return None;
+    }
+    if bytes[0] != first {
+        return None;
+    }
+    if bytes[1] == second {
+        Some(&text[2..])
+    } else {
+        None
+    }
+}
+
+/// What follows the block comment that the text is in, if it closes and maybe has others in it.
+fn behind_nested(text: &str) -> Option<&str>
+    ensures front { IfSome result (λ rest. HasFront (closes_comment 0) (chars text.now) (chars rest.now)) }
+    ensures none { result ≡ None → closing_len 0 (chars text.now) ≡ None }
 {
     let mut inner: usize = 0;
     let mut rest = text;
-    while let Some((front, more)) = rest.split_once('*') {
-        if ends_in_slash(front) {
+    loop {
+        if let Some(behind) = behind_pair(rest, b'/', b'*') {
             inner += 1;
-            rest = more;
-        } else if let Some(behind) = behind_mark(more, '/') {
+            rest = behind;
+        } else if let Some(behind) = behind_pair(rest, b'*', b'/') {
             if inner == 0 {
                 return Some(behind);
             }
             inner -= 1;
             rest = behind;
         } else {
+            let (_, more) = first_of(rest)?;
             rest = more;
         }
     }
-    None
+}
+
+/// What follows the block comment that the text is in, if it closes. Few have another in them.
+pub fn behind_block(text: &str) -> Option<&str>
+    ensures front { IfSome result (λ rest. HasFront (closes_comment 0) (chars text.now) (chars rest.now)) }
+    ensures none { result ≡ None → closing_len 0 (chars text.now) ≡ None }
+{
+    let (front, rest) = text.split_once("*/")?;
+    if front.contains("/*") || ends_in_slash(front) {
+        behind_nested(text)
+    } else {
+        Some(rest)
+    }
 }
 
 /// What follows the literal behind its opening quote, if it ends.

@@ -8,7 +8,7 @@ pub enum Bracket {
     Curly,
 }
 
-/// The kinds of literals that are carried (Rust Reference, Literals). A `Str` or a `ByteStr` may be
+/// The kinds of supported literals (Rust Reference, Literals). A `Str` or a `ByteStr` may be
 /// raw.
 #[derive(Clone, Copy, Debug, PartialEq, Eq)]
 pub enum LiteralKind {
@@ -33,7 +33,7 @@ pub enum TokenKind {
     Doc,
 }
 
-/// The kinds of literals that are read and not carried (Rust Reference, Literals).
+/// The kinds of unsupported literals (Rust Reference, Literals).
 #[derive(Clone, Copy, Debug, PartialEq, Eq)]
 pub enum UncarriedKind {
     /// A floating-point literal.

@@ -8,7 +8,7 @@ use crate::integers::{fits_u128, has_int_form, makes_float, suffix_of};
 use crate::kind::{LiteralKind, PieceKind, TokenKind, UncarriedKind};
 use crate::words::{continue_len, ends_word_before};
 
-/// An integer is carried where its value is within `u128`.
+/// An integer is supported where its value is within `u128`.
 fn int_kind(spelling: &[char]) -> PieceKind
     ensures { result ≡ int_kind spelling.now }
 {

@@ -1,5 +1,5 @@
 //! Raw strings (Rust Reference, Raw string literals).
-ghost use Rattle.std.specs.Prelude.{◌≡◌, ◌≤◌, ◌==◌, ◌&&◌, ◌++◌, true, false, length, replicate, nat_le, chars, IsTrue, IfSome};
+ghost use Rattle.std.specs.Prelude.{◌≡◌, ◌≤◌, ◌==◌, ◌&&◌, ◌++◌, true, length, replicate, nat_le, chars, IsTrue, IfSome};
 ghost use Rattle.educe_tokens_pieces.specs.Fronts.{HasFront};
 ghost use Rattle.educe_tokens_pieces.specs.RawStrings.{mark_count, closes_raw, raw_closing_len, raw_len, is_raw, is_raw_str, raw_value, IsRawOf};
 
@@ -61,32 +61,21 @@ fn split_marks(text: &str) -> (usize, &str)
     (count, rest)
 }
 
-/// What follows so many `#`, where the text begins with them.
-fn behind_marks(marks: usize, text: &str) -> Option<&str>
-    ensures parts { IfSome result (λ rest. chars text.now ≡ replicate marks 35 ++ chars rest.now) }
-    ensures none { result ≡ None → nat_le marks (mark_count (chars text.now)) ≡ false }
-{
-    let mut seen: usize = 0;
-    let mut rest = text;
-    while seen < marks {
-        rest = behind_mark(rest, '#')?;
-        seen += 1;
-    }
-    Some(rest)
-}
+/// How the raw text with the most `#` ends. The end of any other one begins so.
+const LONGEST_END: &str = "\"\
+    ###################################################\
+    ###################################################\
+    ###################################################\
+    ###################################################\
+    ###################################################";
 
 /// What follows the raw text behind its opening quote, if it ends.
 fn behind_closing(marks: usize, text: &str) -> Option<&str>
+    requires { marks ≤ 255 }
     ensures { IfSome result (λ rest. HasFront (closes_raw marks) (chars text.now) (chars rest.now)) }
 {
-    let mut rest = text;
-    while let Some((_, more)) = rest.split_once('"') {
-        if let Some(behind) = behind_marks(marks, more) {
-            return Some(behind);
-        }
-        rest = more;
-    }
-    None
+    let (_, rest) = text.split_once(&LONGEST_END[..marks + 1])?;
+    Some(rest)
 }
 
 /// What follows the raw text at the front, from its first `#` or `"` on, if it ends.

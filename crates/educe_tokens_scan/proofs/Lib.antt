@@ -1,6 +1,7 @@
 pub mod Fitting
 pub mod FrontFits
 pub mod FrontFinds
+pub mod NoComment
 pub mod Front
 pub mod Readings
 pub mod Following

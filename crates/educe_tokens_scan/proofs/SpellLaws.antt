@@ -268,7 +268,7 @@ spells_complete (Start b) s h = ap (is_only (opener b)) h ∙ eq-eqb (opener b) 
 spells_complete (Stop b) s h = ap (is_only (closer b)) h ∙ eq-eqb (closer b) (closer b) refl
 spells_complete Doc s h = doc_tested s h
 
--- what spells a literal that is not carried by the test spells it
+-- what spells an unsupported literal by the test spells it
 pub uncarried_sound : (kind : UncarriedKind) (s : List ℕ) → spells_uncarried kind s ≡ true → SpellsUncarried kind s
 uncarried_sound Float s h = float_spelled s h
 uncarried_sound WideInt s h = wide_int_spelled s h

@@ -1,9 +1,11 @@
 //! Pieces that are scanned where they stand in the text. Each function answers the kind of the
-//! piece at the front and what follows it; None says nothing about the text.
+//! piece at the front and what follows it; None says nothing about the text, but where a comment
+//! opens it.
 ghost use Rattle.std.specs.Prelude.{◌≡◌, ◌∷◌, ◌++◌, chars, IfSome};
-ghost use Rattle.educe_tokens_pieces.specs.Chars.{begins};
+ghost use Rattle.educe_tokens_pieces.specs.Chars.{begins, is_slash_or_star};
 ghost use Rattle.educe_tokens_pieces.specs.Words.{touches_lifetime};
-ghost use Rattle.educe_tokens_pieces.specs.Comments.{opens_line_doc, opens_block_doc};
+ghost use Rattle.educe_tokens_pieces.specs.Comments.{opens_comment, opens_line_doc, opens_block_doc};
+ghost use Rattle.educe_tokens_pieces.specs.CommentScan.{comment_at};
 ghost use Rattle.educe_tokens_scan.specs.InPlace.{Stands, opening, quoted_kind};
 
 use crate::decimals::decimal_front;
@@ -35,7 +37,8 @@ fn documents_block(text: &str) -> bool
 
 /// The comment or documentation of a line, behind its `//`.
 fn line_front(text: &str) -> Option<(PieceKind, &str)>
-    ensures { IfSome result (λ x. Stands x.0 (47 ∷ 47 ∷ chars text.now) (chars x.1.now)) }
+    ensures stands { IfSome result (λ x. Stands x.0 (47 ∷ 47 ∷ chars text.now) (chars x.1.now)) }
+    ensures none { result ≡ None → comment_at (47 ∷ 47 ∷ chars text.now) ≡ None }
 {
     let (line, rest) = split_line(text);
     if text_begins(line, '!') {
@@ -47,7 +50,8 @@ fn line_front(text: &str) -> Option<(PieceKind, &str)>
 
 /// The comment or documentation of a block, behind its `/*`.
 fn block_front(text: &str) -> Option<(PieceKind, &str)>
-    ensures { IfSome result (λ x. Stands x.0 (47 ∷ 42 ∷ chars text.now) (chars x.1.now)) }
+    ensures stands { IfSome result (λ x. Stands x.0 (47 ∷ 42 ∷ chars text.now) (chars x.1.now)) }
+    ensures none { result ≡ None → comment_at (47 ∷ 42 ∷ chars text.now) ≡ None }
 {
     if text_begins(text, '!') {
         return None;
@@ -56,8 +60,31 @@ fn block_front(text: &str) -> Option<(PieceKind, &str)>
     Some((comment_kind(documents_block(text)), rest))
 }
 
-fn comment_front(text: &str) -> Option<(PieceKind, &str)>
-    ensures { IfSome result (λ x. Stands x.0 (chars text.now) (chars x.1.now)) }
+/// Whether a text begins with `/` or `*`, which open a comment behind a `/` (Rust Reference,
+/// Comments).
+fn begins_slash_or_star(text: &str) -> bool
+    ensures { result ≡ begins is_slash_or_star (chars text.now) }
+{
+    match first_of(text) {
+        Some((c, _)) => matches!(c, '/' | '*'),
+        None => false,
+    }
+}
+
+/// Whether a comment or documentation opens a text (Rust Reference, Comments).
+pub(crate) fn opens_comment(text: &str) -> bool
+    ensures { result ≡ opens_comment (chars text.now) }
+{
+    match behind_mark(text, '/') {
+        Some(behind) => begins_slash_or_star(behind),
+        None => false,
+    }
+}
+
+/// The comment or documentation at the front, and none only where none stands there.
+pub(crate) fn comment_front(text: &str) -> Option<(PieceKind, &str)>
+    ensures stands { IfSome result (λ x. Stands x.0 (chars text.now) (chars x.1.now)) }
+    ensures none { result ≡ None → comment_at (chars text.now) ≡ None }
 {
     let behind = behind_mark(text, '/')?;
     match behind_mark(behind, '/') {
@@ -187,12 +214,11 @@ fn single_front(text: &str) -> Option<(PieceKind, &str)>
     if len == 1 { Some((kind, rest)) } else { None }
 }
 
-/// A comment, a literal or a lifetime.
+/// A literal or a lifetime.
 fn long_front(text: &str) -> Option<(PieceKind, &str)>
     ensures { IfSome result (λ x. Stands x.0 (chars text.now) (chars x.1.now)) }
 {
     match first_of(text) {
-        Some(('/', _)) => comment_front(text),
         Some(('"', _)) => string_front(text),
         Some(('r', _)) => raw_string_front(text),
         Some(('\'', _)) => mark_front(text),
@@ -212,7 +238,8 @@ fn short_front(text: &str) -> Option<(PieceKind, &str)>
     }
 }
 
-/// The piece at the front of a text, if it is of a kind that is scanned in place.
+/// The piece at the front of a text that no comment opens, if it is of a kind that is scanned in
+/// place.
 pub(crate) fn front_in_place(text: &str) -> Option<(PieceKind, &str)>
     ensures { IfSome result (λ x. Stands x.0 (chars text.now) (chars x.1.now)) }
 {

@@ -4,7 +4,7 @@ ghost use Rattle.educe_tokens_scan.specs.InPlace.{Stands, IsFront, byte_piece};
 ghost use Rattle.educe_tokens_scan.specs.Reading.{IsPiece, IsLongest, FitsNone};
 ghost use Rattle.educe_tokens_scan.specs.Scan.{piece_at};
 
-use crate::in_place::front_in_place;
+use crate::in_place::{comment_front, front_in_place, opens_comment};
 use crate::windows::front_by_windows;
 use educe_tokens_pieces::PieceKind;
 use std::alloc::{AllocError, Global};
@@ -14,6 +14,9 @@ fn front(alloc: Global, text: &str) -> Result<Option<(PieceKind, &str)>, AllocEr
     ensures stands { IfOk result (λ found. IfSome found (λ x. Stands x.0 (chars text.now) (chars x.1.now))) }
     ensures none { IfOk result (λ found. found ≡ None → piece_at (chars text.now) ≡ None) }
 {
+    if opens_comment(text) {
+        return Ok(comment_front(text));
+    }
     match front_in_place(text) {
         Some(found) => Ok(Some(found)),
         None => front_by_windows(alloc, text),

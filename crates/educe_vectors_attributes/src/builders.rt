@@ -71,6 +71,20 @@ pub(crate) fn debug_named(alloc: Global, name: &str) -> Result<debug::TypeAttrib
     })
 }
 
+/// Of a field whose name is another where none is given.
+pub(crate) fn debug_field_named(
+    alloc: Global,
+    name: &str,
+) -> Result<debug::FieldAttributeBuilder, Fail> {
+    let name = ident(alloc, name)?;
+    Ok(debug::FieldAttributeBuilder {
+        enable_name: true,
+        enable_ignore: true,
+        enable_method: true,
+        name: FieldName::Custom(name),
+    })
+}
+
 /// Of a field of the rank 7.
 pub(crate) fn ord_field(
     enable_ignore: bool,

@@ -1,4 +1,6 @@
 //! The keys of fields, as names of bindings and in initializers.
+ghost use Rattle.std.specs.Prelude.{IsTrue};
+ghost use Rattle.educe_tokens.specs.Quote.{is_ascii_name};
 
 use crate::builders::ident;
 use educe_attrs_keys::IdentOrIndex;
@@ -25,10 +27,12 @@ fn plain(alloc: Global, name: &str, index: u32) -> Result<IdentOrIndex, Fail> {
     }
 }
 
-/// The name of the binding of a key, behind `_s_`.
+/// The name of the binding of a key, behind a prefix.
 #[tactic(auto, using(educe_body::specs::NameLaws::ascii_is_word))]
-fn binding(alloc: Global, key: &IdentOrIndex) -> Result<String, Fail> {
-    let name = key.to_binding(alloc, "_s_")?;
+fn binding(alloc: Global, key: &IdentOrIndex, prefix: &str) -> Result<String, Fail>
+    requires { IsTrue (is_ascii_name prefix.now) }
+{
+    let name = key.to_binding(alloc, prefix)?;
     Ok(text_of_tree(alloc, &name)?)
 }
 
@@ -44,7 +48,7 @@ fn initializer(alloc: Global, key: &IdentOrIndex, value: &str) -> Result<String,
 /// A key as it is printed, its binding, and its initializer with a value.
 fn shown(alloc: Global, key: &IdentOrIndex, value: &str) -> Result<String, Fail> {
     let text = text_of_tree(alloc, key)?;
-    let binding = binding(alloc, key)?;
+    let binding = binding(alloc, key, "_s_")?;
     let initializer = initializer(alloc, key, value)?;
     Ok(format!(in alloc; "{text} {binding}{initializer}")?)
 }

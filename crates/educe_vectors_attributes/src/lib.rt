@@ -8,6 +8,8 @@ mod answers;
 #[cfg(test)]
 mod builders;
 #[cfg(test)]
+mod calls;
+#[cfg(test)]
 mod defaults;
 #[cfg(test)]
 mod generated;

@@ -1,6 +1,7 @@
 //! The tables: a text, the place of its refusal, and the message or what the text says.
 
 mod bounds;
+mod calls;
 mod debug_fields;
 mod debug_types;
 mod defaults;

@@ -9,6 +9,8 @@ use educe_attrs_values::{
 };
 use educe_bound::Bound;
 use educe_syntax::{Expr, ExprPath, Ident, Meta, text_of_tree};
+use educe_tokens::Span;
+use educe_vectors_checks::check_at;
 use std::alloc::Global;
 use std::test::Fail;
 
@@ -79,6 +81,33 @@ fn read(alloc: Global, kind: ValueKind, source: &str) -> Result<String, Fail> {
 pub(crate) fn check_values(alloc: Global, cases: &[(ValueKind, Case)]) -> Result<(), Fail> {
     for (kind, case) in cases {
         check_case(alloc, case, &read(alloc, *kind, case.0)?)?;
+    }
+    Ok(())
+}
+
+/// The place of the name that the meta has as its value.
+fn name_place(alloc: Global, source: &str, meta: &Meta) -> Result<Span, Fail>
+    requires { IsNamed meta.now }
+{
+    match meta_2_ident(alloc, meta) {
+        Ok(name) => Ok(name.span),
+        Err(_) => Err(Fail::from(source)),
+    }
+}
+
+/// The place of the name that the one meta that a text is has as its value.
+fn read_place(alloc: Global, source: &str) -> Result<Span, Fail> {
+    match metas(alloc, source)?.as_slice() {
+        [meta] if is_named(meta) => name_place(alloc, source, meta),
+        _ => Err(Fail::from(source)),
+    }
+}
+
+/// The name that each meta has as its value has this place.
+pub(crate) fn check_places(alloc: Global, cases: &[(&str, u32, u32)]) -> Result<(), Fail> {
+    for (source, start, end) in cases {
+        let found = read_place(alloc, source)?;
+        check_at(*source, (found.start, found.end), (*start, *end))?;
     }
     Ok(())
 }

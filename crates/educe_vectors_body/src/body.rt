@@ -1,11 +1,12 @@
-//! Of `educe_body`: that words are made, fields are read and items are spelled, and that the words of
-//! the contracts mean what they are to mean.
+//! Of `educe_body`: that words are found, names are chosen, fields are read and items are spelled,
+//! and that the words of the contracts mean what they are to mean.
 
 use educe_body::{Callee, Form, Forms, Shared, built_in_path};
 use educe_tokens::{Seq, pair};
 use std::alloc::{AllocError, Global};
 
 mod fields;
+mod names;
 mod speller;
 mod words;
 

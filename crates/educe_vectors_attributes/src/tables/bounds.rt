@@ -14,7 +14,7 @@ const CLONE_FORMS: &str = "you are using an incorrect format of the `Clone` attr
     #[educe(Clone(bound(where_predicates)))]
     #[educe(Clone(bound = false))]";
 
-static CLONE: [Case; 40] = [
+static CLONE: [Case; 43] = [
     ("Clone", "", "needed bounds"),
     ("Clone()", "", "needed bounds"),
     ("Clone(bound = false)", "", "no bounds"),
@@ -55,6 +55,9 @@ static CLONE: [Case; 40] = [
     ("Clone(1)", "1:7", "syntax error"),
     ("Clone(bound = true bound = true)", "1:20", "syntax error"),
     ("Clone(,)", "1:7", "syntax error"),
+    ("Clone(bound =)", "1:14", "syntax error"),
+    ("Clone(a = !!!!!!!!!!!!!!!!!!!!!!!!!!!!!!!!!!!!!!!!!!!!!!!!!!!!!!!!!!!!!!!!!!!!!!!!!!!!!!!!!!!!!!!!!!!!!!!!!!!!!!!!!!!!!!!!!!!!!!!!!!!!!!!!!x)", "1:139", "nested too deeply"),
+    ("Clone(a = !!!!!!!!!!!!!!!!!!!!!!!!!!!!!!!!!!!!!!!!!!!!!!!!!!!!!!!!!!!!!!!!!!!!!!!!!!!!!!!!!!!!!!!!!!!!!!!!!!!!!!!!!!!!!!!!!!!!!!!!!!!!!!!!x)", "1:1", CLONE_FORMS),
 ];
 
 /// The forms of `Copy` at a type.

@@ -1,9 +1,10 @@
 //! The attributes of `Debug` at fields (documentation of `educe`, Debug).
 
-use crate::answers::{Case, check_metas};
-use crate::builders::debug_field;
+use crate::answers::{Case, check_fields, check_metas};
+use crate::builders::{debug_field, debug_field_named};
 use educe_attrs_builders::debug;
 use educe_attrs_builders::debug::FieldName;
+use educe_bound::Trait;
 use std::test::Fail;
 
 const NAMED_FORMS: &str = "you are using an incorrect format of the `Debug` attribute, which should be reformatted as follows:
@@ -109,6 +110,21 @@ static NO_SWITCH: [Case; 2] = [
     ("Debug = false", "1:1", "the `Debug` attribute cannot be placed here"),
     ("Debug(name = x)", "1:1", "the `Debug` attribute cannot be placed here"),
 ];
+
+static RENAMED: [Case; 5] = [
+    ("", "", "name N; kept; no method"),
+    ("#[educe(Debug(ignore))]", "", "name N; ignored; no method"),
+    ("#[educe(Debug = false)] #[educe(Clone(method = f))]", "", "name N; ignored; no method"),
+    ("#[educe(Debug = x)]", "", "name x; kept; no method"),
+    ("#[educe(Debug = true)]", "", "name N; kept; no method"),
+];
+
+#[test]
+fn debug_at_a_field_that_has_another_name(rt: HostRuntime) -> Result<(), Fail> {
+    let alloc = rt.alloc();
+    let builder = debug_field_named(alloc, "N")?;
+    check_fields(alloc, &builder, &[Trait::Debug, Trait::Clone], &RENAMED)
+}
 
 #[test]
 fn debug_at_a_field_with_a_name(rt: HostRuntime) -> Result<(), Fail> {

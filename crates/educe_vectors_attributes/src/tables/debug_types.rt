@@ -1,9 +1,10 @@
 //! The attributes of `Debug` at types and variants (documentation of `educe`, Debug).
 
-use crate::answers::{Case, check_metas};
+use crate::answers::{Case, check_metas, check_types};
 use crate::builders::{debug_enum, debug_named, debug_struct, debug_variant};
 use educe_attrs_builders::debug;
 use educe_attrs_builders::debug::TypeName;
+use educe_bound::Trait;
 use std::test::Fail;
 
 const STRUCT_FORMS: &str = "you are using an incorrect format of the `Debug` attribute, which should be reformatted as follows:
@@ -153,6 +154,21 @@ static NO_SWITCH: [Case; 3] = [
     ("Debug = A", "1:1", "the `Debug` attribute cannot be placed here"),
     ("Debug(name = A)", "1:1", "the `Debug` attribute cannot be placed here"),
 ];
+
+static VARIANT_PLACES: [Case; 7] = [
+    ("", "", "own name; named fields; needed bounds"),
+    ("#[educe(Debug = V)]", "", "name V; named fields; needed bounds"),
+    ("#[educe] #[educe(Clone)] #[educe(Debug(rename = V, named_field(false)))]", "", "name V; fields without names; needed bounds"),
+    ("#[educe(Debug)]", "1:9", VARIANT_FORMS),
+    ("#[educe(Debug = V)] #[educe(Debug = V)]", "1:29", "the trait `Debug` is used repeatedly"),
+    ("#[educe(Hash)]", "1:9", "the trait `Hash` is not used"),
+    ("#[educe(Debug = 1)]", "1:17", "expected `Debug = Ident`"),
+];
+
+#[test]
+fn debug_in_the_attributes_of_a_variant(rt: HostRuntime) -> Result<(), Fail> {
+    check_types(rt.alloc(), &debug_variant(true), &[Trait::Debug, Trait::Clone], &VARIANT_PLACES)
+}
 
 #[test]
 fn debug_at_a_struct(rt: HostRuntime) -> Result<(), Fail> {

@@ -125,7 +125,7 @@ static NO_SWITCH: [Case; 2] = [
     ("Ord = false", "1:1", "the `Ord` attribute cannot be placed here"),
 ];
 
-static ORD_OR_PARTIAL_ORD: [Case; 24] = [
+static ORD_OR_PARTIAL_ORD: [Case; 25] = [
     ("", "", "kept; no method; rank 7"),
     ("#[educe(Ord(rank = 1))]", "", "kept; no method; rank 1 at 12 to 20"),
     ("#[educe(PartialOrd = false)]", "", "ignored; no method; rank 7"),
@@ -148,6 +148,7 @@ static ORD_OR_PARTIAL_ORD: [Case; 24] = [
     ("#[educe(PartialOrd(rank = 1), PartialOrd(rank = 2))]", "1:31", "the trait `PartialOrd` is used repeatedly"),
     ("#[educe(PartialOrd(ignore))] #[educe[PartialOrd(ignore)]]", "1:38", "the trait `PartialOrd` is used repeatedly"),
     ("#[educe(Ord(rank = 1), PartialOrd(ignore), Ord(rank = 1))]", "1:44", "the trait `Ord` is used repeatedly"),
+    ("#[educe(PartialOrd(method = 1))]", "1:29", "expected `method = Path`"),
     ("#[educe(PartialOrd(ignore), Ord)]", "1:29", ORD_FORMS),
     ("#[educe(PartialOrd(ignore), Ord(rank = x))]", "1:40", NO_RANK),
 ];

@@ -1,7 +1,7 @@
 //! The values of parameters, by their kinds (documentation of `educe`, Traits).
 
 use crate::answers::Case;
-use crate::values::check_values;
+use crate::values::{check_places, check_values};
 use educe_attrs_values::ValueKind;
 use std::test::Fail;
 
@@ -74,7 +74,7 @@ static VALUES: [(ValueKind, Case); 137] = [
     (ValueKind::Expr, ("p = \"1.5\"", "", "\"1.5\"")),
     (ValueKind::Expr, ("p(\"x\")", "", "\"x\"")),
     (ValueKind::Expr, ("p = f(x)", "", "f ( x )")),
-    (ValueKind::Expr, ("p(a[0].b?)", "", "a [ 0 ] . b ?")),
+    (ValueKind::Expr, ("p(a[0].b)", "", "a [ 0 ] . b")),
     (ValueKind::Expr, ("p", "1:1", "expected `p = Expr` or `p(Expr)`")),
     (ValueKind::Expr, ("a::p", "1:1", "expected `a::p = Expr` or `a::p(Expr)`")),
     (ValueKind::Expr, ("p()", "1:2", "expected `p = Expr`")),
@@ -148,5 +148,20 @@ static VALUES: [(ValueKind, Case); 137] = [
 #[test]
 fn values_are_read_by_their_kind(rt: HostRuntime) -> Result<(), Fail> {
     check_values(rt.alloc(), &VALUES)
+}
+
+/// A meta, and the place of the name that is its value: in the text, or in the text of the string.
+static PLACES: [(&str, u32, u32); 6] = [
+    ("p = X", 4, 5),
+    ("p(X)", 2, 3),
+    ("a::p = r#fn", 7, 11),
+    ("p = \"X\"", 0, 1),
+    ("p(\" X\")", 1, 2),
+    ("p = r#\"/**/ X\"#", 5, 6),
+];
+
+#[test]
+fn names_have_places(rt: HostRuntime) -> Result<(), Fail> {
+    check_places(rt.alloc(), &PLACES)
 }
 

@@ -1,5 +1,5 @@
 use Rattle.std.proofs.Common.{sym, ap, ◌∙◌}
-use Rattle.educe_attrs_generated.specs.Words.{is_one_word}
+use Rattle.educe_attrs_values.specs.Words.{is_one_word}
 use Rattle.educe_attrs_generated.proofs.Words.{chars_repr}
 use Rattle.educe_attrs_generated.proofs.Listed.{packs_list}
 use Rattle.educe_attrs_generated.proofs.packed.packs.Goals as goal

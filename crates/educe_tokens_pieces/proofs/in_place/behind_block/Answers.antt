@@ -1,43 +1,25 @@
-use Rattle.std.proofs.Common.{◌≡◌, ◌+◌, arith, rules, chars, sym, ◌∙◌, lit<}
-use Rattle.educe_tokens_pieces.proofs.InPlace.{mark_split, block_opens, block_closes, block_ends, block_stays}
+use Rattle.std.proofs.Common.{None, chars, sym, ◌∙◌, rules}
+use Rattle.std.specs.Str.{IsUtf8}
+use Rattle.std.proofs.lemmas.Bool.{false≢true}
+use Rattle.std.proofs.lemmas.Str.Pattern.{split_text_parts, contains_text}
+use Rattle.educe_tokens_pieces.proofs.InPlace.{block_end, block_start, block_end_ascii, block_start_ascii, flat_ends}
+use Rattle.educe_tokens_pieces.proofs.Searches.{lacks_run, split_run}
+use Rattle.educe_tokens_pieces.proofs.Unclosed.{none_ends}
+use Rattle.educe_tokens_pieces.proofs.in_place.behind_block.Goals.{then-contains, else-contains}
 use Rattle.educe_tokens_pieces.proofs.in_place.behind_block.Goals as goal
 
-pub loop-front-preserved-then-ends_in_slash : goal.loop-front-preserved-then-ends_in_slash
-loop-front-preserved-then-ends_in_slash c =
-    let s = c.in-Some.ensures.cases in
-    let one : s.1 ≡ s.0 + 1 = s.2.1.ends in
-    let parts = mark_split 42 c.loop-front.rest.now c.in-Some.front.now c.in-Some.more.now s.0 s.1 (lit< tt) c.loop-front.invariant.utf8 s.2.0 s.2.1 s.3 s.4 in
-    record {
-      utf8 = search rules;
-      goes = block_opens c.loop-front.inner (chars c.args.text.now) (chars c.loop-front.rest.now) (chars c.in-Some.front.now) (chars c.in-Some.more.now) c.loop-front.invariant.goes parts.0 parts.1 (sym c.ends_in_slash.ensures ∙ c.if-ends_in_slash.true);
-      depth = omega (arith, c.loop-front.invariant.depth, one, s.7);
-    }
+pub returns-in_err-front-clause-none : goal.returns-in_err-front-clause-none
+returns-in_err-front-clause-none c _ =
+    none_ends 0 (chars c.args.text.now) (lacks_run block_end c.args.text.now block_end_ascii c.utf8.text (λ h. split_text_parts block_end c.args.text.now None c.in_err-front.ensures.cases h.0 h.1 h.2))
 
-pub returns-then-inner-eq0 : goal.returns-then-inner-eq0
-returns-then-inner-eq0 c =
-    let s = c.in-Some.ensures.cases in
-    let one : s.1 ≡ s.0 + 1 = s.2.1.ends in
-    let parts = mark_split 42 c.loop-front.rest.now c.in-Some.front.now c.in-Some.more.now s.0 s.1 (lit< tt) c.loop-front.invariant.utf8 s.2.0 s.2.1 s.3 s.4 in
-    block_ends c.loop-front.inner (chars c.args.text.now) (chars c.loop-front.rest.now) (chars c.in-Some.front.now) (chars c.in-Some.more.now) c.loop-front.invariant.goes parts.0 parts.1 (chars c.in-Some-behind_mark.behind.now) (sym c.ends_in_slash.ensures ∙ c.if-ends_in_slash.false) c.in-Some-behind_mark.ensures.parts c.if-inner-eq0.true
-
-pub loop-front-preserved-in-Some-behind_mark : goal.loop-front-preserved-in-Some-behind_mark
-loop-front-preserved-in-Some-behind_mark c =
-    let s = c.in-Some.ensures.cases in
-    let one : s.1 ≡ s.0 + 1 = s.2.1.ends in
-    let parts = mark_split 42 c.loop-front.rest.now c.in-Some.front.now c.in-Some.more.now s.0 s.1 (lit< tt) c.loop-front.invariant.utf8 s.2.0 s.2.1 s.3 s.4 in
-    record {
-      utf8 = search rules;
-      goes = block_closes c.loop-front.inner (chars c.args.text.now) (chars c.loop-front.rest.now) (chars c.in-Some.front.now) (chars c.in-Some.more.now) c.loop-front.invariant.goes parts.0 parts.1 (chars c.in-Some-behind_mark.behind.now) (sym c.ends_in_slash.ensures ∙ c.if-ends_in_slash.false) c.in-Some-behind_mark.ensures.parts c.if-inner-eq0.false;
-      depth = omega (arith, c.loop-front.invariant.depth, one, s.7, c.in-Some-behind_mark.ensures.shorter);
-    }
-
-pub loop-front-preserved : goal.loop-front-preserved
-loop-front-preserved c =
-    let s = c.in-Some.ensures.cases in
-    let one : s.1 ≡ s.0 + 1 = s.2.1.ends in
-    let parts = mark_split 42 c.loop-front.rest.now c.in-Some.front.now c.in-Some.more.now s.0 s.1 (lit< tt) c.loop-front.invariant.utf8 s.2.0 s.2.1 s.3 s.4 in
-    record {
-      utf8 = search rules;
-      goes = block_stays c.loop-front.inner (chars c.args.text.now) (chars c.loop-front.rest.now) (chars c.in-Some.front.now) (chars c.in-Some.more.now) c.loop-front.invariant.goes parts.0 parts.1 (sym c.ends_in_slash.ensures ∙ c.if-ends_in_slash.false) (c.behind_mark.ensures.none c.in_default-behind_mark.is);
-      depth = omega (arith, c.loop-front.invariant.depth, one, s.7);
-    }
+pub returns-else-ends_in_slash-clause-front : goal.returns-else-ends_in_slash-clause-front
+returns-else-ends_in_slash-clause-front c =
+    let front : IsUtf8 c.in_ok-front.front.now = search rules in
+    let back : IsUtf8 c.in_ok-front.rest.now = search rules in
+    let parts = split_run block_end c.args.text.now c.in_ok-front.front.now c.in_ok-front.rest.now block_end_ascii c.utf8.text front back c.in_ok-front.ensures.cases in
+    elim c.if-contains.branch [
+      | then-contains w ↦ absurd (false≢true (sym c.if-ends_in_slash.false ∙ w.value-is ∙ w.if-contains.true))
+      | else-contains w ↦ flat_ends (chars c.args.text.now) (chars c.in_ok-front.front.now) (chars c.in_ok-front.rest.now) parts.0 parts.1
+          (lacks_run block_start c.in_ok-front.front.now block_start_ascii front (λ h. false≢true (sym w.if-contains.false ∙ (contains_text c.contains.result block_start c.in_ok-front.front.now c.contains.ensures.cases).1 h)))
+          (sym w.ends_in_slash.ensures ∙ sym w.value-is ∙ c.if-ends_in_slash.false)
+    ]

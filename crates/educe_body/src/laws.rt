@@ -1,0 +1,13 @@
+//! Laws of bodies that hold with no call: each function does nothing, and its contract is the law.
+ghost use Rattle.educe_body.specs.Laws.{KeyLaws, FormLaws};
+
+/// Where the names of a definition are apart, the keys of its fields differ, and each selects the
+/// value at its position.
+pub fn key_laws()
+    ensures { KeyLaws }
+{}
+
+/// The value of a form that holds forms is made of their values.
+pub fn form_laws()
+    ensures { FormLaws }
+{}

@@ -1,0 +1,10 @@
+use Rattle.educe_core.proofs.Decided as decided
+use Rattle.educe_core.proofs.laws.expansion_laws.Goals as goal
+
+pub returns : goal.returns
+returns c = record {
+  defined_or_refused = decided.defined_or_refused;
+  unread_refused = decided.unread_refused;
+  valid_if_uncaused = decided.valid_if_uncaused;
+  uncaused_if_valid = decided.uncaused_if_valid;
+}

@@ -1,0 +1,10 @@
+pub mod Runs
+pub mod Having
+pub mod Underscored
+pub mod Marks
+pub mod TextRuns
+pub mod Gaining
+pub mod Names
+pub mod Prefixes
+pub mod AsciiNames
+pub mod Lawful

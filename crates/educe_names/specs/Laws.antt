@@ -1,0 +1,27 @@
+-- The laws of names, which hold with no call.
+use Rattle.std.specs.Prelude.{◌≡◌, ◌≢◌, ℕ, true, false, IsTrue, List, ◌++◌, chars}
+use Rattle.std.specs.List.{AllByRecursion}
+use Rattle.educe_tokens.specs.declared.token.Token.{Token}
+use Rattle.educe_tokens.specs.Quote.{is_ascii_name}
+use Rattle.educe_tokens.specs.Spells.{IsWord}
+use Rattle.educe_names.specs.Chosen.{is_held, IsPrefix, AreChosen, AreApart, are_letters_apart}
+use Rattle.educe_names.specs.Held.{AreWordsOf, HoldWordsOf}
+use Rattle.educe_names.specs.Words.{HasWord}
+
+-- What holds of names and prefixes that are chosen apart from the words that are held.
+pub record NameLaws : Type 0 where
+  -- an ASCII identifier is a word
+  pub ascii : (name : List ℕ) → IsTrue (is_ascii_name name) → IsWord (chars name)
+  -- the words of the tokens are held, whatever else is
+  pub held : (tokens : List Token) (words more : List (List ℕ)) → AreWordsOf tokens words → HoldWordsOf tokens (words ++ more)
+  -- what is not held is no word of tokens whose words are
+  pub no_word : (tokens : List Token) (words : List (List ℕ)) (text : List ℕ) → HoldWordsOf tokens words → is_held words text ≡ false → ¬ HasWord tokens text
+  -- names that are chosen one after the other were not held before
+  pub chosen : (words names texts : List (List ℕ)) → AreChosen words names texts → AllByRecursion (λ text. is_held words text ≡ false) texts
+  -- no two of them are the same
+  pub apart : (words names texts : List (List ℕ)) → AreChosen words names texts → AreApart texts
+  -- no name that begins with a chosen prefix is held
+  pub prefixed : (words : List (List ℕ)) (name prefix key : List ℕ) → IsPrefix words name prefix → is_held words (prefix ++ key) ≡ false
+  -- a name that begins with one prefix is none that begins with another, where the first letters of the two differ
+  pub prefixes : (words held : List (List ℕ)) (name other prefix mark key word : List ℕ) → IsPrefix words name prefix → IsPrefix held other mark
+      → are_letters_apart name other ≡ true → prefix ++ key ≢ mark ++ word

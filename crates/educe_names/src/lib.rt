@@ -1,0 +1,13 @@
+//! The words of an input, and the choice of names that are no words of it.
+#![tactic(auto)]
+
+mod fewest;
+mod gathered;
+mod laws;
+mod letters;
+mod used_idents;
+mod words;
+
+pub use laws::name_laws;
+pub use used_idents::UsedIdents;
+pub use words::has_word;
