@@ -21,7 +21,10 @@ fn cites_nothing(kind: Kind) -> bool
     ensures some { IsTrue result → kind ≢ Kind.Alloc }
     ensures words { IsTrue result → HasWords kind [] }
 {
-    matches!(kind, Kind::Syntax | Kind::TooDeep | Kind::DeriveAttributeNotSetUpYet)
+    matches!(
+        kind,
+        Kind::Syntax | Kind::TooDeep | Kind::DeriveAttributeNotSetUpYet
+    )
 }
 
 /// Whether the message of the kind may cite one word.
@@ -119,7 +122,10 @@ pub(crate) fn check_case(alloc: Global, case: &Case, found: &str) -> Result<(), 
 pub(crate) fn is_named(meta: &Meta) -> bool
     ensures { IsTrue result → IsNamed meta.now }
 {
-    matches!(meta, Meta::Word(_) | Meta::List(_, _, _) | Meta::NameValue(_, _, _))
+    matches!(
+        meta,
+        Meta::Word(_) | Meta::List(_, _, _) | Meta::NameValue(_, _, _)
+    )
 }
 
 /// The metas that a text is.
@@ -145,11 +151,7 @@ where
 }
 
 /// What a builder reads in the one meta that a text is.
-fn read_meta<B: AttributeBuilder>(
-    alloc: Global,
-    builder: &B,
-    source: &str,
-) -> Result<String, Fail>
+fn read_meta<B: AttributeBuilder>(alloc: Global, builder: &B, source: &str) -> Result<String, Fail>
 where
     B::Attribute: Worded,
 {
@@ -190,7 +192,11 @@ where
     B::Attribute: Worded,
 {
     let input = definition(alloc, source)?;
-    answer(alloc, source, builder.build_from_attributes(alloc, &input.attrs, traits))
+    answer(
+        alloc,
+        source,
+        builder.build_from_attributes(alloc, &input.attrs, traits),
+    )
 }
 
 /// What a builder reads in the attributes of a type or a variant whose type lists these traits.
@@ -221,7 +227,11 @@ where
     B::Attribute: Worded,
 {
     let input = definition(alloc, source)?;
-    answer(alloc, source, builder.build_from_attributes(alloc, &input.attrs, traits))
+    answer(
+        alloc,
+        source,
+        builder.build_from_attributes(alloc, &input.attrs, traits),
+    )
 }
 
 /// What a builder reads in the attributes of a field whose type lists these traits.

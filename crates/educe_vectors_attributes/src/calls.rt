@@ -47,7 +47,11 @@ fn partial_eq_of_a_type(alloc: Global, source: &str, meta: &Meta) -> Result<Stri
         enable_flag: true,
         enable_bound: true,
     };
-    answer(alloc, source, builder.build_from_partial_eq_meta(alloc, meta))
+    answer(
+        alloc,
+        source,
+        builder.build_from_partial_eq_meta(alloc, meta),
+    )
 }
 
 /// What a `Eq` attribute says of a type.
@@ -69,7 +73,11 @@ fn partial_ord_of_a_type(alloc: Global, source: &str, meta: &Meta) -> Result<Str
         enable_flag: true,
         enable_bound: true,
     };
-    answer(alloc, source, builder.build_from_partial_ord_meta(alloc, meta))
+    answer(
+        alloc,
+        source,
+        builder.build_from_partial_ord_meta(alloc, meta),
+    )
 }
 
 /// What a `Ord` attribute says of a type.
@@ -141,7 +149,11 @@ fn partial_eq_of_a_field(alloc: Global, source: &str, meta: &Meta) -> Result<Str
         enable_ignore: true,
         enable_method: true,
     };
-    answer(alloc, source, builder.build_from_partial_eq_meta(alloc, meta))
+    answer(
+        alloc,
+        source,
+        builder.build_from_partial_eq_meta(alloc, meta),
+    )
 }
 
 /// What a `Eq` attribute says of a field.
@@ -157,7 +169,11 @@ fn partial_ord_of_a_field(alloc: Global, source: &str, meta: &Meta) -> Result<St
     requires { IsNamed meta.now }
 {
     let builder = partial_ord_field(true, true, true);
-    answer(alloc, source, builder.build_from_partial_ord_meta(alloc, meta))
+    answer(
+        alloc,
+        source,
+        builder.build_from_partial_ord_meta(alloc, meta),
+    )
 }
 
 /// What a `Ord` attribute says of a field.

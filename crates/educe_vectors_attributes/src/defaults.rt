@@ -39,7 +39,11 @@ fn meta_words(
     meta: &Meta,
 ) -> Result<String, Fail> {
     if is_named(meta) {
-        answer(alloc, source, builder.build_from_default_meta(alloc, meta, ty))
+        answer(
+            alloc,
+            source,
+            builder.build_from_default_meta(alloc, meta, ty),
+        )
     } else {
         Err(Fail::from(source))
     }
@@ -98,7 +102,11 @@ pub(crate) fn check_default_places(
     let ty = only_type(&input.shape)?;
     for case in cases {
         let source = with_struct(alloc, case.0)?;
-        check_case(alloc, case, &read_attributes(alloc, builder, ty, traits, &source)?)?;
+        check_case(
+            alloc,
+            case,
+            &read_attributes(alloc, builder, ty, traits, &source)?,
+        )?;
     }
     Ok(())
 }

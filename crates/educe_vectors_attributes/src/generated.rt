@@ -44,7 +44,11 @@ fn check_lint(alloc: Global, attributes: &str, expected: &str) -> Result<(), Fai
     let input = definition(alloc, &with_struct(alloc, attributes)?)?;
     check_at(attributes, lints(alloc, &input.attrs)?.as_str(), expected)?;
     let all = format!(in alloc; "# [ automatically_derived ] {expected}")?;
-    check_at(attributes, impl_attributes(alloc, &input.attrs)?.as_str(), all.as_str())
+    check_at(
+        attributes,
+        impl_attributes(alloc, &input.attrs)?.as_str(),
+        all.as_str(),
+    )
 }
 
 /// Each type has these lint attributes.

@@ -63,10 +63,7 @@ fn check_key(alloc: Global, case: &(&str, u32, &str, &str)) -> Result<(), Fail> 
 }
 
 /// Each key is shown so.
-pub(crate) fn check_keys(
-    alloc: Global,
-    cases: &[(&str, u32, &str, &str)],
-) -> Result<(), Fail> {
+pub(crate) fn check_keys(alloc: Global, cases: &[(&str, u32, &str, &str)]) -> Result<(), Fail> {
     for case in cases {
         check_key(alloc, case)?;
     }

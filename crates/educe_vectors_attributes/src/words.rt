@@ -161,7 +161,11 @@ impl Worded for partial_ord::FieldAttribute {
 
 /// Whether the names of fields are shown.
 fn named(named_field: bool) -> &'static str {
-    if named_field { "named fields" } else { "fields without names" }
+    if named_field {
+        "named fields"
+    } else {
+        "fields without names"
+    }
 }
 
 impl Worded for debug::TypeAttribute {

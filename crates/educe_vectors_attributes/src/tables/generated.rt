@@ -8,8 +8,14 @@ use std::test::Fail;
 static LINTS: [(&str, &str); 16] = [
     ("", ""),
     ("#[allow(dead_code)]", "# [ allow ( dead_code ) ] "),
-    ("#[warn(a)] #[deny(b, c::d,)]", "# [ warn ( a ) ] # [ deny ( b , c :: d , ) ] "),
-    ("#[expect(a, reason = \"b\")]", "# [ allow ( a , reason = \"b\" ) ] "),
+    (
+        "#[warn(a)] #[deny(b, c::d,)]",
+        "# [ warn ( a ) ] # [ deny ( b , c :: d , ) ] ",
+    ),
+    (
+        "#[expect(a, reason = \"b\")]",
+        "# [ allow ( a , reason = \"b\" ) ] ",
+    ),
     ("#[expect[a]]", "# [ allow ( a ) ] "),
     ("#[allow]", "# [ allow ] "),
     ("#[allow = 1]", "# [ allow = 1 ] "),
@@ -20,9 +26,15 @@ static LINTS: [(&str, &str); 16] = [
     ("#[forbid(a)]", ""),
     ("#[r#allow(a)]", ""),
     ("#[allow::allow(a)]", ""),
-    ("#[educe(Ord)] /// x
-#[derive(Ord)]", ""),
-    ("#[deny(b)] #[educe(Ord)] #[allow(a)] #[expect(c)]", "# [ deny ( b ) ] # [ allow ( a ) ] # [ allow ( c ) ] "),
+    (
+        "#[educe(Ord)] /// x
+#[derive(Ord)]",
+        "",
+    ),
+    (
+        "#[deny(b)] #[educe(Ord)] #[allow(a)] #[expect(c)]",
+        "# [ deny ( b ) ] # [ allow ( a ) ] # [ allow ( c ) ] ",
+    ),
 ];
 
 /// Attributes of a type, and whether it is packed.
@@ -54,4 +66,3 @@ fn lints_are_copied(rt: HostRuntime) -> Result<(), Fail> {
 fn representations_are_packed(rt: HostRuntime) -> Result<(), Fail> {
     check_packed(rt.alloc(), &PACKED)
 }
-

@@ -17,4 +17,3 @@ static KEYS: [(&str, u32, &str, &str); 5] = [
 fn keys_are_names_or_indices(rt: HostRuntime) -> Result<(), Fail> {
     check_keys(rt.alloc(), &KEYS)
 }
-
