@@ -1,0 +1,61 @@
+//! Which traits types list.
+
+use crate::answers::{Case, check_case, line, with_struct};
+use educe_attrs_places::type_listing;
+use educe_attrs_values::error_of;
+use educe_bound::Trait;
+use educe_tokens::{EduceError, Kind, SOURCE_LIMIT};
+use educe_vectors_checks::definition;
+use std::alloc::{AllocError, Global};
+use std::test::Fail;
+
+/// The names of the traits, with a blank behind each.
+fn names(alloc: Global, traits: &[Trait]) -> Result<String, AllocError> {
+    let mut names = String::new(alloc);
+    for which in traits {
+        names.push_str(which.name())?;
+        names.push(' ')?;
+    }
+    Ok(names)
+}
+
+/// The refusal; that of an `educe` attribute that is no list has the message of an attribute of
+/// another form than its place allows.
+fn with_format(error: EduceError) -> EduceError {
+    match error.kind {
+        Kind::EduceFormatIncorrect => EduceError {
+            kind: Kind::AttributeIncorrectFormat,
+            span: error.span,
+            words: error.words,
+        },
+        _ => error,
+    }
+}
+
+/// The end of a text.
+fn end_of(source: &str) -> Result<u32, Fail> {
+    let len = source.len();
+    if len <= SOURCE_LIMIT {
+        Ok(len as u32)
+    } else {
+        Err(Fail::from("too long"))
+    }
+}
+
+/// The names of the traits that the type lists, or the line of the refusal.
+fn listing(alloc: Global, source: &str) -> Result<String, Fail> {
+    let input = definition(alloc, source)?;
+    match type_listing(alloc, input.attrs.as_slice(), end_of(source)?) {
+        Ok(traits) => Ok(names(alloc, traits.as_slice())?),
+        Err(stop) => line(alloc, source, &with_format(error_of(alloc, stop))),
+    }
+}
+
+/// Each text lists these traits.
+pub(crate) fn check_listings(alloc: Global, cases: &[Case]) -> Result<(), Fail> {
+    for case in cases {
+        let source = with_struct(alloc, case.0)?;
+        check_case(alloc, case, &listing(alloc, &source)?)?;
+    }
+    Ok(())
+}
