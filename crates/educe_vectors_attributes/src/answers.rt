@@ -1,12 +1,13 @@
-//! What calls answer to texts, as lines.
-ghost use Rattle.std.specs.Prelude.{◌≡◌, ◌≢◌, ◌∷◌, [], IsTrue, ℕ, List};
+//! What calls answer to texts, as lines. Trees are dropped by `drop`, which is generic: that keeps the
+//! proofs cheap.
+ghost use Rattle.std.specs.Prelude.{◌≡◌, ◌≢◌, ◌∷◌, [], IsTrue, IfOk, ℕ, List};
 ghost use Rattle.educe_tokens.specs.Message.{HasWords};
 ghost use Rattle.educe_attrs_values.specs.Metas.{IsNamed};
 
 use crate::words::Worded;
 use educe_attrs_builders::{AttributeBuilder, FieldBuilder, TypeBuilder};
 use educe_bound::Trait;
-use educe_syntax::{Attributes, Meta, Metas, parse_metas};
+use educe_syntax::{Attributes, Duplicate, Meta, parse_metas};
 use educe_tokens::{EduceError, Kind, SOURCE_LIMIT};
 use educe_vectors_checks::{check_at, definition, found, lexed_slice};
 use std::alloc::Global;
@@ -119,7 +120,7 @@ pub(crate) fn check_case(alloc: Global, case: &Case, found: &str) -> Result<(), 
 }
 
 /// Whether the meta has a name.
-pub(crate) fn is_named(meta: &Meta) -> bool
+fn is_named(meta: &Meta) -> bool
     ensures { IsTrue result → IsNamed meta.now }
 {
     matches!(
@@ -128,25 +129,14 @@ pub(crate) fn is_named(meta: &Meta) -> bool
     )
 }
 
-/// The metas that a text is.
-pub(crate) fn metas(alloc: Global, source: &str) -> Result<Metas, Fail> {
-    found(parse_metas(alloc, &lexed_slice(alloc, source)?))
-}
-
-/// What a builder reads in a meta.
-fn meta_words<B: AttributeBuilder>(
-    alloc: Global,
-    builder: &B,
-    source: &str,
-    meta: &Meta,
-) -> Result<String, Fail>
-where
-    B::Attribute: Worded,
+/// The one meta that a text is, which has a name.
+pub(crate) fn only_meta(alloc: Global, source: &str) -> Result<Meta, Fail>
+    ensures { IfOk result IsNamed }
 {
-    if is_named(meta) {
-        answer(alloc, source, builder.build_from_meta(alloc, meta))
-    } else {
-        Err(Fail::from(source))
+    let metas = found(parse_metas(alloc, &lexed_slice(alloc, source)?))?;
+    match metas.as_slice() {
+        [meta] if is_named(meta) => Ok(meta.duplicate(alloc)?),
+        _ => Err(Fail::from(source)),
     }
 }
 
@@ -155,23 +145,23 @@ fn read_meta<B: AttributeBuilder>(alloc: Global, builder: &B, source: &str) -> R
 where
     B::Attribute: Worded,
 {
-    match metas(alloc, source)?.as_slice() {
-        [meta] => meta_words(alloc, builder, source, meta),
-        _ => Err(Fail::from(source)),
-    }
+    let meta = only_meta(alloc, source)?;
+    let answered = builder.build_from_meta(alloc, &meta);
+    drop(meta);
+    answer(alloc, source, answered)
 }
 
 /// What a builder reads in each meta.
-pub(crate) fn check_metas<B: AttributeBuilder>(
+pub(crate) fn check_metas<B: AttributeBuilder + Drop>(
     alloc: Global,
-    builder: &B,
+    builder: B,
     cases: &[Case],
 ) -> Result<(), Fail>
 where
     B::Attribute: Worded,
 {
     for case in cases {
-        check_case(alloc, case, &read_meta(alloc, builder, case.0)?)?;
+        check_case(alloc, case, &read_meta(alloc, &builder, case.0)?)?;
     }
     Ok(())
 }
@@ -179,6 +169,12 @@ where
 /// The text of a struct with these attributes.
 pub(crate) fn with_struct(alloc: Global, attributes: &str) -> Result<String, Fail> {
     Ok(format!(in alloc; "{attributes} struct S;")?)
+}
+
+/// The attributes of the definition that a text is.
+pub(crate) fn attributes(alloc: Global, source: &str) -> Result<Attributes, Fail> {
+    let input = definition(alloc, source)?;
+    Ok(input.attrs)
 }
 
 /// What a builder reads in the attributes of a type or a variant.
@@ -191,18 +187,16 @@ fn read_type<B: TypeBuilder>(
 where
     B::Attribute: Worded,
 {
-    let input = definition(alloc, source)?;
-    answer(
-        alloc,
-        source,
-        builder.build_from_attributes(alloc, &input.attrs, traits),
-    )
+    let attributes = attributes(alloc, source)?;
+    let answered = builder.build_from_attributes(alloc, &attributes, traits);
+    drop(attributes);
+    answer(alloc, source, answered)
 }
 
 /// What a builder reads in the attributes of a type or a variant whose type lists these traits.
-pub(crate) fn check_types<B: TypeBuilder>(
+pub(crate) fn check_types<B: TypeBuilder + Drop>(
     alloc: Global,
-    builder: &B,
+    builder: B,
     traits: &[Trait],
     cases: &[Case],
 ) -> Result<(), Fail>
@@ -211,7 +205,7 @@ where
 {
     for case in cases {
         let source = with_struct(alloc, case.0)?;
-        check_case(alloc, case, &read_type(alloc, builder, traits, &source)?)?;
+        check_case(alloc, case, &read_type(alloc, &builder, traits, &source)?)?;
     }
     Ok(())
 }
@@ -226,18 +220,16 @@ fn read_field<B: FieldBuilder>(
 where
     B::Attribute: Worded,
 {
-    let input = definition(alloc, source)?;
-    answer(
-        alloc,
-        source,
-        builder.build_from_attributes(alloc, &input.attrs, traits),
-    )
+    let attributes = attributes(alloc, source)?;
+    let answered = builder.build_from_attributes(alloc, &attributes, traits);
+    drop(attributes);
+    answer(alloc, source, answered)
 }
 
 /// What a builder reads in the attributes of a field whose type lists these traits.
-pub(crate) fn check_fields<B: FieldBuilder>(
+pub(crate) fn check_fields<B: FieldBuilder + Drop>(
     alloc: Global,
-    builder: &B,
+    builder: B,
     traits: &[Trait],
     cases: &[Case],
 ) -> Result<(), Fail>
@@ -246,7 +238,7 @@ where
 {
     for case in cases {
         let source = with_struct(alloc, case.0)?;
-        check_case(alloc, case, &read_field(alloc, builder, traits, &source)?)?;
+        check_case(alloc, case, &read_field(alloc, &builder, traits, &source)?)?;
     }
     Ok(())
 }

@@ -1,7 +1,7 @@
 //! The calls of builders that are named after a trait.
 ghost use Rattle.educe_attrs_values.specs.Metas.{IsNamed};
 
-use crate::answers::{Case, answer, check_case, is_named, metas};
+use crate::answers::{Case, answer, check_case, only_meta};
 use crate::builders::{debug_field, debug_struct, ord_field, partial_ord_field};
 use educe_attrs_builders::{clone, copy, default, eq, hash, ord, partial_eq, partial_ord};
 use educe_bound::Trait;
@@ -14,7 +14,9 @@ fn debug_of_a_type(alloc: Global, source: &str, meta: &Meta) -> Result<String, F
     requires { IsNamed meta.now }
 {
     let builder = debug_struct(true);
-    answer(alloc, source, builder.build_from_debug_meta(alloc, meta))
+    let answered = builder.build_from_debug_meta(alloc, meta);
+    drop(builder);
+    answer(alloc, source, answered)
 }
 
 /// What a `Clone` attribute says of a type.
@@ -120,7 +122,9 @@ fn debug_of_a_field(alloc: Global, source: &str, meta: &Meta) -> Result<String, 
     requires { IsNamed meta.now }
 {
     let builder = debug_field(true);
-    answer(alloc, source, builder.build_from_debug_meta(alloc, meta))
+    let answered = builder.build_from_debug_meta(alloc, meta);
+    drop(builder);
+    answer(alloc, source, answered)
 }
 
 /// What a `Clone` attribute says of a field.
@@ -231,18 +235,18 @@ fn field_words(alloc: Global, which: Trait, source: &str, meta: &Meta) -> Result
 
 /// What the attribute of a trait says of a type, which is the one meta that a text is.
 fn read_type(alloc: Global, which: Trait, source: &str) -> Result<String, Fail> {
-    match metas(alloc, source)?.as_slice() {
-        [meta] if is_named(meta) => type_words(alloc, which, source, meta),
-        _ => Err(Fail::from(source)),
-    }
+    let meta = only_meta(alloc, source)?;
+    let words = type_words(alloc, which, source, &meta);
+    drop(meta);
+    words
 }
 
 /// What the attribute of a trait says of a field, which is the one meta that a text is.
 fn read_field(alloc: Global, which: Trait, source: &str) -> Result<String, Fail> {
-    match metas(alloc, source)?.as_slice() {
-        [meta] if is_named(meta) => field_words(alloc, which, source, meta),
-        _ => Err(Fail::from(source)),
-    }
+    let meta = only_meta(alloc, source)?;
+    let words = field_words(alloc, which, source, &meta);
+    drop(meta);
+    words
 }
 
 /// The attribute of each trait says so of a type.

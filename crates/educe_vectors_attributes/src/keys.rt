@@ -3,9 +3,10 @@ ghost use Rattle.std.specs.Prelude.{IsTrue};
 ghost use Rattle.educe_tokens.specs.Quote.{is_ascii_name};
 
 use crate::builders::ident;
+use crate::generated::spelled;
 use educe_attrs_keys::IdentOrIndex;
 use educe_syntax::text_of_tree;
-use educe_vectors_checks::{check_at, lexed};
+use educe_vectors_checks::{check_at, lexed, printed};
 use std::alloc::Global;
 use std::test::Fail;
 
@@ -32,17 +33,13 @@ fn plain(alloc: Global, name: &str, index: u32) -> Result<IdentOrIndex, Fail> {
 fn binding(alloc: Global, key: &IdentOrIndex, prefix: &str) -> Result<String, Fail>
     requires { IsTrue (is_ascii_name prefix.now) }
 {
-    let name = key.to_binding(alloc, prefix)?;
-    Ok(text_of_tree(alloc, &name)?)
+    Ok(printed(alloc, key.to_binding(alloc, prefix)?)?)
 }
 
-/// The initializer of a field with this value, the tokens with a blank between two.
+/// The initializer of a field with this value.
 fn initializer(alloc: Global, key: &IdentOrIndex, value: &str) -> Result<String, Fail> {
-    let mut text = String::new(alloc);
-    for token in key.to_field(alloc, &lexed(alloc, value)?)?.as_slice() {
-        write!(text, " {}", token.spelling.as_str())?;
-    }
-    Ok(text)
+    let tokens = key.to_field(alloc, &lexed(alloc, value)?)?;
+    Ok(spelled(alloc, tokens.as_slice())?)
 }
 
 /// A key as it is printed, its binding, and its initializer with a value.
@@ -50,7 +47,7 @@ fn shown(alloc: Global, key: &IdentOrIndex, value: &str) -> Result<String, Fail>
     let text = text_of_tree(alloc, key)?;
     let binding = binding(alloc, key, "_s_")?;
     let initializer = initializer(alloc, key, value)?;
-    Ok(format!(in alloc; "{text} {binding}{initializer}")?)
+    Ok(format!(in alloc; "{text} {binding} {initializer}")?)
 }
 
 /// The key of this name or index is shown so.

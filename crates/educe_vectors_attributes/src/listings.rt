@@ -1,11 +1,10 @@
 //! Which traits types list.
 
-use crate::answers::{Case, check_case, line, with_struct};
+use crate::answers::{Case, attributes, check_case, line, with_struct};
 use educe_attrs_places::type_listing;
 use educe_attrs_values::error_of;
 use educe_bound::Trait;
 use educe_tokens::{EduceError, Kind, SOURCE_LIMIT};
-use educe_vectors_checks::definition;
 use std::alloc::{AllocError, Global};
 use std::test::Fail;
 
@@ -44,8 +43,11 @@ fn end_of(source: &str) -> Result<u32, Fail> {
 
 /// The names of the traits that the type lists, or the line of the refusal.
 fn listing(alloc: Global, source: &str) -> Result<String, Fail> {
-    let input = definition(alloc, source)?;
-    match type_listing(alloc, input.attrs.as_slice(), end_of(source)?) {
+    let end = end_of(source)?;
+    let attributes = attributes(alloc, source)?;
+    let listed = type_listing(alloc, attributes.as_slice(), end);
+    drop(attributes);
+    match listed {
         Ok(traits) => Ok(names(alloc, traits.as_slice())?),
         Err(stop) => line(alloc, source, &with_format(error_of(alloc, stop))),
     }

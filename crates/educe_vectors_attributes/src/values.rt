@@ -1,7 +1,7 @@
 //! What the readers of values answer.
 ghost use Rattle.educe_attrs_values.specs.Metas.{IsNamed};
 
-use crate::answers::{Case, answer, check_case, is_named, metas};
+use crate::answers::{Case, answer, check_case, only_meta};
 use crate::words::Worded;
 use educe_attrs_values::{
     IdentOrBool, ValueKind, meta_2_bool, meta_2_bool_allow_path, meta_2_expr, meta_2_ident,
@@ -10,7 +10,7 @@ use educe_attrs_values::{
 use educe_bound::Bound;
 use educe_syntax::{Expr, ExprPath, Ident, Meta, text_of_tree};
 use educe_tokens::Span;
-use educe_vectors_checks::check_at;
+use educe_vectors_checks::{check_at, found};
 use std::alloc::Global;
 use std::test::Fail;
 
@@ -71,10 +71,10 @@ fn value(alloc: Global, kind: ValueKind, source: &str, meta: &Meta) -> Result<St
 
 /// What the one meta that a text is has as its value of the kind.
 fn read(alloc: Global, kind: ValueKind, source: &str) -> Result<String, Fail> {
-    match metas(alloc, source)?.as_slice() {
-        [meta] if is_named(meta) => value(alloc, kind, source, meta),
-        _ => Err(Fail::from(source)),
-    }
+    let meta = only_meta(alloc, source)?;
+    let words = value(alloc, kind, source, &meta);
+    drop(meta);
+    words
 }
 
 /// Each meta has this value.
@@ -85,29 +85,19 @@ pub(crate) fn check_values(alloc: Global, cases: &[(ValueKind, Case)]) -> Result
     Ok(())
 }
 
-/// The place of the name that the meta has as its value.
-fn name_place(alloc: Global, source: &str, meta: &Meta) -> Result<Span, Fail>
-    requires { IsNamed meta.now }
-{
-    match meta_2_ident(alloc, meta) {
-        Ok(name) => Ok(name.span),
-        Err(_) => Err(Fail::from(source)),
-    }
-}
-
 /// The place of the name that the one meta that a text is has as its value.
 fn read_place(alloc: Global, source: &str) -> Result<Span, Fail> {
-    match metas(alloc, source)?.as_slice() {
-        [meta] if is_named(meta) => name_place(alloc, source, meta),
-        _ => Err(Fail::from(source)),
-    }
+    let meta = only_meta(alloc, source)?;
+    let read = found(meta_2_ident(alloc, &meta));
+    drop(meta);
+    Ok(read?.span)
 }
 
 /// The name that each meta has as its value has this place.
 pub(crate) fn check_places(alloc: Global, cases: &[(&str, u32, u32)]) -> Result<(), Fail> {
     for (source, start, end) in cases {
-        let found = read_place(alloc, source)?;
-        check_at(*source, (found.start, found.end), (*start, *end))?;
+        let place = read_place(alloc, source)?;
+        check_at(*source, (place.start, place.end), (*start, *end))?;
     }
     Ok(())
 }

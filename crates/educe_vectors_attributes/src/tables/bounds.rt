@@ -228,7 +228,7 @@ static HASH: [Case; 7] = [
 fn clone_at_a_type(rt: HostRuntime) -> Result<(), Fail> {
     check_metas(
         rt.alloc(),
-        &clone::TypeAttributeBuilder {
+        clone::TypeAttributeBuilder {
             enable_flag: true,
             enable_bound: true,
         },
@@ -240,7 +240,7 @@ fn clone_at_a_type(rt: HostRuntime) -> Result<(), Fail> {
 fn copy_at_a_type(rt: HostRuntime) -> Result<(), Fail> {
     check_metas(
         rt.alloc(),
-        &copy::TypeAttributeBuilder {
+        copy::TypeAttributeBuilder {
             enable_flag: true,
             enable_bound: true,
         },
@@ -252,7 +252,7 @@ fn copy_at_a_type(rt: HostRuntime) -> Result<(), Fail> {
 fn partial_eq_at_a_type(rt: HostRuntime) -> Result<(), Fail> {
     check_metas(
         rt.alloc(),
-        &partial_eq::TypeAttributeBuilder {
+        partial_eq::TypeAttributeBuilder {
             enable_flag: true,
             enable_bound: true,
         },
@@ -264,7 +264,7 @@ fn partial_eq_at_a_type(rt: HostRuntime) -> Result<(), Fail> {
 fn eq_at_a_type(rt: HostRuntime) -> Result<(), Fail> {
     check_metas(
         rt.alloc(),
-        &eq::TypeAttributeBuilder {
+        eq::TypeAttributeBuilder {
             enable_flag: true,
             enable_bound: true,
         },
@@ -276,7 +276,7 @@ fn eq_at_a_type(rt: HostRuntime) -> Result<(), Fail> {
 fn partial_ord_at_a_type(rt: HostRuntime) -> Result<(), Fail> {
     check_metas(
         rt.alloc(),
-        &partial_ord::TypeAttributeBuilder {
+        partial_ord::TypeAttributeBuilder {
             enable_flag: true,
             enable_bound: true,
         },
@@ -288,7 +288,7 @@ fn partial_ord_at_a_type(rt: HostRuntime) -> Result<(), Fail> {
 fn ord_at_a_type(rt: HostRuntime) -> Result<(), Fail> {
     check_metas(
         rt.alloc(),
-        &ord::TypeAttributeBuilder {
+        ord::TypeAttributeBuilder {
             enable_flag: true,
             enable_bound: true,
         },
@@ -300,7 +300,7 @@ fn ord_at_a_type(rt: HostRuntime) -> Result<(), Fail> {
 fn hash_at_a_type(rt: HostRuntime) -> Result<(), Fail> {
     check_metas(
         rt.alloc(),
-        &hash::TypeAttributeBuilder {
+        hash::TypeAttributeBuilder {
             enable_flag: true,
             enable_bound: true,
         },
@@ -377,7 +377,7 @@ static ONLY_BOUND: [Case; 4] = [
 fn clone_at_a_variant(rt: HostRuntime) -> Result<(), Fail> {
     check_metas(
         rt.alloc(),
-        &clone::TypeAttributeBuilder {
+        clone::TypeAttributeBuilder {
             enable_flag: false,
             enable_bound: false,
         },
@@ -389,7 +389,7 @@ fn clone_at_a_variant(rt: HostRuntime) -> Result<(), Fail> {
 fn hash_without_bounds(rt: HostRuntime) -> Result<(), Fail> {
     check_metas(
         rt.alloc(),
-        &hash::TypeAttributeBuilder {
+        hash::TypeAttributeBuilder {
             enable_flag: true,
             enable_bound: false,
         },
@@ -401,7 +401,7 @@ fn hash_without_bounds(rt: HostRuntime) -> Result<(), Fail> {
 fn hash_with_bounds_alone(rt: HostRuntime) -> Result<(), Fail> {
     check_metas(
         rt.alloc(),
-        &hash::TypeAttributeBuilder {
+        hash::TypeAttributeBuilder {
             enable_flag: false,
             enable_bound: true,
         },

@@ -237,24 +237,24 @@ static RENAMED: [Case; 5] = [
 fn debug_at_a_field_that_has_another_name(rt: HostRuntime) -> Result<(), Fail> {
     let alloc = rt.alloc();
     let builder = debug_field_named(alloc, "N")?;
-    check_fields(alloc, &builder, &[Trait::Debug, Trait::Clone], &RENAMED)
+    check_fields(alloc, builder, &[Trait::Debug, Trait::Clone], &RENAMED)
 }
 
 #[test]
 fn debug_at_a_field_with_a_name(rt: HostRuntime) -> Result<(), Fail> {
-    check_metas(rt.alloc(), &debug_field(true), &NAMED)
+    check_metas(rt.alloc(), debug_field(true), &NAMED)
 }
 
 #[test]
 fn debug_at_a_field_without_a_name(rt: HostRuntime) -> Result<(), Fail> {
-    check_metas(rt.alloc(), &debug_field(false), &UNNAMED)
+    check_metas(rt.alloc(), debug_field(false), &UNNAMED)
 }
 
 #[test]
 fn debug_with_a_name_alone(rt: HostRuntime) -> Result<(), Fail> {
     check_metas(
         rt.alloc(),
-        &debug::FieldAttributeBuilder {
+        debug::FieldAttributeBuilder {
             enable_name: true,
             enable_ignore: false,
             enable_method: false,
@@ -268,7 +268,7 @@ fn debug_with_a_name_alone(rt: HostRuntime) -> Result<(), Fail> {
 fn debug_with_a_method_alone(rt: HostRuntime) -> Result<(), Fail> {
     check_metas(
         rt.alloc(),
-        &debug::FieldAttributeBuilder {
+        debug::FieldAttributeBuilder {
             enable_name: false,
             enable_ignore: false,
             enable_method: true,
@@ -282,7 +282,7 @@ fn debug_with_a_method_alone(rt: HostRuntime) -> Result<(), Fail> {
 fn debug_without_switches(rt: HostRuntime) -> Result<(), Fail> {
     check_metas(
         rt.alloc(),
-        &debug::FieldAttributeBuilder {
+        debug::FieldAttributeBuilder {
             enable_name: false,
             enable_ignore: false,
             enable_method: false,

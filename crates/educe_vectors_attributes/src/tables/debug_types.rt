@@ -378,7 +378,7 @@ static VARIANT_PLACES: [Case; 7] = [
 fn debug_in_the_attributes_of_a_variant(rt: HostRuntime) -> Result<(), Fail> {
     check_types(
         rt.alloc(),
-        &debug_variant(true),
+        debug_variant(true),
         &[Trait::Debug, Trait::Clone],
         &VARIANT_PLACES,
     )
@@ -386,41 +386,41 @@ fn debug_in_the_attributes_of_a_variant(rt: HostRuntime) -> Result<(), Fail> {
 
 #[test]
 fn debug_at_a_struct(rt: HostRuntime) -> Result<(), Fail> {
-    check_metas(rt.alloc(), &debug_struct(true), &STRUCT)
+    check_metas(rt.alloc(), debug_struct(true), &STRUCT)
 }
 
 #[test]
 fn debug_at_a_tuple(rt: HostRuntime) -> Result<(), Fail> {
-    check_metas(rt.alloc(), &debug_struct(false), &TUPLE)
+    check_metas(rt.alloc(), debug_struct(false), &TUPLE)
 }
 
 #[test]
 fn debug_at_an_enum(rt: HostRuntime) -> Result<(), Fail> {
-    check_metas(rt.alloc(), &debug_enum(), &ENUM)
+    check_metas(rt.alloc(), debug_enum(), &ENUM)
 }
 
 #[test]
 fn debug_at_a_variant(rt: HostRuntime) -> Result<(), Fail> {
-    check_metas(rt.alloc(), &debug_variant(true), &VARIANT)
+    check_metas(rt.alloc(), debug_variant(true), &VARIANT)
 }
 
 #[test]
 fn debug_at_a_tuple_variant(rt: HostRuntime) -> Result<(), Fail> {
-    check_metas(rt.alloc(), &debug_variant(false), &TUPLE_VARIANT)
+    check_metas(rt.alloc(), debug_variant(false), &TUPLE_VARIANT)
 }
 
 #[test]
 fn debug_without_a_name(rt: HostRuntime) -> Result<(), Fail> {
     let alloc = rt.alloc();
     let builder = debug_named(alloc, "N")?;
-    check_metas(alloc, &builder, &WITHOUT_NAME)
+    check_metas(alloc, builder, &WITHOUT_NAME)
 }
 
 #[test]
 fn debug_with_named_field_alone(rt: HostRuntime) -> Result<(), Fail> {
     check_metas(
         rt.alloc(),
-        &debug::TypeAttributeBuilder {
+        debug::TypeAttributeBuilder {
             enable_flag: false,
             enable_name: false,
             enable_named_field: true,
@@ -436,7 +436,7 @@ fn debug_with_named_field_alone(rt: HostRuntime) -> Result<(), Fail> {
 fn debug_without_switches(rt: HostRuntime) -> Result<(), Fail> {
     check_metas(
         rt.alloc(),
-        &debug::TypeAttributeBuilder {
+        debug::TypeAttributeBuilder {
             enable_flag: false,
             enable_name: false,
             enable_named_field: false,

@@ -302,11 +302,54 @@ static WITHOUT_EXPRESSION: [Case; 3] = [
     ),
 ];
 
+static WITHOUT_FLAG: [Case; 4] = [
+    (
+        "Default(new, expr = x)",
+        "",
+        "not marked; new; value x; needed bounds; at 0 to 22",
+    ),
+    (
+        "Default",
+        "1:1",
+        "you are using an incorrect format of the `Default` attribute, which should be reformatted as follows:
+    #[educe(Default(new))]
+    #[educe(Default(expression = expr))]",
+    ),
+    (
+        "Default()",
+        "1:1",
+        "you are using an incorrect format of the `Default` attribute, which should be reformatted as follows:
+    #[educe(Default(new))]
+    #[educe(Default(expression = expr))]",
+    ),
+    (
+        "Default(bound = false)",
+        "1:1",
+        "you are using an incorrect format of the `Default` attribute, which should be reformatted as follows:
+    #[educe(Default(new))]
+    #[educe(Default(expression = expr))]",
+    ),
+];
+
+#[test]
+fn default_without_a_flag(rt: HostRuntime) -> Result<(), Fail> {
+    check_metas(
+        rt.alloc(),
+        default::TypeAttributeBuilder {
+            enable_flag: false,
+            enable_new: true,
+            enable_expression: true,
+            enable_bound: false,
+        },
+        &WITHOUT_FLAG,
+    )
+}
+
 #[test]
 fn default_at_a_type(rt: HostRuntime) -> Result<(), Fail> {
     check_metas(
         rt.alloc(),
-        &default::TypeAttributeBuilder {
+        default::TypeAttributeBuilder {
             enable_flag: true,
             enable_new: true,
             enable_expression: true,
@@ -320,7 +363,7 @@ fn default_at_a_type(rt: HostRuntime) -> Result<(), Fail> {
 fn default_at_a_variant(rt: HostRuntime) -> Result<(), Fail> {
     check_metas(
         rt.alloc(),
-        &default::TypeAttributeBuilder {
+        default::TypeAttributeBuilder {
             enable_flag: true,
             enable_new: false,
             enable_expression: false,
@@ -334,7 +377,7 @@ fn default_at_a_variant(rt: HostRuntime) -> Result<(), Fail> {
 fn default_nowhere(rt: HostRuntime) -> Result<(), Fail> {
     check_metas(
         rt.alloc(),
-        &default::TypeAttributeBuilder {
+        default::TypeAttributeBuilder {
             enable_flag: false,
             enable_new: false,
             enable_expression: false,
@@ -348,7 +391,7 @@ fn default_nowhere(rt: HostRuntime) -> Result<(), Fail> {
 fn default_without_an_expression(rt: HostRuntime) -> Result<(), Fail> {
     check_metas(
         rt.alloc(),
-        &default::TypeAttributeBuilder {
+        default::TypeAttributeBuilder {
             enable_flag: true,
             enable_new: true,
             enable_expression: false,
@@ -568,7 +611,7 @@ static FIELD_PLACES: [Case; 7] = [
 fn default_in_the_attributes_of_a_type(rt: HostRuntime) -> Result<(), Fail> {
     check_types(
         rt.alloc(),
-        &default::TypeAttributeBuilder {
+        default::TypeAttributeBuilder {
             enable_flag: true,
             enable_new: true,
             enable_expression: true,

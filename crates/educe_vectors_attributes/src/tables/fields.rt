@@ -216,7 +216,7 @@ static NO_SWITCH: [Case; 2] = [
 fn clone_at_a_field(rt: HostRuntime) -> Result<(), Fail> {
     check_metas(
         rt.alloc(),
-        &clone::FieldAttributeBuilder {
+        clone::FieldAttributeBuilder {
             enable_method: true,
         },
         &CLONE,
@@ -227,7 +227,7 @@ fn clone_at_a_field(rt: HostRuntime) -> Result<(), Fail> {
 fn clone_without_a_method(rt: HostRuntime) -> Result<(), Fail> {
     check_metas(
         rt.alloc(),
-        &clone::FieldAttributeBuilder {
+        clone::FieldAttributeBuilder {
             enable_method: false,
         },
         &CLONE_WITHOUT_METHOD,
@@ -236,19 +236,19 @@ fn clone_without_a_method(rt: HostRuntime) -> Result<(), Fail> {
 
 #[test]
 fn copy_at_a_field(rt: HostRuntime) -> Result<(), Fail> {
-    check_metas(rt.alloc(), &copy::FieldAttributeBuilder, &COPY)
+    check_metas(rt.alloc(), copy::FieldAttributeBuilder, &COPY)
 }
 
 #[test]
 fn eq_at_a_field(rt: HostRuntime) -> Result<(), Fail> {
-    check_metas(rt.alloc(), &eq::FieldAttributeBuilder, &EQ)
+    check_metas(rt.alloc(), eq::FieldAttributeBuilder, &EQ)
 }
 
 #[test]
 fn partial_eq_at_a_field(rt: HostRuntime) -> Result<(), Fail> {
     check_metas(
         rt.alloc(),
-        &partial_eq::FieldAttributeBuilder {
+        partial_eq::FieldAttributeBuilder {
             enable_ignore: true,
             enable_method: true,
         },
@@ -260,7 +260,7 @@ fn partial_eq_at_a_field(rt: HostRuntime) -> Result<(), Fail> {
 fn hash_at_a_field(rt: HostRuntime) -> Result<(), Fail> {
     check_metas(
         rt.alloc(),
-        &hash::FieldAttributeBuilder {
+        hash::FieldAttributeBuilder {
             enable_ignore: true,
             enable_method: true,
         },
@@ -272,7 +272,7 @@ fn hash_at_a_field(rt: HostRuntime) -> Result<(), Fail> {
 fn hash_without_ignore(rt: HostRuntime) -> Result<(), Fail> {
     check_metas(
         rt.alloc(),
-        &hash::FieldAttributeBuilder {
+        hash::FieldAttributeBuilder {
             enable_ignore: false,
             enable_method: true,
         },
@@ -284,7 +284,7 @@ fn hash_without_ignore(rt: HostRuntime) -> Result<(), Fail> {
 fn partial_eq_without_a_method(rt: HostRuntime) -> Result<(), Fail> {
     check_metas(
         rt.alloc(),
-        &partial_eq::FieldAttributeBuilder {
+        partial_eq::FieldAttributeBuilder {
             enable_ignore: true,
             enable_method: false,
         },
@@ -296,7 +296,7 @@ fn partial_eq_without_a_method(rt: HostRuntime) -> Result<(), Fail> {
 fn partial_eq_without_switches(rt: HostRuntime) -> Result<(), Fail> {
     check_metas(
         rt.alloc(),
-        &partial_eq::FieldAttributeBuilder {
+        partial_eq::FieldAttributeBuilder {
             enable_ignore: false,
             enable_method: false,
         },

@@ -484,42 +484,42 @@ static PARTIAL_ORD_WITHOUT_METHOD: [Case; 3] = [
 
 #[test]
 fn ord_at_a_field(rt: HostRuntime) -> Result<(), Fail> {
-    check_metas(rt.alloc(), &ord_field(true, true, true), &ORD)
+    check_metas(rt.alloc(), ord_field(true, true, true), &ORD)
 }
 
 #[test]
 fn partial_ord_at_a_field(rt: HostRuntime) -> Result<(), Fail> {
     check_metas(
         rt.alloc(),
-        &partial_ord_field(true, true, true),
+        partial_ord_field(true, true, true),
         &PARTIAL_ORD,
     )
 }
 
 #[test]
 fn ord_without_a_rank(rt: HostRuntime) -> Result<(), Fail> {
-    check_metas(rt.alloc(), &ord_field(true, true, false), &WITHOUT_RANK)
+    check_metas(rt.alloc(), ord_field(true, true, false), &WITHOUT_RANK)
 }
 
 #[test]
 fn partial_ord_with_a_rank_alone(rt: HostRuntime) -> Result<(), Fail> {
     check_metas(
         rt.alloc(),
-        &partial_ord_field(false, false, true),
+        partial_ord_field(false, false, true),
         &ONLY_RANK,
     )
 }
 
 #[test]
 fn ord_without_switches(rt: HostRuntime) -> Result<(), Fail> {
-    check_metas(rt.alloc(), &ord_field(false, false, false), &NO_SWITCH)
+    check_metas(rt.alloc(), ord_field(false, false, false), &NO_SWITCH)
 }
 
 #[test]
 fn ord_takes_from_partial_ord(rt: HostRuntime) -> Result<(), Fail> {
     check_fields(
         rt.alloc(),
-        &ord_field(true, true, true),
+        ord_field(true, true, true),
         &[Trait::PartialOrd, Trait::Ord],
         &ORD_OR_PARTIAL_ORD,
     )
@@ -529,7 +529,7 @@ fn ord_takes_from_partial_ord(rt: HostRuntime) -> Result<(), Fail> {
 fn partial_ord_takes_from_ord(rt: HostRuntime) -> Result<(), Fail> {
     check_fields(
         rt.alloc(),
-        &partial_ord_field(true, true, true),
+        partial_ord_field(true, true, true),
         &[Trait::Ord, Trait::Debug, Trait::PartialOrd],
         &PARTIAL_ORD_OR_ORD,
     )
@@ -539,7 +539,7 @@ fn partial_ord_takes_from_ord(rt: HostRuntime) -> Result<(), Fail> {
 fn ord_takes_nothing_where_it_is_alone(rt: HostRuntime) -> Result<(), Fail> {
     check_fields(
         rt.alloc(),
-        &ord_field(true, true, true),
+        ord_field(true, true, true),
         &[Trait::Ord],
         &ORD_ALONE,
     )
@@ -549,7 +549,7 @@ fn ord_takes_nothing_where_it_is_alone(rt: HostRuntime) -> Result<(), Fail> {
 fn partial_ord_takes_nothing_where_it_is_alone(rt: HostRuntime) -> Result<(), Fail> {
     check_fields(
         rt.alloc(),
-        &partial_ord_field(true, true, true),
+        partial_ord_field(true, true, true),
         &[Trait::PartialOrd],
         &PARTIAL_ORD_ALONE,
     )
@@ -559,7 +559,7 @@ fn partial_ord_takes_nothing_where_it_is_alone(rt: HostRuntime) -> Result<(), Fa
 fn ord_takes_nothing_where_it_is_not_listed(rt: HostRuntime) -> Result<(), Fail> {
     check_fields(
         rt.alloc(),
-        &ord_field(true, true, true),
+        ord_field(true, true, true),
         &[Trait::PartialOrd],
         &ORD_WITHOUT_ORD,
     )
@@ -569,7 +569,7 @@ fn ord_takes_nothing_where_it_is_not_listed(rt: HostRuntime) -> Result<(), Fail>
 fn ord_without_switches_takes_nothing(rt: HostRuntime) -> Result<(), Fail> {
     check_fields(
         rt.alloc(),
-        &ord_field(false, false, false),
+        ord_field(false, false, false),
         &[Trait::PartialOrd, Trait::Ord],
         &ORD_WITHOUT_SWITCHES,
     )
@@ -579,7 +579,7 @@ fn ord_without_switches_takes_nothing(rt: HostRuntime) -> Result<(), Fail> {
 fn partial_ord_without_a_method_takes_none(rt: HostRuntime) -> Result<(), Fail> {
     check_fields(
         rt.alloc(),
-        &partial_ord_field(true, false, true),
+        partial_ord_field(true, false, true),
         &[Trait::PartialOrd, Trait::Ord],
         &PARTIAL_ORD_WITHOUT_METHOD,
     )

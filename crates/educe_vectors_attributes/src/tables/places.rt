@@ -252,7 +252,7 @@ static TOO_DEEP: [Case; 2] = [
 fn clone_in_the_attributes_of_a_type(rt: HostRuntime) -> Result<(), Fail> {
     check_types(
         rt.alloc(),
-        &clone::TypeAttributeBuilder {
+        clone::TypeAttributeBuilder {
             enable_flag: true,
             enable_bound: true,
         },
@@ -265,7 +265,7 @@ fn clone_in_the_attributes_of_a_type(rt: HostRuntime) -> Result<(), Fail> {
 fn clone_where_it_is_not_listed(rt: HostRuntime) -> Result<(), Fail> {
     check_types(
         rt.alloc(),
-        &clone::TypeAttributeBuilder {
+        clone::TypeAttributeBuilder {
             enable_flag: true,
             enable_bound: true,
         },
@@ -278,7 +278,7 @@ fn clone_where_it_is_not_listed(rt: HostRuntime) -> Result<(), Fail> {
 fn hash_in_the_attributes_of_a_field(rt: HostRuntime) -> Result<(), Fail> {
     check_fields(
         rt.alloc(),
-        &hash::FieldAttributeBuilder {
+        hash::FieldAttributeBuilder {
             enable_ignore: true,
             enable_method: true,
         },
@@ -291,7 +291,7 @@ fn hash_in_the_attributes_of_a_field(rt: HostRuntime) -> Result<(), Fail> {
 fn hash_in_deep_attributes(rt: HostRuntime) -> Result<(), Fail> {
     check_fields(
         rt.alloc(),
-        &hash::FieldAttributeBuilder {
+        hash::FieldAttributeBuilder {
             enable_ignore: true,
             enable_method: true,
         },
@@ -304,7 +304,7 @@ fn hash_in_deep_attributes(rt: HostRuntime) -> Result<(), Fail> {
 fn copy_in_the_attributes_of_a_field(rt: HostRuntime) -> Result<(), Fail> {
     check_fields(
         rt.alloc(),
-        &copy::FieldAttributeBuilder,
+        copy::FieldAttributeBuilder,
         &[Trait::Clone, Trait::Copy],
         &COPY_FIELDS,
     )
