@@ -4,7 +4,8 @@ use crate::answers::{Case, attributes, check_case, line, with_struct};
 use educe_attrs_places::type_listing;
 use educe_attrs_values::error_of;
 use educe_bound::Trait;
-use educe_tokens::{EduceError, Kind, SOURCE_LIMIT};
+use educe_tokens::{EduceError, Kind, SOURCE_LIMIT, Span};
+use educe_vectors_checks::check_at;
 use std::alloc::{AllocError, Global};
 use std::test::Fail;
 
@@ -60,4 +61,22 @@ pub(crate) fn check_listings(alloc: Global, cases: &[Case]) -> Result<(), Fail> 
         check_case(alloc, case, &listing(alloc, &source)?)?;
     }
     Ok(())
+}
+
+/// The place at which a text that lists no trait is refused.
+fn refused_place(alloc: Global, source: &str) -> Result<Span, Fail> {
+    let end = end_of(source)?;
+    let attributes = attributes(alloc, source)?;
+    let listed = type_listing(alloc, attributes.as_slice(), end);
+    drop(attributes);
+    match listed {
+        Ok(_) => Err(Fail::from(source)),
+        Err(stop) => Ok(error_of(alloc, stop).span),
+    }
+}
+
+/// The text is refused from its start to its end.
+pub(crate) fn check_whole(alloc: Global, source: &str) -> Result<(), Fail> {
+    let place = refused_place(alloc, source)?;
+    check_at(source, (place.start, place.end), (0, end_of(source)?))
 }

@@ -9,7 +9,7 @@ use educe_attrs_values::{
 };
 use educe_bound::Bound;
 use educe_syntax::{Expr, ExprPath, Ident, Meta, text_of_tree};
-use educe_tokens::Span;
+use educe_tokens::{EduceError, Span};
 use educe_vectors_checks::{check_at, found};
 use std::alloc::Global;
 use std::test::Fail;
@@ -97,6 +97,31 @@ fn read_place(alloc: Global, source: &str) -> Result<Span, Fail> {
 pub(crate) fn check_places(alloc: Global, cases: &[(&str, u32, u32)]) -> Result<(), Fail> {
     for (source, start, end) in cases {
         let place = read_place(alloc, source)?;
+        check_at(*source, (place.start, place.end), (*start, *end))?;
+    }
+    Ok(())
+}
+
+/// The refusal that is answered.
+fn refusal<T: Drop>(answered: Result<T, EduceError>) -> Result<EduceError, Fail> {
+    match answered {
+        Ok(_) => Err(Fail::from("it is read")),
+        Err(error) => Ok(error),
+    }
+}
+
+/// The place at which the one meta that a text is has no name or truth value.
+fn refused_place(alloc: Global, source: &str) -> Result<Span, Fail> {
+    let meta = only_meta(alloc, source)?;
+    let error = refusal(meta_2_ident_and_bool(alloc, &meta));
+    drop(meta);
+    Ok(error?.span)
+}
+
+/// Each meta is refused at this place.
+pub(crate) fn check_refused(alloc: Global, cases: &[(&str, u32, u32)]) -> Result<(), Fail> {
+    for (source, start, end) in cases {
+        let place = refused_place(alloc, source)?;
         check_at(*source, (place.start, place.end), (*start, *end))?;
     }
     Ok(())

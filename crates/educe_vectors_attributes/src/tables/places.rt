@@ -2,7 +2,7 @@
 //! (documentation of `educe`, Traits).
 
 use crate::answers::{Case, check_fields, check_types};
-use crate::listings::check_listings;
+use crate::listings::{check_listings, check_whole};
 use educe_attrs_builders::{clone, copy, hash};
 use educe_bound::Trait;
 use std::test::Fail;
@@ -432,4 +432,9 @@ static LISTINGS: [Case; 19] = [
 #[test]
 fn types_list_traits(rt: HostRuntime) -> Result<(), Fail> {
     check_listings(rt.alloc(), &LISTINGS)
+}
+
+#[test]
+fn types_without_traits_are_refused_as_a_whole(rt: HostRuntime) -> Result<(), Fail> {
+    check_whole(rt.alloc(), "#[educe()] struct S;")
 }

@@ -1,7 +1,7 @@
 //! The values of parameters, by their kinds (documentation of `educe`, Traits).
 
 use crate::answers::Case;
-use crate::values::{check_places, check_values};
+use crate::values::{check_places, check_refused, check_values};
 use educe_attrs_values::ValueKind;
 use std::test::Fail;
 
@@ -449,4 +449,22 @@ static PLACES: [(&str, u32, u32); 6] = [
 #[test]
 fn names_have_places(rt: HostRuntime) -> Result<(), Fail> {
     check_places(rt.alloc(), &PLACES)
+}
+
+/// A meta, and the place at which it has no name or truth value.
+static REFUSED: [(&str, u32, u32); 9] = [
+    ("p", 0, 1),
+    ("a :: p", 0, 6),
+    ("p = 1 + 1", 4, 9),
+    ("p(a b)", 2, 5),
+    ("p{ 1 }", 3, 4),
+    ("p()", 1, 3),
+    ("p[  ]", 1, 5),
+    ("p = \"a b\"", 4, 9),
+    ("p(\"1.5\")", 2, 7),
+];
+
+#[test]
+fn refusals_have_places(rt: HostRuntime) -> Result<(), Fail> {
+    check_refused(rt.alloc(), &REFUSED)
 }
