@@ -1,0 +1,68 @@
+//! The keys of fields, as names of bindings and in initializers.
+ghost use Rattle.std.specs.Prelude.{IsTrue};
+ghost use Rattle.educe_tokens.specs.Quote.{is_ascii_name};
+
+use crate::builders::ident;
+use crate::generated::spelled;
+use educe_attrs_keys::IdentOrIndex;
+use educe_syntax::text_of_tree;
+use educe_vectors_checks::{check_at, lexed, printed};
+use std::alloc::Global;
+use std::test::Fail;
+
+/// The key of a field of this name, which is empty where it has none, at the place.
+fn key(alloc: Global, name: &str, index: u32) -> Result<IdentOrIndex, Fail> {
+    if name.is_empty() {
+        return Ok(IdentOrIndex::from_ident_with_index(alloc, None, index)?);
+    }
+    let name = ident(alloc, name)?;
+    Ok(IdentOrIndex::from_ident_with_index(alloc, Some(&name), index)?)
+}
+
+/// The key of a name or an index by itself.
+fn plain(alloc: Global, name: &str, index: u32) -> Result<IdentOrIndex, Fail> {
+    if name.is_empty() {
+        Ok(IdentOrIndex::from(index))
+    } else {
+        Ok(IdentOrIndex::from(ident(alloc, name)?))
+    }
+}
+
+/// The name of the binding of a key, behind a prefix.
+#[tactic(auto, using(educe_body::specs::NameLaws::ascii_is_word))]
+fn binding(alloc: Global, key: &IdentOrIndex, prefix: &str) -> Result<String, Fail>
+    requires { IsTrue (is_ascii_name prefix.now) }
+{
+    Ok(printed(alloc, key.to_binding(alloc, prefix)?)?)
+}
+
+/// The initializer of a field with this value.
+fn initializer(alloc: Global, key: &IdentOrIndex, value: &str) -> Result<String, Fail> {
+    let tokens = key.to_field(alloc, &lexed(alloc, value)?)?;
+    Ok(spelled(alloc, tokens.as_slice())?)
+}
+
+/// A key as it is printed, its binding, and its initializer with a value.
+fn shown(alloc: Global, key: &IdentOrIndex, value: &str) -> Result<String, Fail> {
+    let text = text_of_tree(alloc, key)?;
+    let binding = binding(alloc, key, "_s_")?;
+    let initializer = initializer(alloc, key, value)?;
+    Ok(format!(in alloc; "{text} {binding} {initializer}")?)
+}
+
+/// The key of this name or index is shown so.
+fn check_key(alloc: Global, case: &(&str, u32, &str, &str)) -> Result<(), Fail> {
+    let (name, index, value, expected) = case;
+    let found = shown(alloc, &key(alloc, name, *index)?, value)?;
+    check_at((*name, *index), found.as_str(), *expected)?;
+    let found = shown(alloc, &plain(alloc, name, *index)?, value)?;
+    check_at((*name, *index), found.as_str(), *expected)
+}
+
+/// Each key is shown so.
+pub(crate) fn check_keys(alloc: Global, cases: &[(&str, u32, &str, &str)]) -> Result<(), Fail> {
+    for case in cases {
+        check_key(alloc, case)?;
+    }
+    Ok(())
+}
