@@ -77,10 +77,10 @@ fn read(alloc: Global, kind: ValueKind, source: &str) -> Result<String, Fail> {
     words
 }
 
-/// Each meta has this value.
-pub(crate) fn check_values(alloc: Global, cases: &[(ValueKind, Case)]) -> Result<(), Fail> {
-    for (kind, case) in cases {
-        check_case(alloc, case, &read(alloc, *kind, case.0)?)?;
+/// Each meta has this value of the kind.
+pub(crate) fn check_values(alloc: Global, kind: ValueKind, cases: &[Case]) -> Result<(), Fail> {
+    for case in cases {
+        check_case(alloc, case, &read(alloc, kind, case.0)?)?;
     }
     Ok(())
 }

@@ -16,18 +16,11 @@ const CLONE_FORMS: &str =
     #[educe(Clone(bound(where_predicates)))]
     #[educe(Clone(bound = false))]";
 
-static CLONE: [Case; 43] = [
+static CLONE: [Case; 17] = [
     ("Clone", "", "needed bounds"),
     ("Clone()", "", "needed bounds"),
     ("Clone(bound = false)", "", "no bounds"),
     ("Clone(bound(T: Clone))", "", "bounds T : Clone,"),
-    ("Clone = false", "1:1", CLONE_FORMS),
-    ("Clone(other)", "1:1", CLONE_FORMS),
-    (
-        "Clone(bound = true, bound(*))",
-        "1:21",
-        "you are trying to reset the `bound` parameter",
-    ),
     ("Clone[]", "", "needed bounds"),
     ("Clone{}", "", "needed bounds"),
     ("Clone(bound = true)", "", "needed bounds"),
@@ -49,31 +42,35 @@ static CLONE: [Case; 43] = [
     ),
     ("Clone(bound = r#\"T: Copy\"#)", "", "bounds T : Copy,"),
     ("Clone(bound(\"T: Copy\"),)", "", "bounds T : Copy,"),
-    ("Clone(bound)", "1:7", BOUND_MISSING),
-    ("Clone(bound = 1)", "1:15", BOUND_WRONG),
-    ("Clone(bound = T)", "1:15", BOUND_WRONG),
-    ("Clone(bound = \"*\")", "1:15", BOUND_WRONG),
-    ("Clone(bound = \"true\")", "1:15", BOUND_WRONG),
-    ("Clone(bound = \"T\")", "1:15", BOUND_WRONG),
-    ("Clone(bound(\"*\"))", "1:13", BOUND_WRONG),
-    ("Clone(bound(1))", "1:13", BOUND_WRONG),
-    ("Clone(bound(T))", "1:13", BOUND_WRONG),
-    ("Clone(bound(*, T: Copy))", "1:13", BOUND_WRONG),
-    ("Clone(bound(true, T: Copy))", "1:13", BOUND_WRONG),
-    (
-        "Clone(bound = \"T: 1.5\")",
-        "1:15",
-        "`1.5` is not supported",
-    ),
-    (
-        "Clone(bound = \"T: X<X<X<X<X<X<X<X<X<X<X<X<X<X<X<X<X<X<X<X<X<X<X<X<X<X<X<X<X<X<X<X<X<X<X<X<X<X<X<X<X<X<X<X<X<X<X<X<X<X<X<X<X<X<X<X<X<X<X<X<X<X<X<X<X<X<X<X<X<X<X<X<X<X<X<X<X<X<X<X<X<X<X<X<X<X<X<X<X<X<X<X<X<X<X<X<X<X<X<X<X<X<X<X<X<X<X<X<X<X<X<X<X<X<X<X<X<X<X<X<X<X<X<X<X<X<X<X<X<u8>>>>>>>>>>>>>>>>>>>>>>>>>>>>>>>>>>>>>>>>>>>>>>>>>>>>>>>>>>>>>>>>>>>>>>>>>>>>>>>>>>>>>>>>>>>>>>>>>>>>>>>>>>>>>>>>>>>>>>>>>>>>>>>>>\")",
-        "1:15",
-        "nested too deeply",
-    ),
+];
+
+static CLONE_OTHER_FORMS: [Case; 7] = [
+    ("Clone = false", "1:1", CLONE_FORMS),
+    ("Clone(other)", "1:1", CLONE_FORMS),
     ("Clone(::bound)", "1:1", CLONE_FORMS),
     ("Clone(r#bound = false)", "1:1", CLONE_FORMS),
     ("Clone(Bound = false)", "1:1", CLONE_FORMS),
     ("Clone(bound::bound)", "1:1", CLONE_FORMS),
+    (
+        "Clone(a = !!!!!!!!!!!!!!!!!!!!!!!!!!!!!!!!!!!!!!!!!!!!!!!!!!!!!!!!!!!!!!!!!!!!!!!!!!!!!!!!!!!!!!!!!!!!!!!!!!!!!!!!!!!!!!!!!!!!!!!!!!!!!!!!x)",
+        "1:1",
+        CLONE_FORMS,
+    ),
+];
+
+static CLONE_VALUES: [Case; 13] = [
+    (
+        "Clone(bound = true, bound(*))",
+        "1:21",
+        "you are trying to reset the `bound` parameter",
+    ),
+    ("Clone(bound)", "1:7", BOUND_MISSING),
+    ("Clone(bound = 1)", "1:15", BOUND_WRONG),
+    ("Clone(bound = T)", "1:15", BOUND_WRONG),
+    ("Clone(bound(1))", "1:13", BOUND_WRONG),
+    ("Clone(bound(T))", "1:13", BOUND_WRONG),
+    ("Clone(bound(*, T: Copy))", "1:13", BOUND_WRONG),
+    ("Clone(bound(true, T: Copy))", "1:13", BOUND_WRONG),
     ("Clone(1)", "1:7", "syntax error"),
     ("Clone(bound = true bound = true)", "1:20", "syntax error"),
     ("Clone(,)", "1:7", "syntax error"),
@@ -83,10 +80,22 @@ static CLONE: [Case; 43] = [
         "1:139",
         "nested too deeply",
     ),
+];
+
+static CLONE_STRINGS: [Case; 6] = [
+    ("Clone(bound = \"*\")", "1:15", BOUND_WRONG),
+    ("Clone(bound = \"true\")", "1:15", BOUND_WRONG),
+    ("Clone(bound = \"T\")", "1:15", BOUND_WRONG),
+    ("Clone(bound(\"*\"))", "1:13", BOUND_WRONG),
     (
-        "Clone(a = !!!!!!!!!!!!!!!!!!!!!!!!!!!!!!!!!!!!!!!!!!!!!!!!!!!!!!!!!!!!!!!!!!!!!!!!!!!!!!!!!!!!!!!!!!!!!!!!!!!!!!!!!!!!!!!!!!!!!!!!!!!!!!!!x)",
-        "1:1",
-        CLONE_FORMS,
+        "Clone(bound = \"T: 1.5\")",
+        "1:15",
+        "`1.5` is not supported",
+    ),
+    (
+        "Clone(bound = \"T: X<X<X<X<X<X<X<X<X<X<X<X<X<X<X<X<X<X<X<X<X<X<X<X<X<X<X<X<X<X<X<X<X<X<X<X<X<X<X<X<X<X<X<X<X<X<X<X<X<X<X<X<X<X<X<X<X<X<X<X<X<X<X<X<X<X<X<X<X<X<X<X<X<X<X<X<X<X<X<X<X<X<X<X<X<X<X<X<X<X<X<X<X<X<X<X<X<X<X<X<X<X<X<X<X<X<X<X<X<X<X<X<X<X<X<X<X<X<X<X<X<X<X<X<X<X<X<X<X<u8>>>>>>>>>>>>>>>>>>>>>>>>>>>>>>>>>>>>>>>>>>>>>>>>>>>>>>>>>>>>>>>>>>>>>>>>>>>>>>>>>>>>>>>>>>>>>>>>>>>>>>>>>>>>>>>>>>>>>>>>>>>>>>>>>\")",
+        "1:15",
+        "nested too deeply",
     ),
 ];
 
@@ -233,6 +242,42 @@ fn clone_at_a_type(rt: HostRuntime) -> Result<(), Fail> {
             enable_bound: true,
         },
         &CLONE,
+    )
+}
+
+#[test]
+fn clone_at_a_type_in_other_forms(rt: HostRuntime) -> Result<(), Fail> {
+    check_metas(
+        rt.alloc(),
+        clone::TypeAttributeBuilder {
+            enable_flag: true,
+            enable_bound: true,
+        },
+        &CLONE_OTHER_FORMS,
+    )
+}
+
+#[test]
+fn clone_at_a_type_with_other_values(rt: HostRuntime) -> Result<(), Fail> {
+    check_metas(
+        rt.alloc(),
+        clone::TypeAttributeBuilder {
+            enable_flag: true,
+            enable_bound: true,
+        },
+        &CLONE_VALUES,
+    )
+}
+
+#[test]
+fn clone_at_a_type_with_other_strings(rt: HostRuntime) -> Result<(), Fail> {
+    check_metas(
+        rt.alloc(),
+        clone::TypeAttributeBuilder {
+            enable_flag: true,
+            enable_bound: true,
+        },
+        &CLONE_STRINGS,
     )
 }
 

@@ -21,7 +21,7 @@ const UNNAMED_FORMS: &str =
     #[educe(Debug(ignore))]
     #[educe(Debug(method(path_to_method)))]";
 
-static NAMED: [Case; 53] = [
+static NAMED: [Case; 19] = [
     ("Debug = x", "", "name x; kept; no method"),
     ("Debug = \"x\"", "", "name x; kept; no method"),
     ("Debug = false", "", "own name; ignored; no method"),
@@ -57,23 +57,23 @@ static NAMED: [Case; 53] = [
         "",
         "name x; ignored; method f",
     ),
+];
+
+static NAMED_OTHER_FORMS: [Case; 6] = [
     ("Debug", "1:1", NAMED_FORMS),
     ("Debug()", "1:1", NAMED_FORMS),
     ("Debug(bound = false)", "1:1", NAMED_FORMS),
     ("Debug(named_field = true)", "1:1", NAMED_FORMS),
     ("Debug(rank = 1)", "1:1", NAMED_FORMS),
     ("Debug(r#ignore)", "1:1", NAMED_FORMS),
+];
+
+static NAMED_VALUES: [Case; 17] = [
     (
         "Debug = 1",
         "1:9",
         "expected `Debug = Ident` or `Debug = false`",
     ),
-    (
-        "Debug = \"1\"",
-        "1:9",
-        "expected `Debug = Ident` or `Debug = false`",
-    ),
-    ("Debug = \"1.5\"", "1:9", "`1.5` is not supported"),
     (
         "Debug(name)",
         "1:7",
@@ -86,14 +86,8 @@ static NAMED: [Case; 53] = [
     ),
     ("Debug(name = true)", "1:14", "expected `name = Ident`"),
     ("Debug(name(false))", "1:12", "expected `name = Ident`"),
-    ("Debug(name = \"\")", "1:14", "expected `name = Ident`"),
     ("Debug(rename = 1)", "1:16", "expected `rename = Ident`"),
     ("Debug(ignore = 1)", "1:16", "expected `ignore = false`"),
-    (
-        "Debug(ignore = \"true\")",
-        "1:16",
-        "expected `ignore = false`",
-    ),
     ("Debug(ignore())", "1:13", "expected `ignore = false`"),
     (
         "Debug(ignore(true true))",
@@ -106,14 +100,49 @@ static NAMED: [Case; 53] = [
         "expected `method = Path` or `method(Path)`",
     ),
     ("Debug(method = 1)", "1:16", "expected `method = Path`"),
+    ("Debug(method(f()))", "1:14", "expected `method = Path`"),
+    ("Debug(method())", "1:13", "expected `method = Path`"),
+    (
+        "Debug(method(f::<X<X<X<X<X<X<X<X<X<X<X<X<X<X<X<X<X<X<X<X<X<X<X<X<X<X<X<X<X<X<X<X<X<X<X<X<X<X<X<X<X<X<X<X<X<X<X<X<X<X<X<X<X<X<X<X<X<X<X<X<X<X<X<X<X<X<X<X<X<X<X<X<X<X<X<X<X<X<X<X<X<X<X<X<X<X<X<X<X<X<X<X<X<X<X<X<X<X<X<X<X<X<X<X<X<X<X<X<X<X<X<X<X<X<X<X<X<X<X<X<X<X<X<X<X<X<X<X<u8>>>>>>>>>>>>>>>>>>>>>>>>>>>>>>>>>>>>>>>>>>>>>>>>>>>>>>>>>>>>>>>>>>>>>>>>>>>>>>>>>>>>>>>>>>>>>>>>>>>>>>>>>>>>>>>>>>>>>>>>>>>>>>>>>))",
+        "1:273",
+        "nested too deeply",
+    ),
+    (
+        "Debug(name = x, rename = x)",
+        "1:17",
+        "you are trying to reset the `rename` parameter",
+    ),
+    (
+        "Debug(ignore, ignore)",
+        "1:15",
+        "you are trying to reset the `ignore` parameter",
+    ),
+    (
+        "Debug(method = f, ignore, method = f)",
+        "1:27",
+        "you are trying to reset the `method` parameter",
+    ),
+];
+
+static NAMED_STRINGS: [Case; 11] = [
+    (
+        "Debug = \"1\"",
+        "1:9",
+        "expected `Debug = Ident` or `Debug = false`",
+    ),
+    ("Debug = \"1.5\"", "1:9", "`1.5` is not supported"),
+    ("Debug(name = \"\")", "1:14", "expected `name = Ident`"),
+    (
+        "Debug(ignore = \"true\")",
+        "1:16",
+        "expected `ignore = false`",
+    ),
     ("Debug(method = \"\")", "1:16", "expected `method = Path`"),
     (
         "Debug(method = \"f()\")",
         "1:16",
         "expected `method = Path`",
     ),
-    ("Debug(method(f()))", "1:14", "expected `method = Path`"),
-    ("Debug(method())", "1:13", "expected `method = Path`"),
     ("Debug(method = \"'\")", "1:16", "expected `method = Path`"),
     (
         "Debug(method = \"f::<1.5>\")",
@@ -134,26 +163,6 @@ static NAMED: [Case; 53] = [
         "Debug(method = \"((((((((((((((((((((((((((((((((((((((((((((((((((((((((((((((((((((((((((((((((((((((((((((((((((((((((((((((((((((((((((((((((()))))))))))))))))))))))))))))))))))))))))))))))))))))))))))))))))))))))))))))))))))))))))))))))))))))))))))))))))))))))))))))))))\")",
         "1:16",
         "nested too deeply",
-    ),
-    (
-        "Debug(method(f::<X<X<X<X<X<X<X<X<X<X<X<X<X<X<X<X<X<X<X<X<X<X<X<X<X<X<X<X<X<X<X<X<X<X<X<X<X<X<X<X<X<X<X<X<X<X<X<X<X<X<X<X<X<X<X<X<X<X<X<X<X<X<X<X<X<X<X<X<X<X<X<X<X<X<X<X<X<X<X<X<X<X<X<X<X<X<X<X<X<X<X<X<X<X<X<X<X<X<X<X<X<X<X<X<X<X<X<X<X<X<X<X<X<X<X<X<X<X<X<X<X<X<X<X<X<X<X<X<u8>>>>>>>>>>>>>>>>>>>>>>>>>>>>>>>>>>>>>>>>>>>>>>>>>>>>>>>>>>>>>>>>>>>>>>>>>>>>>>>>>>>>>>>>>>>>>>>>>>>>>>>>>>>>>>>>>>>>>>>>>>>>>>>>>))",
-        "1:273",
-        "nested too deeply",
-    ),
-    (
-        "Debug(name = x, rename = x)",
-        "1:17",
-        "you are trying to reset the `rename` parameter",
-    ),
-    (
-        "Debug(ignore, ignore)",
-        "1:15",
-        "you are trying to reset the `ignore` parameter",
-    ),
-    (
-        "Debug(method = f, ignore, method = f)",
-        "1:27",
-        "you are trying to reset the `method` parameter",
     ),
 ];
 
@@ -243,6 +252,21 @@ fn debug_at_a_field_that_has_another_name(rt: HostRuntime) -> Result<(), Fail> {
 #[test]
 fn debug_at_a_field_with_a_name(rt: HostRuntime) -> Result<(), Fail> {
     check_metas(rt.alloc(), debug_field(true), &NAMED)
+}
+
+#[test]
+fn debug_at_a_field_with_a_name_in_other_forms(rt: HostRuntime) -> Result<(), Fail> {
+    check_metas(rt.alloc(), debug_field(true), &NAMED_OTHER_FORMS)
+}
+
+#[test]
+fn debug_at_a_field_with_a_name_with_other_values(rt: HostRuntime) -> Result<(), Fail> {
+    check_metas(rt.alloc(), debug_field(true), &NAMED_VALUES)
+}
+
+#[test]
+fn debug_at_a_field_with_a_name_with_other_strings(rt: HostRuntime) -> Result<(), Fail> {
+    check_metas(rt.alloc(), debug_field(true), &NAMED_STRINGS)
 }
 
 #[test]

@@ -50,7 +50,7 @@ const TUPLE_VARIANT_FORMS: &str =
     #[educe(Debug(name = false))]
     #[educe(Debug(named_field = true))]";
 
-static STRUCT: [Case; 46] = [
+static STRUCT: [Case; 19] = [
     ("Debug", "", "own name; named fields; needed bounds"),
     ("Debug()", "", "own name; named fields; needed bounds"),
     (
@@ -138,13 +138,12 @@ static STRUCT: [Case; 46] = [
         "",
         "name Point; fields without names; all bounds",
     ),
+];
+
+static STRUCT_VALUES: [Case; 15] = [
     ("Debug = true", "1:9", "expected `Debug = Ident`"),
-    ("Debug = \"\"", "1:9", "expected `Debug = Ident`"),
     ("Debug = 1", "1:9", "expected `Debug = Ident`"),
     ("Debug = a::b", "1:9", "expected `Debug = Ident`"),
-    ("Debug = \"a b\"", "1:9", "expected `Debug = Ident`"),
-    ("Debug = \"fn\"", "1:9", "expected `Debug = Ident`"),
-    ("Debug = \"1.5\"", "1:9", "`1.5` is not supported"),
     (
         "Debug(name)",
         "1:7",
@@ -176,28 +175,12 @@ static STRUCT: [Case; 46] = [
         "expected `name = Ident` or `name = false`",
     ),
     (
-        "Debug(name = \" \")",
-        "1:14",
-        "expected `name = Ident` or `name = false`",
-    ),
-    (
-        "Debug(name = \"true\")",
-        "1:14",
-        "expected `name = Ident` or `name = false`",
-    ),
-    ("Debug(name = \"1.5\")", "1:14", "`1.5` is not supported"),
-    (
         "Debug(named_field)",
         "1:7",
         "expected `named_field = false` or `named_field(false)`",
     ),
     (
         "Debug(named_field = 1)",
-        "1:21",
-        "expected `named_field = false`",
-    ),
-    (
-        "Debug(named_field = \"false\")",
         "1:21",
         "expected `named_field = false`",
     ),
@@ -221,10 +204,36 @@ static STRUCT: [Case; 46] = [
         "1:27",
         "you are trying to reset the `named_field` parameter",
     ),
+];
+
+static STRUCT_STRINGS: [Case; 9] = [
+    ("Debug = \"\"", "1:9", "expected `Debug = Ident`"),
+    ("Debug = \"a b\"", "1:9", "expected `Debug = Ident`"),
+    ("Debug = \"fn\"", "1:9", "expected `Debug = Ident`"),
+    ("Debug = \"1.5\"", "1:9", "`1.5` is not supported"),
+    (
+        "Debug(name = \" \")",
+        "1:14",
+        "expected `name = Ident` or `name = false`",
+    ),
+    (
+        "Debug(name = \"true\")",
+        "1:14",
+        "expected `name = Ident` or `name = false`",
+    ),
+    ("Debug(name = \"1.5\")", "1:14", "`1.5` is not supported"),
+    (
+        "Debug(named_field = \"false\")",
+        "1:21",
+        "expected `named_field = false`",
+    ),
+    ("Debug(\"name\")", "1:7", "syntax error"),
+];
+
+static STRUCT_OTHER_FORMS: [Case; 3] = [
     ("Debug(ignore)", "1:1", STRUCT_FORMS),
     ("Debug(new)", "1:1", STRUCT_FORMS),
     ("Debug(name::name = a)", "1:1", STRUCT_FORMS),
-    ("Debug(\"name\")", "1:7", "syntax error"),
 ];
 
 static TUPLE: [Case; 3] = [
@@ -387,6 +396,21 @@ fn debug_in_the_attributes_of_a_variant(rt: HostRuntime) -> Result<(), Fail> {
 #[test]
 fn debug_at_a_struct(rt: HostRuntime) -> Result<(), Fail> {
     check_metas(rt.alloc(), debug_struct(true), &STRUCT)
+}
+
+#[test]
+fn debug_at_a_struct_with_other_values(rt: HostRuntime) -> Result<(), Fail> {
+    check_metas(rt.alloc(), debug_struct(true), &STRUCT_VALUES)
+}
+
+#[test]
+fn debug_at_a_struct_with_other_strings(rt: HostRuntime) -> Result<(), Fail> {
+    check_metas(rt.alloc(), debug_struct(true), &STRUCT_STRINGS)
+}
+
+#[test]
+fn debug_at_a_struct_in_other_forms(rt: HostRuntime) -> Result<(), Fail> {
+    check_metas(rt.alloc(), debug_struct(true), &STRUCT_OTHER_FORMS)
 }
 
 #[test]

@@ -19,7 +19,7 @@ const FIELD_FORMS: &str =
     #[educe(Default = expr)]
     #[educe(Default(expression = expr))]";
 
-static TYPE: [Case; 34] = [
+static TYPE: [Case; 17] = [
     (
         "Default",
         "",
@@ -105,10 +105,16 @@ static TYPE: [Case; 34] = [
         "",
         "not marked; new; value x; all bounds; at 0 to 32",
     ),
+];
+
+static TYPE_OTHER_FORMS: [Case; 4] = [
     ("Default = 1", "1:1", TYPE_FORMS),
     ("Default(ignore)", "1:1", TYPE_FORMS),
     ("Default(name = x)", "1:1", TYPE_FORMS),
     ("Default(r#new)", "1:1", TYPE_FORMS),
+];
+
+static TYPE_VALUES: [Case; 13] = [
     ("Default(new = 1)", "1:15", "expected `new = false`"),
     ("Default(new())", "1:12", "expected `new = false`"),
     (
@@ -360,6 +366,34 @@ fn default_at_a_type(rt: HostRuntime) -> Result<(), Fail> {
 }
 
 #[test]
+fn default_at_a_type_in_other_forms(rt: HostRuntime) -> Result<(), Fail> {
+    check_metas(
+        rt.alloc(),
+        default::TypeAttributeBuilder {
+            enable_flag: true,
+            enable_new: true,
+            enable_expression: true,
+            enable_bound: true,
+        },
+        &TYPE_OTHER_FORMS,
+    )
+}
+
+#[test]
+fn default_at_a_type_with_other_values(rt: HostRuntime) -> Result<(), Fail> {
+    check_metas(
+        rt.alloc(),
+        default::TypeAttributeBuilder {
+            enable_flag: true,
+            enable_new: true,
+            enable_expression: true,
+            enable_bound: true,
+        },
+        &TYPE_VALUES,
+    )
+}
+
+#[test]
 fn default_at_a_variant(rt: HostRuntime) -> Result<(), Fail> {
     check_metas(
         rt.alloc(),
@@ -454,7 +488,7 @@ fn default_at_no_field(rt: HostRuntime) -> Result<(), Fail> {
 }
 
 /// The type of a field, a default value, and how it is written.
-static WRITTEN: [(&str, &str, &str); 43] = [
+static INTEGERS: [(&str, &str, &str); 13] = [
     ("u8", "1", "1"),
     ("i128", "1u16", "1u16"),
     ("usize", "0x1", "0x1"),
@@ -472,6 +506,15 @@ static WRITTEN: [(&str, &str, &str); 43] = [
     ("r#u8", "1", ":: core :: convert :: Into :: into ( 1 )"),
     ("&u8", "1", ":: core :: convert :: Into :: into ( 1 )"),
     ("(u8)", "1", ":: core :: convert :: Into :: into ( 1 )"),
+];
+
+#[test]
+fn integers_are_converted_where_they_do_not_fit(rt: HostRuntime) -> Result<(), Fail> {
+    check_values(rt.alloc(), &INTEGERS)
+}
+
+/// The type of a field, a default value, and how it is written.
+static STRINGS: [(&str, &str, &str); 7] = [
     ("&str", "\"a\"", "\"a\""),
     ("&'static str", "\"a\"", "\"a\""),
     ("&'a mut str", "\"a\"", "\"a\""),
@@ -487,6 +530,15 @@ static WRITTEN: [(&str, &str, &str); 43] = [
         "\"a\"",
         ":: core :: convert :: Into :: into ( \"a\" )",
     ),
+];
+
+#[test]
+fn strings_are_converted_where_they_do_not_fit(rt: HostRuntime) -> Result<(), Fail> {
+    check_values(rt.alloc(), &STRINGS)
+}
+
+/// The type of a field, a default value, and how it is written.
+static OTHERS: [(&str, &str, &str); 23] = [
     (
         "&&str",
         "\"a\"",
@@ -541,8 +593,8 @@ static WRITTEN: [(&str, &str, &str); 43] = [
 ];
 
 #[test]
-fn literals_are_converted_where_they_do_not_fit(rt: HostRuntime) -> Result<(), Fail> {
-    check_values(rt.alloc(), &WRITTEN)
+fn other_values_are_converted_where_they_do_not_fit(rt: HostRuntime) -> Result<(), Fail> {
+    check_values(rt.alloc(), &OTHERS)
 }
 
 static TYPE_PLACES: [Case; 4] = [

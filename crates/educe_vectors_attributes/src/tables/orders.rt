@@ -22,7 +22,7 @@ const PARTIAL_ORD_FORMS: &str =
 
 const NO_RANK: &str = "expected `rank = integer`";
 
-static ORD: [Case; 67] = [
+static ORD: [Case; 23] = [
     ("Ord = false", "", "ignored; no method; rank 7"),
     ("Ord = true", "", "kept; no method; rank 7"),
     ("Ord(ignore)", "", "ignored; no method; rank 7"),
@@ -90,6 +90,9 @@ static ORD: [Case; 67] = [
         "",
         "ignored; method f; rank 3 at 12 to 20",
     ),
+];
+
+static ORD_OTHER_FORMS: [Case; 8] = [
     ("Ord", "1:1", ORD_FORMS),
     ("Ord()", "1:1", ORD_FORMS),
     ("Ord(bound = false)", "1:1", ORD_FORMS),
@@ -98,6 +101,9 @@ static ORD: [Case; 67] = [
     ("Ord(r#ignore)", "1:1", ORD_FORMS),
     ("Ord(a::rank = 1)", "1:1", ORD_FORMS),
     ("Ord(::rank = 1)", "1:1", ORD_FORMS),
+];
+
+static ORD_VALUES: [Case; 20] = [
     ("Ord = 1", "1:7", "expected `Ord = false`"),
     (
         "Ord(rank)",
@@ -106,21 +112,6 @@ static ORD: [Case; 67] = [
     ),
     ("Ord(rank = 9223372036854775808)", "1:12", NO_RANK),
     ("Ord(rank = -9223372036854775809)", "1:12", NO_RANK),
-    ("Ord(rank = \"9223372036854775808\")", "1:12", NO_RANK),
-    ("Ord(rank = \"-9223372036854775809\")", "1:12", NO_RANK),
-    ("Ord(rank = \"\")", "1:12", NO_RANK),
-    ("Ord(rank = \" 1\")", "1:12", NO_RANK),
-    ("Ord(rank = \"1 \")", "1:12", NO_RANK),
-    ("Ord(rank = \"- 1\")", "1:12", NO_RANK),
-    ("Ord(rank = \"+-1\")", "1:12", NO_RANK),
-    ("Ord(rank = \"-\")", "1:12", NO_RANK),
-    ("Ord(rank = \"+\")", "1:12", NO_RANK),
-    ("Ord(rank = \"0x1\")", "1:12", NO_RANK),
-    ("Ord(rank = \"1_0\")", "1:12", NO_RANK),
-    ("Ord(rank = \"1u8\")", "1:12", NO_RANK),
-    ("Ord(rank = \"１\")", "1:12", NO_RANK),
-    ("Ord(rank = \"1.5\")", "1:12", NO_RANK),
-    ("Ord(rank = \"(\")", "1:12", NO_RANK),
     ("Ord(rank = a)", "1:12", NO_RANK),
     ("Ord(rank = true)", "1:12", NO_RANK),
     ("Ord(rank = '1')", "1:12", NO_RANK),
@@ -128,7 +119,6 @@ static ORD: [Case; 67] = [
     ("Ord(rank = !1)", "1:12", NO_RANK),
     ("Ord(rank = - -1)", "1:12", NO_RANK),
     ("Ord(rank = 1 + 1)", "1:12", NO_RANK),
-    ("Ord(rank = -\"1\")", "1:12", NO_RANK),
     ("Ord(rank(+ 1))", "1:10", NO_RANK),
     ("Ord(rank(1 2))", "1:10", NO_RANK),
     ("Ord(rank())", "1:9", NO_RANK),
@@ -150,6 +140,25 @@ static ORD: [Case; 67] = [
         "you are trying to reset the `ignore` parameter",
     ),
     ("Ord(rank = 1 ignore)", "1:14", "syntax error"),
+];
+
+static ORD_STRINGS: [Case; 16] = [
+    ("Ord(rank = \"9223372036854775808\")", "1:12", NO_RANK),
+    ("Ord(rank = \"-9223372036854775809\")", "1:12", NO_RANK),
+    ("Ord(rank = \"\")", "1:12", NO_RANK),
+    ("Ord(rank = \" 1\")", "1:12", NO_RANK),
+    ("Ord(rank = \"1 \")", "1:12", NO_RANK),
+    ("Ord(rank = \"- 1\")", "1:12", NO_RANK),
+    ("Ord(rank = \"+-1\")", "1:12", NO_RANK),
+    ("Ord(rank = \"-\")", "1:12", NO_RANK),
+    ("Ord(rank = \"+\")", "1:12", NO_RANK),
+    ("Ord(rank = \"0x1\")", "1:12", NO_RANK),
+    ("Ord(rank = \"1_0\")", "1:12", NO_RANK),
+    ("Ord(rank = \"1u8\")", "1:12", NO_RANK),
+    ("Ord(rank = \"１\")", "1:12", NO_RANK),
+    ("Ord(rank = \"1.5\")", "1:12", NO_RANK),
+    ("Ord(rank = \"(\")", "1:12", NO_RANK),
+    ("Ord(rank = -\"1\")", "1:12", NO_RANK),
 ];
 
 static PARTIAL_ORD: [Case; 9] = [
@@ -227,7 +236,7 @@ static NO_SWITCH: [Case; 2] = [
     ),
 ];
 
-static ORD_OR_PARTIAL_ORD: [Case; 25] = [
+static ORD_OR_PARTIAL_ORD: [Case; 14] = [
     ("", "", "kept; no method; rank 7"),
     (
         "#[educe(Ord(rank = 1))]",
@@ -294,8 +303,15 @@ static ORD_OR_PARTIAL_ORD: [Case; 25] = [
         "",
         "kept; no method; rank 1 at 41 to 49",
     ),
+];
+
+static ORD_OR_PARTIAL_ORD_OTHER_FORMS: [Case; 3] = [
     ("#[educe(PartialOrd)]", "1:9", PARTIAL_ORD_FORMS),
     ("#[educe(PartialOrd(foo))]", "1:9", PARTIAL_ORD_FORMS),
+    ("#[educe(PartialOrd(ignore), Ord)]", "1:29", ORD_FORMS),
+];
+
+static ORD_OR_PARTIAL_ORD_VALUES: [Case; 8] = [
     ("#[educe(PartialOrd(rank = x))]", "1:27", NO_RANK),
     (
         "#[educe(PartialOrd(rank))]",
@@ -327,7 +343,6 @@ static ORD_OR_PARTIAL_ORD: [Case; 25] = [
         "1:29",
         "expected `method = Path`",
     ),
-    ("#[educe(PartialOrd(ignore), Ord)]", "1:29", ORD_FORMS),
     (
         "#[educe(PartialOrd(ignore), Ord(rank = x))]",
         "1:40",
@@ -488,6 +503,21 @@ fn ord_at_a_field(rt: HostRuntime) -> Result<(), Fail> {
 }
 
 #[test]
+fn ord_at_a_field_in_other_forms(rt: HostRuntime) -> Result<(), Fail> {
+    check_metas(rt.alloc(), ord_field(true, true, true), &ORD_OTHER_FORMS)
+}
+
+#[test]
+fn ord_at_a_field_with_other_values(rt: HostRuntime) -> Result<(), Fail> {
+    check_metas(rt.alloc(), ord_field(true, true, true), &ORD_VALUES)
+}
+
+#[test]
+fn ord_at_a_field_with_other_strings(rt: HostRuntime) -> Result<(), Fail> {
+    check_metas(rt.alloc(), ord_field(true, true, true), &ORD_STRINGS)
+}
+
+#[test]
 fn partial_ord_at_a_field(rt: HostRuntime) -> Result<(), Fail> {
     check_metas(
         rt.alloc(),
@@ -522,6 +552,26 @@ fn ord_takes_from_partial_ord(rt: HostRuntime) -> Result<(), Fail> {
         ord_field(true, true, true),
         &[Trait::PartialOrd, Trait::Ord],
         &ORD_OR_PARTIAL_ORD,
+    )
+}
+
+#[test]
+fn ord_takes_from_partial_ord_in_other_forms(rt: HostRuntime) -> Result<(), Fail> {
+    check_fields(
+        rt.alloc(),
+        ord_field(true, true, true),
+        &[Trait::PartialOrd, Trait::Ord],
+        &ORD_OR_PARTIAL_ORD_OTHER_FORMS,
+    )
+}
+
+#[test]
+fn ord_takes_from_partial_ord_with_other_values(rt: HostRuntime) -> Result<(), Fail> {
+    check_fields(
+        rt.alloc(),
+        ord_field(true, true, true),
+        &[Trait::PartialOrd, Trait::Ord],
+        &ORD_OR_PARTIAL_ORD_VALUES,
     )
 }
 

@@ -7,7 +7,7 @@ use educe_attrs_builders::{clone, copy, hash};
 use educe_bound::Trait;
 use std::test::Fail;
 
-static TYPES: [Case; 28] = [
+static TYPES: [Case; 12] = [
     ("", "", "needed bounds"),
     ("#[educe()]", "", "needed bounds"),
     ("#[educe(Clone)]", "", "needed bounds"),
@@ -45,6 +45,9 @@ static TYPES: [Case; 28] = [
         "",
         "no bounds",
     ),
+];
+
+static TYPES_VALUES: [Case; 15] = [
     (
         "#[educe(Other)]",
         "1:9",
@@ -138,14 +141,6 @@ static TYPES: [Case; 28] = [
         "the trait `Clone` is used repeatedly",
     ),
     (
-        "#[educe(Clone = 1)]",
-        "1:9",
-        "you are using an incorrect format of the `Clone` attribute, which should be reformatted as follows:
-    #[educe(Clone)]
-    #[educe(Clone(bound(where_predicates)))]
-    #[educe(Clone(bound = false))]",
-    ),
-    (
         "#[educe(Debug)]
 #[educe(Clone(bound = 1))]",
         "2:23",
@@ -157,6 +152,15 @@ static TYPES: [Case; 28] = [
     ("#[educe(Clone)] #[educe(Clone =)]", "1:32", "syntax error"),
     ("#[educe(Clone(1))]", "1:15", "syntax error"),
 ];
+
+static TYPES_OTHER_FORMS: [Case; 1] = [(
+    "#[educe(Clone = 1)]",
+    "1:9",
+    "you are using an incorrect format of the `Clone` attribute, which should be reformatted as follows:
+    #[educe(Clone)]
+    #[educe(Clone(bound(where_predicates)))]
+    #[educe(Clone(bound = false))]",
+)];
 
 static NOT_LISTED: [Case; 2] = [
     ("", "", "needed bounds"),
@@ -258,6 +262,32 @@ fn clone_in_the_attributes_of_a_type(rt: HostRuntime) -> Result<(), Fail> {
         },
         &[Trait::Clone, Trait::Debug],
         &TYPES,
+    )
+}
+
+#[test]
+fn clone_in_the_attributes_of_a_type_with_other_values(rt: HostRuntime) -> Result<(), Fail> {
+    check_types(
+        rt.alloc(),
+        clone::TypeAttributeBuilder {
+            enable_flag: true,
+            enable_bound: true,
+        },
+        &[Trait::Clone, Trait::Debug],
+        &TYPES_VALUES,
+    )
+}
+
+#[test]
+fn clone_in_the_attributes_of_a_type_in_other_forms(rt: HostRuntime) -> Result<(), Fail> {
+    check_types(
+        rt.alloc(),
+        clone::TypeAttributeBuilder {
+            enable_flag: true,
+            enable_bound: true,
+        },
+        &[Trait::Clone, Trait::Debug],
+        &TYPES_OTHER_FORMS,
     )
 }
 
