@@ -1,6 +1,7 @@
 -- The laws of names hold.
 use Rattle.educe_names.specs.Laws.{NameLaws}
 use Rattle.educe_names.proofs.AsciiNames.{ascii_is_word}
+use Rattle.educe_names.proofs.Idents.{idents_run, value_idents}
 use Rattle.educe_names.proofs.Names.{words_held, no_word_free, each_free, each_apart}
 use Rattle.educe_names.proofs.Prefixes.{prefix_free, prefixes_apart}
 
@@ -14,4 +15,6 @@ lawful_names = record {
   apart = each_apart;
   prefixed = prefix_free;
   prefixes = prefixes_apart;
+  idents_are_words = idents_run;
+  idents_in_values = value_idents;
 }

@@ -7,4 +7,5 @@ pub mod Gaining
 pub mod Names
 pub mod Prefixes
 pub mod AsciiNames
+pub mod Idents
 pub mod Lawful

@@ -1,14 +1,18 @@
 -- The laws of names, which hold with no call.
 use Rattle.std.specs.Prelude.{◌≡◌, ◌≢◌, ℕ, true, false, IsTrue, List, ◌++◌, chars}
-use Rattle.std.specs.List.{AllByRecursion}
+use Rattle.std.specs.List.{AllByRecursion, Contains}
+use Rattle.educe_tokens.specs.TokenKind.TheVariants.{Ident}
 use Rattle.educe_tokens.specs.declared.token.Token.{Token}
+use Rattle.educe_tokens.specs.Lexes.{Lexeme, Lexes, LexesAside, lexeme_of}
 use Rattle.educe_tokens.specs.Quote.{is_ascii_name}
 use Rattle.educe_tokens.specs.Spells.{IsWord}
+use Rattle.educe_tokens.specs.StringValue.{IsStringValue}
+use Rattle.educe_tree.specs.Names.{unraw}
 use Rattle.educe_names.specs.Chosen.{is_held, IsPrefix, AreChosen, AreApart, are_letters_apart}
 use Rattle.educe_names.specs.Held.{AreWordsOf, HoldWordsOf}
-use Rattle.educe_names.specs.Words.{HasWord}
+use Rattle.educe_names.specs.Words.{IsRunOf, HasWord}
 
--- What holds of names and prefixes that are chosen apart from the words that are held.
+-- What holds of the identifiers of a text, and of names and prefixes that are chosen apart from the words that are held.
 pub record NameLaws : Type 0 where
   -- an ASCII identifier is a word
   pub ascii : (name : List ℕ) → IsTrue (is_ascii_name name) → IsWord (chars name)
@@ -25,3 +29,8 @@ pub record NameLaws : Type 0 where
   -- a name that begins with one prefix is none that begins with another, where the first letters of the two differ
   pub prefixes : (words held : List (List ℕ)) (name other prefix mark key word : List ℕ) → IsPrefix words name prefix → IsPrefix held other mark
       → are_letters_apart name other ≡ true → prefix ++ key ≢ mark ++ word
+  -- each identifier of a text that lexes is, without `r#`, a maximal run of the text
+  pub idents_are_words : (text : List ℕ) (found : List Lexeme) (name : Lexeme) → LexesAside text found → Contains found name → name.kind ≡ Ident → IsRunOf (unraw name.spelling) text
+  -- so each identifier in the value of a string or of documentation is, without `r#`, a word of the tokens
+  pub idents_in_values : (tokens : List Token) (token : Token) (value : List ℕ) (inner : List Token) (name : Token) → Contains tokens token → IsStringValue (lexeme_of token) value
+      → Lexes value inner → Contains inner name → name.kind ≡ Ident → HasWord tokens (unraw name.spelling)

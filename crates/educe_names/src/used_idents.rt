@@ -12,8 +12,8 @@ use educe_tree::Ident;
 use std::alloc::{AllocError, Global};
 use std::marker::Model;
 
-/// The words that generated code may not declare: those of an input, and the names that were chosen
-/// so far, in this order. A contract sees them as a list.
+/// The words that generated code may not declare: those of an input, and behind them the names that
+/// were chosen, in the order of the choices. A contract sees them as a list.
 #[derive(Drop)]
 pub struct UsedIdents {
     words: Seq<Letters>,
