@@ -1,5 +1,6 @@
 -- Items of lists: of a longer list, of two lists.
 use Rattle.std.proofs.Common.{◌≡◌, List, [], ◌∷◌, ◌++◌, refl, sym, subst, ◌∙◌, ap, append_assoc, ◌⊎◌, inl, inr}
+use Rattle.std.specs.List.{AllByRecursion}
 use Rattle.educe_attrs_rows.specs.Among.{IsAmong}
 
 pub among_none : {X : Type 0} (m : X) → IsAmong m [] → ⊥
@@ -35,3 +36,11 @@ among_both m (x ∷ xs) ys a = elim (among_cases m x (xs ++ ys) a) [
   | inl same ↦ inl (subst (λ x. IsAmong m (x ∷ xs)) (sym same) (among_first m xs))
   | inr more ↦ elim (among_both m xs ys more) [ inl left ↦ inl (among_more x m xs left) | inr right ↦ inr right ]
 ]
+
+-- what holds of each holds of one of them
+all_at : {X : Type 0} (P : X → Type 0) (x : X) (front back : List X) → AllByRecursion P (front ++ x ∷ back) → P x
+all_at P x [] back all = all.0
+all_at P x (f ∷ front) back all = all_at P x front back all.1
+
+pub among_all : {X : Type 0} (P : X → Type 0) (x : X) (xs : List X) → AllByRecursion P xs → IsAmong x xs → P x
+among_all P x xs all a = all_at P x a.front a.back (subst (AllByRecursion P) a.is all)

@@ -6,4 +6,4 @@ pub mod Listed
 pub mod ParamLaws
 pub mod MetaLaws
 pub mod Lines
-pub mod Worded
+pub mod Reported

@@ -7,3 +7,5 @@ pub mod Integers
 pub mod ByRule
 pub mod ValueLaws
 pub mod ReaderLaws
+pub mod Boundaries
+pub mod Reported

@@ -7,6 +7,7 @@ pub mod Decisions
 pub mod Texts
 pub mod Integers
 pub mod Sources
+pub mod Reports
 pub mod Readings
 pub mod Values
 pub mod Causes

@@ -70,7 +70,8 @@ pub fn meta_2_bool_allow_path(alloc: Global, meta: &Meta) -> Result<bool, EduceE
     told(alloc, read_flag(alloc, named_path(meta), meta))
 }
 
-/// The name or truth value that the meta has as its value; a string without text is `false`, or why it has none.
+/// The name or truth value that the meta has as its value, where a string without text is `false`; or
+/// why it has none.
 pub fn meta_2_ident_and_bool(alloc: Global, meta: &Meta) -> Result<IdentOrBool, EduceError>
     requires { IsNamed meta.now }
     ensures said { IfOk result (λ v. Holds ValueKind.Name meta.now v) }

@@ -47,8 +47,8 @@ impl Bound {
         }
     }
 
-    /// The bound that the meta has as its value, or why it has none. The parameter is `bound` by
-    /// whatever path the meta has, which messages show.
+    /// The bound that the meta has as its value, or why it has none. Messages call the parameter
+    /// `bound`, whatever the path of the meta.
     pub fn from_meta(alloc: Global, meta: &Meta) -> Result<Bound, EduceError>
         requires { IsNamed meta.now }
         ensures said { IfOk result (λ bound. spec.SaysBound meta.now bound) }

@@ -1,7 +1,7 @@
 use Rattle.std.proofs.Common.{sym, subst}
 use Rattle.educe_attrs_rows.specs.Causes.{IsCause}
 use Rattle.educe_attrs_rows.proofs.MetaLaws.{meta_says, meta_uncaused, stop_cause}
-use Rattle.educe_attrs_rows.proofs.Worded.{cause_words}
+use Rattle.educe_attrs_rows.proofs.Reported.{cause_words}
 use Rattle.educe_attrs_rows.proofs.reader.read_meta.Goals as goal
 
 pub returns-in-Ok : goal.returns-in-Ok
