@@ -17,11 +17,14 @@ use Rattle.educe_attrs_places.specs.Causes.{OfStop, NoCause}
 use Rattle.educe_attrs_places.specs.Lists.{AreMetas}
 use Rattle.educe_attrs_places.specs.Said.{listed_metas, read_one, IsUnsaid, IsSaidCause}
 use Rattle.educe_attrs_places.specs.Places.{fallback, own_settings, or_taken, read_other, or_other, read_among, read_field, field_settings, IsFieldSaid, IsFieldCause, OfField}
-use Rattle.educe_attrs_places.proofs.SaidLaws.{said_cause, said_uncaused, says_there, is_unsaid, not_unsaid, metas_listed, listed_cause, listed_uncaused}
+use Rattle.educe_attrs_places.proofs.SaidLaws.{said_cause, said_uncaused, says_there, is_unsaid, not_unsaid, AreListed, metas_listed, said_listed, listed_cause, listed_uncaused}
 use Rattle.educe_attrs_rows.proofs.Chained.{ok_one, err_one, chained, mapped, mapped_err}
 
 module _ (which : Trait) (row : Row) (listed : List Trait) (attributes : List Attribute) where
-  module _ (found : List Meta) (are : AreMetas attributes found) where
+  module _ (found : List Meta) (l : AreListed listed attributes found) where
+    abbrev are : AreMetas attributes found
+    are = l.are
+
     -- ---- causes
 
     other_err : read_one which row found None ≡ Ok None → (e : EduceError) (o : Option Trait) → fallback which listed ≡ o → read_other which row found o ≡ Err (Refused e) → IsFieldCause which row listed attributes e
@@ -33,7 +36,9 @@ module _ (which : Trait) (row : Row) (listed : List Trait) (attributes : List At
     among_err_by : (e : EduceError) (r : Result (Option Values) Stop) → read_one which row found None ≡ r → and_then (or_other which row listed found) r ≡ Err (Refused e) → IsFieldCause which row listed attributes e
     among_err_by e (Ok (Some v)) is h = absurd (cc)
     among_err_by e (Ok None) is h = other_err is e (fallback which listed) refl h
-    among_err_by e (Err s) is h = IsFieldCause.own_meta (said_cause which row attributes found are e (is ∙ ap Err (err_one h)))
+    among_err_by e (Err s) is h =
+        let cause = said_cause which row attributes found are e (is ∙ ap Err (err_one h)) in
+        IsFieldCause.own_meta (said_listed listed attributes found l which row e cause) cause
 
     among_cause : (e : EduceError) → read_among which row listed found ≡ Err (Refused e) → IsFieldCause which row listed attributes e
     among_cause e h = among_err_by e (read_one which row found None) refl h
@@ -46,7 +51,7 @@ module _ (which : Trait) (row : Row) (listed : List Trait) (attributes : List At
         said_uncaused other row attributes found are r.0 r.1 e cause
 
     among_uncaused : (v : FieldSettings) → read_among which row listed found ≡ Ok v → (e : EduceError) → IsFieldCause which row listed attributes e → ⊥
-    among_uncaused v h e (IsFieldCause.own_meta cause) =
+    among_uncaused v h e (IsFieldCause.own_meta is_there cause) =
         let r = chained (or_other which row listed found) (read_one which row found None) v h in
         said_uncaused which row attributes found are r.0 r.1 e cause
     among_uncaused v h e (IsFieldCause.other_meta other is none cause) =
@@ -89,7 +94,7 @@ module _ (which : Trait) (row : Row) (listed : List Trait) (attributes : List At
   -- ---- the whole place
 
   field_by : (e : EduceError) (r : Result (List Meta) Stop) → listed_metas listed attributes ≡ r → and_then (read_among which row listed) r ≡ Err (Refused e) → OfField which row listed attributes e
-  field_by e (Ok found) is h = inr (among_cause found (metas_listed listed attributes found is).are e h)
+  field_by e (Ok found) is h = inr (among_cause found (metas_listed listed attributes found is) e h)
   field_by e (Err s) is h = inl (listed_cause listed attributes e (is ∙ ap Err (err_one h)))
 
   -- a refusal has a cause
@@ -106,7 +111,7 @@ module _ (which : Trait) (row : Row) (listed : List Trait) (attributes : List At
       record {
         none_stands = λ e cause. elim cause [
           | inl list ↦ listed_uncaused listed attributes metas.0 l e list
-          | inr of ↦ among_uncaused metas.0 l.are v metas.2 e of
+          | inr of ↦ among_uncaused metas.0 l v metas.2 e of
         ];
       }
 
@@ -115,7 +120,7 @@ module _ (which : Trait) (row : Row) (listed : List Trait) (attributes : List At
   unfolding read_field
   field_said v h =
       let metas = chained (read_among which row listed) (listed_metas listed attributes) v h in
-      among_said metas.0 (metas_listed listed attributes metas.0 metas.1).are v metas.2
+      among_said metas.0 (metas_listed listed attributes metas.0 metas.1) v metas.2
 
   -- what is read is the settings
   pub field_is : (v : FieldSettings) → read_field which row listed attributes ≡ Ok v → v ≡ field_settings which row listed attributes

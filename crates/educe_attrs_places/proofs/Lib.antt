@@ -7,3 +7,4 @@ pub mod FieldLaws
 pub mod FieldsLaws
 pub mod ListingLaws
 pub mod Phased
+pub mod Reported

@@ -6,6 +6,7 @@ use Rattle.educe_tokens.specs.declared.error.Kind.TheVariants.{UnsupportedTrait,
 use Rattle.educe_bound.specs.declared.traits.Trait.{Trait}
 use Rattle.educe_bound.specs.Named.{trait_named}
 use Rattle.educe_bound.specs.Traits.{is_listed}
+use Rattle.educe_bound.proofs.Apart.{same_is}
 use Rattle.educe_syntax.specs.Attribute.{Attribute}
 use Rattle.educe_syntax.specs.Meta.{Meta}
 use Rattle.educe_syntax.specs.Meta.TheVariants as said
@@ -18,7 +19,7 @@ use Rattle.educe_attrs_rows.specs.Among.{IsAmong}
 use Rattle.educe_attrs_values.specs.Metas.{IsNamed}
 use Rattle.educe_attrs_values.specs.Words.{path_of}
 use Rattle.educe_attrs_places.specs.Lists.{AreMetas}
-use Rattle.educe_attrs_places.specs.Named.{unless_listed, checked_path, checked, all_checked}
+use Rattle.educe_attrs_places.specs.Named.{is_trait, is_of, unless_listed, checked_path, checked, all_checked}
 use Rattle.educe_attrs_places.specs.Said.{IsPlaceCause}
 use Rattle.educe_attrs_places.proofs.ListLaws.{lists_uncaused, name_met, name_in}
 use Rattle.educe_attrs_rows.proofs.Among.{among_none, among_first, among_more, among_cases}
@@ -87,6 +88,29 @@ module _ (listed : List Trait) where
       let bad : ◌≡◌ {A = Result (Unit {0}) Stop} (Err (Refused (at_name TraitNotUsed path))) (Ok w) =
       sym (ap (unless_listed listed path) named ∙ ap (listed_or path) unused) ∙ h in
       cc
+
+  -- ---- the traits that are listed
+
+  passed : (path : MetaPath) (which : Trait) (w : Unit {0}) (b : Bool) → is_listed listed which ≡ b → listed_or path b ≡ Ok w → is_listed listed which ≡ true
+  passed path which w true is h = is
+  passed path which w false is h = absurd (cc)
+
+  -- a name that is checked is that of a listed trait
+  name_listed : (path : MetaPath) (which : Trait) (w : Unit {0}) (o : Option Trait) → is_trait which o ≡ true → unless_listed listed path o ≡ Ok w → is_listed listed which ≡ true
+  name_listed path which w None of h = absurd (cc)
+  name_listed path which w (Some other) of h = subst (λ t. is_listed listed t ≡ true) (sym ((same_is which other).0 of)) (passed path other w (is_listed listed other) refl h)
+
+  -- a meta that is checked is of a listed trait
+  meta_listed : (m : Meta) (which : Trait) (w : Unit {0}) → is_of which m ≡ true → checked listed m ≡ Ok w → is_listed listed which ≡ true
+  meta_listed (said.Word path) which w of h = name_listed path which w (trait_named path) of h
+  meta_listed (said.List path written place) which w of h = name_listed path which w (trait_named path) of h
+  meta_listed (said.NameValue path x place) which w of h = name_listed path which w (trait_named path) of h
+  meta_listed (said.Doc t) which w of h = absurd (cc)
+  meta_listed (said.Unread path written place) which w of h = absurd (cc)
+
+  -- where all are checked, each is of a listed trait
+  pub each_listed : (ms : List Meta) (u : Unit {0}) → all_checked listed ms ≡ Ok u → (m : Meta) → IsAmong m ms → (which : Trait) → is_of which m ≡ true → is_listed listed which ≡ true
+  each_listed ms u h m among which of = let c = checks_ok ms u h m among in meta_listed m which c.0 of c.1
 
   -- ---- causes
 

@@ -16,7 +16,7 @@ use Rattle.educe_attrs_places.specs.Causes.{OfStop, NoCause}
 use Rattle.educe_attrs_places.specs.Lists.{AreMetas}
 use Rattle.educe_attrs_places.specs.Said.{listed_metas, read_one}
 use Rattle.educe_attrs_places.specs.Places.{or_nothing, read_place, place_settings, IsSaid, OfPlace}
-use Rattle.educe_attrs_places.proofs.SaidLaws.{said_cause, said_uncaused, says_there, is_unsaid, metas_listed, listed_cause, listed_uncaused}
+use Rattle.educe_attrs_places.proofs.SaidLaws.{said_cause, said_uncaused, says_there, is_unsaid, metas_listed, said_listed, listed_cause, listed_uncaused}
 use Rattle.educe_attrs_rows.proofs.Chained.{err_one, chained, mapped, mapped_err}
 
 module _ (which : Trait) (row : Row) (listed : List Trait) (attributes : List Attribute) where
@@ -25,7 +25,9 @@ module _ (which : Trait) (row : Row) (listed : List Trait) (attributes : List At
 
   place_by : (e : EduceError) (r : Result (List Meta) Stop) → listed_metas listed attributes ≡ r → and_then of_metas r ≡ Err (Refused e) → OfPlace which row listed attributes e
   place_by e (Ok found) is h =
-      inr (said_cause which row attributes found (metas_listed listed attributes found is).are e (mapped_err or_nothing (read_one which row found None) (Refused e) h))
+      let l = metas_listed listed attributes found is in
+      let cause = said_cause which row attributes found l.are e (mapped_err or_nothing (read_one which row found None) (Refused e) h) in
+      inr (said_listed listed attributes found l which row e cause, cause)
   place_by e (Err s) is h = inl (listed_cause listed attributes e (is ∙ ap Err (err_one h)))
 
   -- a refusal has a cause
@@ -43,7 +45,7 @@ module _ (which : Trait) (row : Row) (listed : List Trait) (attributes : List At
       record {
         none_stands = λ e cause. elim cause [
           | inl list ↦ listed_uncaused listed attributes metas.0 l e list
-          | inr own ↦ said_uncaused which row attributes metas.0 l.are said.0 said.1 e own
+          | inr own ↦ said_uncaused which row attributes metas.0 l.are said.0 said.1 e own.1
         ];
       }
 

@@ -5,6 +5,7 @@ use Rattle.std.proofs.lemmas.Bool.{false≢true}
 use Rattle.educe_tokens.specs.declared.error.EduceError.{EduceError}
 use Rattle.educe_tokens.specs.declared.error.Kind.TheVariants.{ReuseATrait}
 use Rattle.educe_bound.specs.declared.traits.Trait.{Trait}
+use Rattle.educe_bound.specs.Traits.{is_listed}
 use Rattle.educe_syntax.specs.Attribute.{Attribute}
 use Rattle.educe_syntax.specs.Meta.{Meta}
 use Rattle.educe_syntax.specs.MetaPath.{MetaPath}
@@ -21,7 +22,7 @@ use Rattle.educe_attrs_places.specs.Lists.{all_metas, AreMetas}
 use Rattle.educe_attrs_places.specs.Named.{is_of, all_checked, IsReused}
 use Rattle.educe_attrs_places.specs.Said.{if_listed, listed_metas, refused_again, said_once, next_said, read_one, IsUnsaid, SaysThere, IsPlaceCause, IsSaidCause}
 use Rattle.educe_attrs_places.proofs.ListLaws.{metas_one, all_are, lists_cause}
-use Rattle.educe_attrs_places.proofs.NamedLaws.{names_cause, no_place_cause}
+use Rattle.educe_attrs_places.proofs.NamedLaws.{each_listed, names_cause, no_place_cause}
 use Rattle.educe_attrs_rows.proofs.MetaLaws.{meta_says, meta_cause, meta_excludes}
 use Rattle.educe_attrs_rows.proofs.Among.{among_none, among_first, among_more}
 use Rattle.educe_attrs_rows.proofs.Chained.{ok_one, err_one, chained, mapped, mapped_err, refused_one}
@@ -238,3 +239,11 @@ module _ (listed : List Trait) (attributes : List Attribute) where
 
   pub listed_uncaused : (found : List Meta) → AreListed found → (e : EduceError) → IsPlaceCause listed attributes e → ⊥
   listed_uncaused found l e cause = no_place_cause listed attributes found l.are l.checked_as l.checked e cause
+
+  -- where what they say of a trait is refused, it is listed
+  pub said_listed : (found : List Meta) → AreListed found → (which : Trait) (row : Row) (e : EduceError) → IsSaidCause which row attributes e → is_listed listed which ≡ true
+  said_listed found l which row e (IsSaidCause.reuse others later path are reused path_is) =
+      let among : IsAmong later others = record { front = reused.front ++ reused.earlier ∷ reused.between; back = reused.rest; is = reused.is } in
+      each_listed listed found l.checked_as l.checked later (subst (IsAmong later) (metas_one attributes others found are l.are) among) which reused.later_is
+  said_listed found l which row e (IsSaidCause.meta others m are among of cause) =
+      each_listed listed found l.checked_as l.checked m (subst (IsAmong m) (metas_one attributes others found are l.are) among) which of

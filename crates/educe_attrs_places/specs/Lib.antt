@@ -6,3 +6,4 @@ pub mod Places
 pub mod Fields
 pub mod Listing
 pub mod Phases
+pub mod Reports

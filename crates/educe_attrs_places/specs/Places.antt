@@ -35,10 +35,10 @@ pub data IsSaid (which : Trait) (row : Row) (attributes : List Attribute) : Valu
   by_meta : (values : Values) → SaysThere which row attributes values → IsSaid which row attributes values
   by_none : IsUnsaid which attributes → IsSaid which row attributes no_values
 
--- why the attributes of a type or a variant are refused for a trait: for its lists, whatever the trait; or for what they say
--- of the trait
+-- why the attributes of a type or a variant are refused for a trait: for its lists, whatever the trait; or, where the trait is
+-- listed, for what they say of it
 abbrev pub OfPlace : Trait → Row → List Trait → List Attribute → Cause
-OfPlace which row listed attributes = λ e. IsPlaceCause listed attributes e ⊎ IsSaidCause which row attributes e
+OfPlace which row listed attributes = λ e. IsPlaceCause listed attributes e ⊎ ((is_listed listed which ≡ true) × IsSaidCause which row attributes e)
 
 -- ---- fields
 
@@ -99,10 +99,10 @@ pub data IsFieldSaid (which : Trait) (row : Row) (listed : List Trait) (attribut
   none_said : IsUnsaid which attributes → ((other : Trait) → fallback which listed ≡ Some other → IsUnsaid other attributes)
       → IsFieldSaid which row listed attributes (own_settings no_values)
 
--- why what the attributes of a field say of a trait is refused: for its own metas; or, where there is none, for those of the
--- other order, where both are listed
+-- why what the attributes of a field say of a trait is refused: for its own metas, where it is listed; or, where there is none,
+-- for those of the other order, where both are listed
 pub data IsFieldCause (which : Trait) (row : Row) (listed : List Trait) (attributes : List Attribute) : EduceError → Type 0 where
-  own_meta : {e : EduceError} → IsSaidCause which row attributes e → IsFieldCause which row listed attributes e
+  own_meta : {e : EduceError} → is_listed listed which ≡ true → IsSaidCause which row attributes e → IsFieldCause which row listed attributes e
   other_meta : {e : EduceError} (other : Trait) → fallback which listed ≡ Some other → IsUnsaid which attributes → IsSaidCause other row attributes e
       → IsFieldCause which row listed attributes e
 

@@ -4,6 +4,7 @@
 #![tactic(auto)]
 
 mod fields;
+mod laws;
 mod listing;
 mod lists;
 mod named;
@@ -11,5 +12,7 @@ mod place;
 mod said;
 
 pub use fields::settings_of_fields;
+pub use laws::report_laws;
 pub use listing::type_listing;
+pub use lists::is_educe;
 pub use place::{FieldSettings, field_settings, place_settings};

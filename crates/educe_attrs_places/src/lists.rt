@@ -9,7 +9,7 @@ use educe_syntax::{Attribute, Meta, MetaPath, Metas};
 use educe_tokens::Seq;
 use std::alloc::Global;
 
-/// Whether the path is `educe`.
+/// Whether the path is `educe` (documentation of `educe`, Traits).
 #[tactic(auto, using(crate::proofs::Texts::chars_educe))]
 pub fn is_educe(path: &MetaPath) -> bool
     ensures { result ≡ spec.is_educe path.now }
