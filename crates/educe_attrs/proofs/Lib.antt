@@ -1,4 +1,3 @@
-pub mod Words
-pub mod OneWord
-pub mod Joining
-pub mod Inside
+pub mod Refused
+pub mod Settings
+pub mod NoField

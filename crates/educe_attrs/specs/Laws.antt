@@ -1,23 +1,22 @@
--- The law of bracket pairs as a term, which proofs cite with no call.
-use Rattle.std.specs.Prelude.{◌≡◌, List, [], ◌∷◌, Some, Ok, Err, IfSome, unwrap_or}
-use Rattle.std.proofs.Common.{ap, subst}
-use Rattle.educe_tokens.specs.declared.token.Token.{Token}
-use Rattle.educe_syntax.specs.Steps.{Outcome}
-use Rattle.educe_syntax.specs.Reads.{read}
-use Rattle.educe_syntax.specs.Attributes.{metas}
-use Rattle.educe_syntax.specs.Parsed.{depth_limit}
-use Rattle.educe_syntax.specs.Laws.{lawful_metas}
-use Rattle.educe_attrs.specs.Metas.{inside, whole_value, metas_in, AreMetasInside}
+-- The laws of attributes as terms, which proofs cite with no call.
+use Rattle.std.specs.Prelude.{List, Contains}
+use Rattle.educe_tokens.specs.declared.error.EduceError.{EduceError}
+use Rattle.educe_bound.specs.declared.traits.Trait.{Trait}
+use Rattle.educe_attrs_places.specs.Causes.{NoCause}
+use Rattle.educe_attrs_places.specs.Phases.{Handling, OfHandler, OfLast}
+use Rattle.educe_attrs_places.specs.Reports.{ReportLaws}
+use Rattle.educe_attrs_places.proofs.Phased as phased
+use Rattle.educe_attrs_places.proofs.Reported as reported
 
--- what was read to its end
-ended : {A : Type 0} (read : Outcome A) (x : A) → whole_value read ≡ Some x → read ≡ Ok (x, [])
-ended (Ok (y, [])) x h = ap (λ o. Ok (unwrap_or o y, [])) h
-ended (Ok (y, t ∷ rest)) x h = absurd (subst (λ o. IfSome o (λ _. ⊥)) h tt)
-ended (Err e) x h = absurd (subst (λ o. IfSome o (λ _. ⊥)) h tt)
+-- errors of attributes have messages, and start at boundaries of tokens
+pub lawful_reports : ReportLaws
+lawful_reports = reported.lawful_reports
 
--- the metas in a bracket pair are those of the grammar
-pub lawful_inside : (tokens : List Token) → AreMetasInside tokens
-unfolding metas_in
-lawful_inside tokens found =
-    let by_program = lawful_metas.by_program (inside tokens) found in
-    ((λ h. by_program.1 (ended (read depth_limit metas (inside tokens)) found h)), (λ h. ap whole_value (by_program.0 h)))
+-- where no handler of a listed trait has a cause, and there is one, the last phase has none
+pub all_handled : (h : Handling) (listed : List Trait) (some : Trait) → Contains listed some
+    → ((which : Trait) → Contains listed which → NoCause (OfHandler h which)) → NoCause (OfLast h listed)
+all_handled = phased.all_handled
+
+-- a cause of a listed trait's handler is one of the last phase
+pub one_refused : (h : Handling) (listed : List Trait) (which : Trait) → Contains listed which → (e : EduceError) → OfHandler h which e → OfLast h listed e
+one_refused = phased.one_refused

@@ -1,18 +1,38 @@
-//! What the attributes of `educe` say: the traits that a type lists, and the settings of its fields.
-//! They are read from the trees of attributes (Rust Reference, Attributes), as the documentation of
-//! the crate `educe` describes them.
+//! The attributes of a definition. What the attribute of each trait says of a type, a variant or a
+//! field (documentation of `educe`, each trait's section): a module for each trait, with its builders
+//! and what they build. The crate also passes on what users of attributes name of the layers below:
+//! the table, the kinds of values, the settings of places, and what generated code takes from
+//! attributes.
 #![tactic(auto)]
 
-mod gathered;
-mod metas;
-mod named;
-mod param;
-mod rank;
-mod said;
-mod setting;
-mod word;
+mod bound_only;
+mod builder;
+pub mod clone;
+mod compared;
+pub mod copy;
+pub mod debug;
+pub mod default;
+pub mod eq;
+pub mod hash;
+mod no_field;
+pub mod ord;
+pub mod partial_eq;
+pub mod partial_ord;
 
-pub use metas::metas_in;
-pub use param::{Param, Params, ignores, rank_in, rank_span_in};
-pub use said::{listed_by, settings_by};
-pub use setting::{Setting, Settings, params_of};
+pub use bound_only::bound_row;
+pub use builder::{AttributeBuilder, FieldBuilder, TypeBuilder};
+pub use compared::compared_row;
+pub use educe_attrs_generated::{
+    auto_adjust_expr, generated_impl_attributes, generated_lint_attributes, is_packed,
+};
+pub use educe_attrs_places::{
+    FieldSettings, field_settings, is_educe, place_settings, report_laws, settings_of_fields,
+    type_listing,
+};
+pub use educe_attrs_rows::{Equals, NameKind, Param, Rank, Row, Values, read_meta};
+pub use educe_attrs_values::{
+    IdentOrBool, Stop, ValueKind, WherePredicatesOrBool, error_of, is_word, meta_2_bool,
+    meta_2_bool_allow_path, meta_2_expr, meta_2_ident, meta_2_ident_and_bool, meta_2_isize,
+    meta_2_path, value_laws,
+};
+pub use educe_bound::{Bound, Trait, Traits, is_listed};

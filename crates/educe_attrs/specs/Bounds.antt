@@ -1,0 +1,26 @@
+-- What is said of a type of which only `bound` may be said (documentation of `educe`, Generic parameters bound to the trait).
+use Rattle.std.specs.Prelude.{◌≡◌, Bool, Option, Some, None}
+use Rattle.educe_bound.specs.declared.bound.Bound.{Bound}
+use Rattle.educe_bound.specs.Bounds as value
+use Rattle.educe_bound.specs.declared.bound.Bound.TheVariants.{Auto}
+use Rattle.educe_attrs_values.specs.declared.choices.WherePredicatesOrBool.{WherePredicatesOrBool}
+use Rattle.educe_attrs_rows.specs.declared.row.Row.{Row}
+use Rattle.educe_attrs_rows.specs.declared.row.TheConstants.Row.{EMPTY}
+use Rattle.educe_attrs_places.specs.declared.place.FieldSettings.{FieldSettings}
+use Rattle.educe_attrs.specs.declared.bound_only.TypeAttribute.{TypeAttribute}
+
+-- the trait alone, and `bound`
+abbrev pub bound_row : Bool → Bool → Row
+bound_row flag bound = record EMPTY { flag = flag; bound = bound }
+
+-- the bound that is said; without one, the bounds that the trait needs
+abbrev pub bound_of : Option WherePredicatesOrBool → Bound
+bound_of None = Auto
+bound_of (Some said) = value.bound_of said
+
+-- the attribute of a type of which only the bound is said
+abbrev pub bound_attribute : FieldSettings → TypeAttribute
+bound_attribute settings = record { bound = bound_of settings.values.bound }
+
+abbrev pub IsBound : FieldSettings → TypeAttribute → Type 0
+IsBound settings attribute = attribute ≡ bound_attribute settings

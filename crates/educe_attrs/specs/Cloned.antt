@@ -1,0 +1,17 @@
+-- What `Clone` says of a field.
+use Rattle.std.specs.Prelude.{◌≡◌, Bool}
+use Rattle.educe_attrs_rows.specs.declared.row.Row.{Row}
+use Rattle.educe_attrs_rows.specs.declared.row.TheConstants.Row.{EMPTY}
+use Rattle.educe_attrs_places.specs.declared.place.FieldSettings.{FieldSettings}
+use Rattle.educe_attrs.specs.declared.clone.FieldAttribute.{FieldAttribute}
+
+-- `method`
+abbrev pub clone_row : Bool → Row
+clone_row method = record EMPTY { method = method }
+
+-- the attribute of a field
+abbrev pub clone_attribute : FieldSettings → FieldAttribute
+clone_attribute settings = record { method = settings.values.method }
+
+abbrev pub IsCloned : FieldSettings → FieldAttribute → Type 0
+IsCloned settings attribute = attribute ≡ clone_attribute settings

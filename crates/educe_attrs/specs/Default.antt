@@ -1,0 +1,57 @@
+-- What `Default` says of a type, a variant or a field (documentation of `educe`, Default).
+use Rattle.std.specs.Prelude.{◌≡◌, false, if◌then◌else◌, Option, Some, None, unwrap_or}
+use Rattle.educe_syntax.specs.Expr.{Expr}
+use Rattle.educe_syntax.specs.Ty.{Ty}
+use Rattle.educe_attrs_generated.specs.Adjusted as value
+use Rattle.educe_attrs_rows.specs.declared.row.Row.{Row}
+use Rattle.educe_attrs_rows.specs.declared.row.TheConstants.Row.{EMPTY}
+use Rattle.educe_attrs_rows.specs.declared.row.Equals.TheVariants as equals
+use Rattle.educe_attrs_rows.specs.declared.values.Values.{Values}
+use Rattle.educe_attrs_places.specs.declared.place.FieldSettings.{FieldSettings}
+use Rattle.educe_attrs.specs.declared.default.TypeAttribute.{TypeAttribute}
+use Rattle.educe_attrs.specs.declared.default.TypeAttributeBuilder.{TypeAttributeBuilder}
+use Rattle.educe_attrs.specs.declared.default.FieldAttribute.{FieldAttribute}
+use Rattle.educe_attrs.specs.declared.default.FieldAttributeBuilder.{FieldAttributeBuilder}
+use Rattle.educe_attrs.specs.Bounds.{bound_of}
+
+-- the default value as it is written for a field of the type, if there is one; where none is said there is none
+abbrev pub IsAdjusted : Option Expr → Option Ty → Option Expr → Type 0
+IsAdjusted None ty None = Unit {0}
+IsAdjusted None ty (Some x) = ⊥
+IsAdjusted (Some said) ty None = ⊥
+IsAdjusted (Some said) ty (Some x) = value.IsAdjusted said ty x
+
+-- ---- types and variants
+
+-- the trait alone, `new`, `expression` and `bound`
+abbrev pub type_row : TypeAttributeBuilder → Row
+type_row builder = record EMPTY {
+  flag = builder.enable_flag;
+  new = builder.enable_new;
+  expression = builder.enable_expression;
+  bound = builder.enable_bound;
+}
+
+-- the attribute of a type or a variant
+pub record IsTyped (settings : FieldSettings) (attribute : TypeAttribute) : Type 0 where
+  pub flag : attribute.flag ≡ settings.values.flag
+  pub new : attribute.new ≡ unwrap_or settings.values.new false
+  pub expression : IsAdjusted settings.values.expression None attribute.expression
+  pub bound : attribute.bound ≡ bound_of settings.values.bound
+  pub span : attribute.span ≡ settings.values.span
+
+-- ---- fields
+
+-- the trait alone, and the value, also behind `=`
+abbrev pub field_row : FieldAttributeBuilder → Row
+field_row builder = record EMPTY {
+  flag = builder.enable_flag;
+  equals = if builder.enable_expression then equals.Expr else equals.Nothing;
+  expression = builder.enable_expression;
+}
+
+-- the attribute of a field of the type
+pub record IsField (ty : Ty) (values : Values) (attribute : FieldAttribute) : Type 0 where
+  pub flag : attribute.flag ≡ values.flag
+  pub expression : IsAdjusted values.expression (Some ty) attribute.expression
+  pub span : attribute.span ≡ values.span

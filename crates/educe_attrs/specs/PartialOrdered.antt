@@ -1,0 +1,18 @@
+-- What `PartialOrd` says of a field.
+use Rattle.std.specs.Prelude.{◌≡◌, ℤ, false, unwrap_or}
+use Rattle.educe_attrs_places.specs.declared.place.FieldSettings.{FieldSettings}
+use Rattle.educe_attrs.specs.declared.partial_ord.FieldAttribute.{FieldAttribute}
+use Rattle.educe_attrs.specs.Compared.{number_of, place_of}
+
+-- the attribute of a field, whose rank is this one where none is given
+abbrev pub ordered_attribute : ℤ → FieldSettings → FieldAttribute
+ordered_attribute rank settings = record {
+  ignore = unwrap_or settings.values.ignore false;
+  method = settings.values.method;
+  method_returns_ordering = settings.method_returns_ordering;
+  rank = number_of settings.values.rank rank;
+  rank_span = place_of settings.values.rank;
+}
+
+abbrev pub IsOrdered : ℤ → FieldSettings → FieldAttribute → Type 0
+IsOrdered rank settings attribute = attribute ≡ ordered_attribute rank settings

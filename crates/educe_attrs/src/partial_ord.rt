@@ -1,0 +1,141 @@
+//! The settings of `PartialOrd`.
+ghost use Rattle.educe_attrs_values.specs.Metas.{IsNamed};
+ghost use Rattle.educe_attrs.specs.Building.{Reads};
+ghost use Rattle.educe_attrs.specs.Bounds.{bound_row, IsBound};
+ghost use Rattle.educe_attrs.specs.Compared.{compared_row};
+ghost use Rattle.educe_attrs.specs.PartialOrdered as fields;
+
+pub use crate::bound_only::TypeAttribute;
+use crate::bound_only::{bound_attribute, bound_row};
+use crate::builder::{AttributeBuilder, FieldBuilder, TypeBuilder};
+use crate::compared::{compared_row, number_of, place_of};
+use educe_attrs_places::FieldSettings;
+use educe_attrs_rows::Row;
+use educe_bound::Trait;
+use educe_syntax::{ExprPath, Meta};
+use educe_tokens::{EduceError, Span};
+use std::alloc::{AllocError, Global};
+
+/// The forms of the attribute that a type allows.
+#[derive(Clone, Copy)]
+pub struct TypeAttributeBuilder {
+    pub enable_flag: bool,
+    pub enable_bound: bool,
+}
+
+impl AttributeBuilder for TypeAttributeBuilder {
+    ghost use Rattle.educe_bound.specs.declared.traits.Trait.TheVariants.{PartialOrd};
+    ghost use Rattle.educe_attrs.specs.Bounds.{bound_row, IsBound};
+
+    type Attribute = TypeAttribute;
+
+    const TRAIT: Trait = Trait::PartialOrd;
+
+    ghost TRAIT = { PartialOrd };
+
+    ghost row_of = { λ builder. bound_row builder.enable_flag builder.enable_bound };
+
+    ghost IsOf = { λ _. IsBound };
+
+    fn row(&self) -> Row {
+        bound_row(self.enable_flag, self.enable_bound)
+    }
+
+    fn attribute(
+        &self,
+        _alloc: Global,
+        settings: FieldSettings,
+    ) -> Result<TypeAttribute, AllocError> {
+        Ok(bound_attribute(settings))
+    }
+}
+
+impl TypeBuilder for TypeAttributeBuilder {}
+
+impl TypeAttributeBuilder {
+    /// What a `PartialOrd` attribute says of a type, as `build_from_meta`.
+    pub fn build_from_partial_ord_meta(
+        &self,
+        alloc: Global,
+        meta: &Meta,
+    ) -> Result<TypeAttribute, EduceError>
+        requires { IsNamed meta.now }
+        ensures { Reads (bound_row self.now.enable_flag self.now.enable_bound) IsBound meta.now result }
+    {
+        self.build_from_meta(alloc, meta)
+    }
+}
+
+/// What the attribute says of a field (documentation of `educe`, PartialOrd).
+#[derive(Drop)]
+pub struct FieldAttribute {
+    pub ignore: bool,
+    pub method: Option<ExprPath>,
+    /// The method is one of `Ord`: it returns an `Ordering`.
+    pub method_returns_ordering: bool,
+    pub rank: i64,
+    /// The place of the whole parameter `rank`, where it stands there.
+    pub rank_span: Option<Span>,
+}
+
+/// The forms of the attribute that a field allows.
+#[derive(Clone, Copy)]
+pub struct FieldAttributeBuilder {
+    pub enable_ignore: bool,
+    pub enable_method: bool,
+    pub enable_rank: bool,
+    /// The rank where none is given.
+    pub rank: i64,
+}
+
+impl AttributeBuilder for FieldAttributeBuilder {
+    ghost use Rattle.educe_bound.specs.declared.traits.Trait.TheVariants.{PartialOrd};
+    ghost use Rattle.educe_attrs.specs.Compared.{compared_row};
+    ghost use Rattle.educe_attrs.specs.PartialOrdered.{IsOrdered};
+
+    type Attribute = FieldAttribute;
+
+    const TRAIT: Trait = Trait::PartialOrd;
+
+    ghost TRAIT = { PartialOrd };
+
+    ghost row_of = { λ builder. compared_row builder.enable_ignore builder.enable_method builder.enable_rank };
+
+    ghost IsOf = { λ builder. IsOrdered builder.rank };
+
+    fn row(&self) -> Row {
+        compared_row(self.enable_ignore, self.enable_method, self.enable_rank)
+    }
+
+    fn attribute(
+        &self,
+        _alloc: Global,
+        settings: FieldSettings,
+    ) -> Result<FieldAttribute, AllocError> {
+        let method_returns_ordering = settings.method_returns_ordering;
+        let values = settings.values;
+        Ok(FieldAttribute {
+            ignore: values.ignore.unwrap_or(false),
+            method: values.method,
+            method_returns_ordering,
+            rank: number_of(values.rank, self.rank),
+            rank_span: place_of(values.rank),
+        })
+    }
+}
+
+impl FieldBuilder for FieldAttributeBuilder {}
+
+impl FieldAttributeBuilder {
+    /// What a `PartialOrd` attribute says of a field, as `build_from_meta`.
+    pub fn build_from_partial_ord_meta(
+        &self,
+        alloc: Global,
+        meta: &Meta,
+    ) -> Result<FieldAttribute, EduceError>
+        requires { IsNamed meta.now }
+        ensures { Reads (compared_row self.now.enable_ignore self.now.enable_method self.now.enable_rank) (fields.IsOrdered self.now.rank) meta.now result }
+    {
+        self.build_from_meta(alloc, meta)
+    }
+}

@@ -1,3 +1,0 @@
-pub mod Refused
-pub mod Settings
-pub mod NoField

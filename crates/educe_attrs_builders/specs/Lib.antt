@@ -1,9 +1,0 @@
-pub mod Building
-pub mod Bounds
-pub mod NoField
-pub mod Cloned
-pub mod Compared
-pub mod PartialOrdered
-pub mod Ordered
-pub mod Debug
-pub mod Default
