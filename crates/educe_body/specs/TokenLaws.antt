@@ -12,8 +12,8 @@ use Rattle.educe_tokens.specs.Quote.{quoted, word_lexeme}
 use Rattle.educe_tokens.specs.WrittenLexemes.{written_lexemes}
 use Rattle.educe_tokens.proofs.Printable.{IsPrintable, printable-nil, printable-ident, printable-word, printable-written, printable-append, printable-brackets, printable-flat_map, printable-quoted as template}
 use Rattle.educe_tree.specs.declared.ident.Ident.{Ident}
-use Rattle.educe_traits.specs.declared.traits.Trait.{Trait}
-use Rattle.educe_traits.specs.declared.traits.Trait.TheVariants.{PartialEq, PartialOrd, Ord}
+use Rattle.educe_body.specs.declared.comparison.Comparison.{Comparison}
+use Rattle.educe_body.specs.declared.comparison.Comparison.TheVariants.{PartialEq, PartialOrd, Ord}
 use Rattle.educe_body.specs.declared.form.Known.{Known}
 use Rattle.educe_body.specs.declared.form.Known.TheVariants.{Truth, Order, PartialOrder}
 use Rattle.educe_body.specs.declared.form.Form.{Form, Local, Reference, Call', IfReturn', Return', SomeOf', MatchOrdering', Block', Row_of-Form, end_of-Form, more_of-Form}
@@ -182,7 +182,7 @@ other_head_printable name =
     (printable-append (word_lexeme name.text ∷ []) (quoted (codes "( )")) (printable-word name) (template _ refl))
 
 -- the head of a function
-head_printable : (which : Trait) (f : Function) → IsPrintable (function_head which f)
+head_printable : (which : Comparison) (f : Function) → IsPrintable (function_head which f)
 head_printable PartialEq f =
     cond_both (bytes_eq f.name.text (codes "eq")) (eq_head f.body.params) (other_head f.name) IsPrintable
     (λ _. eq_head_printable f.body.params) (λ _. other_head_printable f.name)
@@ -194,13 +194,13 @@ head_printable Ord f =
     (λ _. cmp_head_printable f.body.params) (λ _. other_head_printable f.name)
 
 -- a function
-function_printable : (which : Trait) (f : Function) → IsPrintable (function_lexemes which f)
+function_printable : (which : Comparison) (f : Function) → IsPrintable (function_lexemes which f)
 function_printable which f =
     printable-append (function_head which f) (in_curly (flat_map form_lexemes f.body.block)) (head_printable which f)
     (curly_printable (flat_map form_lexemes f.body.block) (printable-flat_map form_lexemes form_printable f.body.block))
 
 -- the path of a trait
-trait_printable : (which : Trait) → IsPrintable (trait_path which)
+trait_printable : (which : Comparison) → IsPrintable (trait_path which)
 trait_printable PartialEq = template _ refl
 trait_printable PartialOrd = template _ refl
 trait_printable Ord = template _ refl

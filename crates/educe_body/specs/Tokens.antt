@@ -11,8 +11,8 @@ use Rattle.educe_tokens.specs.Quote.{quoted, word_lexeme}
 use Rattle.educe_tokens.specs.Text.{text_of}
 use Rattle.educe_tokens.specs.WrittenLexemes.{written_lexemes}
 use Rattle.educe_tree.specs.declared.ident.Ident.{Ident}
-use Rattle.educe_traits.specs.declared.traits.Trait.{Trait}
-use Rattle.educe_traits.specs.declared.traits.Trait.TheVariants.{PartialEq, PartialOrd, Ord}
+use Rattle.educe_body.specs.declared.comparison.Comparison.{Comparison}
+use Rattle.educe_body.specs.declared.comparison.Comparison.TheVariants.{PartialEq, PartialOrd, Ord}
 use Rattle.educe_body.specs.declared.form.Known.{Known}
 use Rattle.educe_body.specs.declared.form.Known.TheVariants.{Truth, Order, PartialOrder}
 use Rattle.educe_body.specs.declared.form.Form.{Form, Local, Reference, Call', IfReturn', Return', SomeOf', MatchOrdering', Block', Row_of-Form, end_of-Form, more_of-Form}
@@ -129,16 +129,16 @@ cmp_head params =
 abbrev pub other_head : Word → List Lexeme
 other_head name = quoted (codes "fn") ++ word_lexeme name.text ∷ quoted (codes "( )")
 
-abbrev pub function_head : Trait → Function → List Lexeme
+abbrev pub function_head : Comparison → Function → List Lexeme
 function_head PartialEq f = if bytes_eq f.name.text (codes "eq") then eq_head f.body.params else other_head f.name
 function_head PartialOrd f = if bytes_eq f.name.text (codes "partial_cmp") then partial_cmp_head f.body.params else other_head f.name
 function_head Ord f = if bytes_eq f.name.text (codes "cmp") then cmp_head f.body.params else other_head f.name
 
-abbrev pub function_lexemes : Trait → Function → List Lexeme
+abbrev pub function_lexemes : Comparison → Function → List Lexeme
 function_lexemes which f = function_head which f ++ in_curly (flat_map form_lexemes f.body.block)
 
 -- the path of a trait
-abbrev pub trait_path : Trait → List Lexeme
+abbrev pub trait_path : Comparison → List Lexeme
 trait_path PartialEq = quoted (codes ":: core :: cmp :: PartialEq")
 trait_path PartialOrd = quoted (codes ":: core :: cmp :: PartialOrd")
 trait_path Ord = quoted (codes ":: core :: cmp :: Ord")

@@ -1,7 +1,7 @@
 //! Functions and the items that hold them.
+use crate::comparison::Comparison;
 use crate::form::Forms;
 use educe_tokens::{Seq, Word, Written};
-use educe_traits::Trait;
 use educe_tree::Ident;
 
 /// Names in their order.
@@ -27,7 +27,7 @@ pub type Functions = Seq<Function>;
 /// The implementation of a trait for the type of this name, behind its attributes.
 #[derive(Drop)]
 pub struct ImplItem {
-    pub which: Trait,
+    pub which: Comparison,
     pub attributes: Written,
     pub ident: Ident,
     pub functions: Functions,

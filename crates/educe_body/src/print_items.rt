@@ -9,9 +9,9 @@ ghost use Rattle.educe_body.specs.Tokens.{in_round, name_lexemes, eq_head, parti
 ghost use Rattle.educe_body.specs.TokenLaws.{impl_printable, item_printable};
 
 use crate::body::{Function, Functions, ImplItem, Item, Names};
+use crate::comparison::Comparison;
 use crate::print::push_block;
 use educe_tokens::{TokenStream, Word, append_written, push_word, quote};
-use educe_traits::Trait;
 use educe_tree::ToTokens;
 use std::alloc::{AllocError, Global};
 
@@ -21,7 +21,7 @@ impl Function {
         &self,
         alloc: Global,
         tokens: &mut TokenStream,
-        which: Trait,
+        which: Comparison,
     ) -> Result<(), AllocError>
         ensures ok { OnOk result (Appends (function_lexemes which self.now) tokens.old tokens.new) }
         ensures prefix { HasPrefix tokens.old tokens.new }
@@ -35,27 +35,27 @@ impl Function {
         &self,
         alloc: Global,
         tokens: &mut TokenStream,
-        which: Trait,
+        which: Comparison,
     ) -> Result<(), AllocError>
         ensures ok { OnOk result (Appends (function_head which self.now) tokens.old tokens.new) }
         ensures prefix { HasPrefix tokens.old tokens.new }
     {
         match which {
-            Trait::PartialEq => {
+            Comparison::PartialEq => {
                 if self.name.text.is("eq") {
                     push_eq_head(alloc, tokens, &self.body.params)
                 } else {
                     push_other_head(alloc, tokens, &self.name)
                 }
             }
-            Trait::PartialOrd => {
+            Comparison::PartialOrd => {
                 if self.name.text.is("partial_cmp") {
                     push_partial_cmp_head(alloc, tokens, &self.body.params)
                 } else {
                     push_other_head(alloc, tokens, &self.name)
                 }
             }
-            Trait::Ord => {
+            Comparison::Ord => {
                 if self.name.text.is("cmp") {
                     push_cmp_head(alloc, tokens, &self.body.params)
                 } else {
@@ -146,14 +146,14 @@ fn push_first(alloc: Global, tokens: &mut TokenStream, names: &Names) -> Result<
 }
 
 /// Appends the path of a trait.
-fn push_trait(alloc: Global, tokens: &mut TokenStream, which: Trait) -> Result<(), AllocError>
+fn push_trait(alloc: Global, tokens: &mut TokenStream, which: Comparison) -> Result<(), AllocError>
     ensures ok { OnOk result (Appends (trait_path which) tokens.old tokens.new) }
     ensures prefix { HasPrefix tokens.old tokens.new }
 {
     match which {
-        Trait::PartialEq => quote(alloc, tokens, ":: core :: cmp :: PartialEq"),
-        Trait::PartialOrd => quote(alloc, tokens, ":: core :: cmp :: PartialOrd"),
-        Trait::Ord => quote(alloc, tokens, ":: core :: cmp :: Ord"),
+        Comparison::PartialEq => quote(alloc, tokens, ":: core :: cmp :: PartialEq"),
+        Comparison::PartialOrd => quote(alloc, tokens, ":: core :: cmp :: PartialOrd"),
+        Comparison::Ord => quote(alloc, tokens, ":: core :: cmp :: Ord"),
     }
 }
 
@@ -161,7 +161,7 @@ fn push_trait(alloc: Global, tokens: &mut TokenStream, which: Trait) -> Result<(
 fn push_functions(
     alloc: Global,
     tokens: &mut TokenStream,
-    which: Trait,
+    which: Comparison,
     functions: &Functions,
 ) -> Result<(), AllocError>
     ensures ok { let found = flat_map (function_lexemes which) functions.now in

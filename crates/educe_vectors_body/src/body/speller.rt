@@ -4,11 +4,11 @@ ghost use Rattle.educe_tokens.specs.Quote.{is_ascii_name};
 
 use crate::body::{call, list, list_of_two};
 use educe_body::{
-    Body, Callee, Form, Forms, Function, ImplItem, Item, Items, Known, built_in_path, spell,
+    Body, Callee, Comparison, Form, Forms, Function, ImplItem, Item, Items, Known, built_in_path,
+    spell,
 };
 use educe_syntax::Ident;
 use educe_tokens::{Boxed, Word, Written, pair};
-use educe_traits::Trait;
 use educe_vectors_checks::{check_text, printed};
 use std::alloc::{AllocError, Global};
 use std::cmp::Ordering;
@@ -85,7 +85,7 @@ fn function(
 /// The impl of a trait for `S`, with one function.
 fn implementation(
     alloc: Global,
-    which: Trait,
+    which: Comparison,
     function: Result<Function, AllocError>,
 ) -> Result<Items, AllocError> {
     let head = pair(attribute(alloc)?, Ident::from_name(alloc, "S"))?;
@@ -102,7 +102,7 @@ fn implementation(
 /// The text of the impl of a trait for `S`, whose function of this name has these forms.
 fn spelled(
     alloc: Global,
-    which: Trait,
+    which: Comparison,
     name: &str,
     block: Result<Forms, AllocError>,
 ) -> Result<String, AllocError>
@@ -118,7 +118,7 @@ fn spells_an_implementation(rt: HostRuntime) -> Result<(), Fail> {
     let end = Ok(Form::Known(Known::Truth(true)));
     let block = list_of_two(alloc, compared_field(alloc), end);
     check_text(
-        spelled(alloc, Trait::PartialEq, "eq", block)?,
+        spelled(alloc, Comparison::PartialEq, "eq", block)?,
         "# [ automatically_derived ] impl :: core :: cmp :: PartialEq for S { fn eq ( & self , other : & Self ) -> :: core :: primitive :: bool { if :: core :: cmp :: PartialEq :: ne ( & self . a , & other . a ) { return false ; } true } }\n",
     )
 }
@@ -129,7 +129,7 @@ fn spells_a_step_of_cmp(rt: HostRuntime) -> Result<(), Fail> {
     let end = Ok(Form::Known(Known::Order(Ordering::Equal)));
     let block = list_of_two(alloc, step(alloc, Callee::Cmp, false), end);
     check_text(
-        spelled(alloc, Trait::Ord, "cmp", block)?,
+        spelled(alloc, Comparison::Ord, "cmp", block)?,
         "# [ automatically_derived ] impl :: core :: cmp :: Ord for S { fn cmp ( & self , other : & Self ) -> :: core :: cmp :: Ordering { match :: core :: cmp :: Ord :: cmp ( self , other ) { :: core :: cmp :: Ordering :: Equal => ( ) , :: core :: cmp :: Ordering :: Greater => return :: core :: cmp :: Ordering :: Greater , :: core :: cmp :: Ordering :: Less => return :: core :: cmp :: Ordering :: Less , } :: core :: cmp :: Ordering :: Equal } }\n",
     )
 }
@@ -148,7 +148,7 @@ fn spells_a_step_of_partial_cmp(rt: HostRuntime) -> Result<(), Fail> {
         some_order(alloc),
     );
     check_text(
-        spelled(alloc, Trait::PartialOrd, "partial_cmp", block)?,
+        spelled(alloc, Comparison::PartialOrd, "partial_cmp", block)?,
         "# [ automatically_derived ] impl :: core :: cmp :: PartialOrd for S { fn partial_cmp ( & self , other : & Self , ) -> :: core :: option :: Option < :: core :: cmp :: Ordering > { match :: core :: cmp :: PartialOrd :: partial_cmp ( self , other ) { :: core :: option :: Option :: Some ( :: core :: cmp :: Ordering :: Equal ) => ( ) , :: core :: option :: Option :: Some ( :: core :: cmp :: Ordering :: Greater ) => return :: core :: option :: Option :: Some ( :: core :: cmp :: Ordering :: Greater ) , :: core :: option :: Option :: Some ( :: core :: cmp :: Ordering :: Less ) => return :: core :: option :: Option :: Some ( :: core :: cmp :: Ordering :: Less ) , :: core :: option :: Option :: None => return :: core :: option :: Option :: None , } :: core :: option :: Option :: Some ( :: core :: cmp :: Ord :: cmp ( self , other ) ) } }\n",
     )
 }

@@ -1,0 +1,18 @@
+//! The traits that compare two values.
+
+/// A trait whose function compares two values (documentation of the standard library, `std::cmp`).
+#[derive(Clone, Copy, Debug, PartialEq, Eq, Hash)]
+pub enum Comparison {
+    PartialEq,
+    PartialOrd,
+    Ord,
+}
+
+impl Comparison {
+    /// These traits in the order in which their items are written.
+    pub const VARIANTS: [Comparison; 3] = [
+        Comparison::PartialEq,
+        Comparison::PartialOrd,
+        Comparison::Ord,
+    ];
+}
