@@ -84,6 +84,13 @@ mod tests {
     /// A definition that is expanded.
     const DEFINITION: &[u8] = b"#[educe(PartialEq)] struct S { a: u8 }";
 
+    /// A definition that is refused.
+    const REFUSED: &[u8] = b"#[educe] struct S;";
+
+    /// The lines that say why.
+    const REFUSAL: &[u8] =
+        b"1:3: you are using an incorrect format of the `educe` attribute, which should be reformatted as follows:\n    #[educe(Trait1, Trait2, ..., TraitN)]\n";
+
     /// The arguments of the command.
     fn arguments(alloc: Global) -> Result<Args, AllocError> {
         let mut arguments = Vec::new(alloc);
@@ -92,14 +99,14 @@ mod tests {
         Ok(arguments.into_iter())
     }
 
-    /// How the program ends over an input in memory.
+    /// How the program ends over a definition that is refused.
     fn ending(
         alloc: Global,
         arguments: io::Result<Args>,
         text: &mut MemorySink,
         notes: &mut MemorySink,
     ) -> Result<Ending, AllocError> {
-        let mut source = MemorySource::new(alloc, b"enum E {}", 10, &[])?;
+        let mut source = MemorySource::new(alloc, REFUSED, 10, &[])?;
         Ok(run_program(alloc, arguments, &mut source, text, notes))
     }
 
@@ -111,7 +118,7 @@ mod tests {
         let found = ending(alloc, Ok(arguments(alloc)?), &mut text, &mut notes)?;
         assert_eq!(rt; found.status, 1);
         assert_eq!(rt; text.bytes(), b"".as_slice());
-        assert_eq!(rt; notes.bytes(), b"1:1: not built yet\n".as_slice());
+        assert_eq!(rt; notes.bytes(), REFUSAL);
         Ok(())
     }
 
@@ -149,7 +156,7 @@ mod tests {
         let alloc = rt.alloc();
         let mut text = MemorySink::new(alloc, 10, &[])?;
         let mut notes: Writing<io::Stderr> = Writing::new(rt.stderr());
-        let mut source = MemorySource::new(alloc, b"enum E {}", 10, &[])?;
+        let mut source = MemorySource::new(alloc, REFUSED, 10, &[])?;
         let arguments = Ok(arguments(alloc)?);
         let found = run_program(alloc, arguments, &mut source, &mut text, &mut notes);
         assert_eq!(rt; found.status, 1);

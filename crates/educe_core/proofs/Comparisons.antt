@@ -13,8 +13,8 @@ use Rattle.educe_syntax.specs.Field.{Field}
 use Rattle.educe_syntax.specs.DeriveInput.{DeriveInput}
 use Rattle.educe_syntax.specs.ExprPath.{ExprPath}
 use Rattle.educe_syntax.specs.TokenLaws.{lawful_copies}
-use Rattle.educe_traits.specs.declared.traits.Trait.{Trait}
-use Rattle.educe_traits.specs.declared.traits.Trait.TheVariants.{PartialEq, PartialOrd, Ord}
+use Rattle.educe_body.specs.declared.comparison.Comparison.{Comparison}
+use Rattle.educe_body.specs.declared.comparison.Comparison.TheVariants.{PartialEq, PartialOrd, Ord}
 use Rattle.educe_body.specs.declared.value.FieldValue.{FieldValue}
 use Rattle.educe_body.specs.declared.value.Value.{Value}
 use Rattle.educe_body.specs.declared.answers.Answer.{Answer}
@@ -55,26 +55,26 @@ spelling_list [] = refl
 spelling_list (t ∷ tokens) = ap (λ texts. t.spelling ∷ texts) (spelling_list tokens)
 
 -- the path of a comparison names its function
-path_callee : (which : Trait) → callee_named (map (λ (x : Lexeme). x.spelling) (path_lexemes (comparison which))) ≡ Some (comparison which)
+path_callee : (which : Comparison) → callee_named (map (λ (x : Lexeme). x.spelling) (path_lexemes (comparison which))) ≡ Some (comparison which)
 unfolding quoted callee_named
 path_callee PartialEq = refl
 path_callee PartialOrd = refl
 path_callee Ord = refl
 
-callee_of-comparison : (which : Trait) (path : ExprPath) → written_lexemes path.written ≡ path_lexemes (comparison which) → callee_of path ≡ Some (comparison which)
+callee_of-comparison : (which : Comparison) (path : ExprPath) → written_lexemes path.written ≡ path_lexemes (comparison which) → callee_of path ≡ Some (comparison which)
 callee_of-comparison which path is =
     ap callee_named (sym (spelling_list path.written.tokens) ∙ sym (lawful_copies.spellings (lexemes path.written.tokens)) ∙ ap (map (λ (x : Lexeme). x.spelling)) is) ∙ path_callee which
 
 -- ---- one step
 
 -- what a trait does with the value of its comparison
-abbrev step_flow : Trait → Flow → Flow
+abbrev step_flow : Comparison → Flow → Flow
 step_flow PartialEq flow = if_return flow
 step_flow PartialOrd flow = match_ordering true Greater Less flow
 step_flow Ord flow = match_ordering false Greater Less flow
 
 -- what fields mean in the order in which they are gone over
-abbrev means : Trait → Answers → List Compared → Outcome
+abbrev means : Comparison → Answers → List Compared → Outcome
 means PartialEq table cs = Truth (equal table cs)
 means PartialOrd table cs = PartialOrder (partial_order_of table (first_where (differs_in_partial_order table) cs))
 means Ord table cs = Order (order_of table (first_where (differs_in_order table) cs))
@@ -109,7 +109,7 @@ partial_case table c rest next (Some (AnswerPartialOrder (Some Equal))) is known
 partial_case table c rest next (Some (AnswerPartialOrder (Some Greater))) is known go = ap (λ a. PartialOrder (unwrap_or (partial_order_answered a) None)) (sym is)
 
 -- a step on a field, and what the later fields mean
-step_case : (which : Trait) (table : Answers) (c : Compared) (cs : List Compared) (next : Thing → Flow) → IsAnswered which table c → outcome_of (next Nothing) ≡ means which table cs
+step_case : (which : Comparison) (table : Answers) (c : Compared) (cs : List Compared) (next : Thing → Flow) → IsAnswered which table c → outcome_of (next Nothing) ≡ means which table cs
     → outcome_of (go_on (step_flow which (answer_flow (comparison_answer which table c))) next) ≡ means which table (c ∷ cs)
 step_case PartialEq table c cs next known go = truth_case (equal table cs) next (comparison_answer PartialEq table c) known go
 step_case PartialOrd table c cs next known go = partial_case table c (first_where (differs_in_partial_order table) cs) next (comparison_answer PartialOrd table c) refl known go
@@ -127,20 +127,20 @@ module _ (look_a look_b : List ℕ → Flow) where
   abbrev seen : Kept → Compared
   seen k = record { kept = k; first = part_in (look_a (key_of k.place k.field)); second = part_in (look_b (key_of k.place k.field)) }
 
-  seen_step : (which : Trait) (place : ℕ) (f : Field) (x y : FieldValue) (rest : List Compared) (kept : List Kept) (keeps : Bool) → look_a (key_of place f) ≡ Gives (Part x)
-      → look_b (key_of place f) ≡ Gives (Part y) → rest ≡ map seen kept
-      → (if keeps then record { kept = kept_at which place f; first = x; second = y } ∷ rest else rest) ≡ map seen (if keeps then kept_at which place f ∷ kept else kept)
-  seen_step which place f x y rest kept true at_a at_b same = λ i. record { kept = kept_at which place f; first = part_in (sym at_a i); second = part_in (sym at_b i) } ∷ same i
-  seen_step which place f x y rest kept false at_a at_b same = same
+  seen_step : (which : Comparison) (d : DeriveInput) (place : ℕ) (f : Field) (x y : FieldValue) (rest : List Compared) (kept : List Kept) (keeps : Bool)
+      → look_a (key_of place f) ≡ Gives (Part x) → look_b (key_of place f) ≡ Gives (Part y) → rest ≡ map seen kept
+      → (if keeps then record { kept = kept_at which d place f; first = x; second = y } ∷ rest else rest) ≡ map seen (if keeps then kept_at which d place f ∷ kept else kept)
+  seen_step which d place f x y rest kept true at_a at_b same = λ i. record { kept = kept_at which d place f; first = part_in (sym at_a i); second = part_in (sym at_b i) } ∷ same i
+  seen_step which d place f x y rest kept false at_a at_b same = same
 
-  compared-seen : (which : Trait) (place : ℕ) (fs : List Field) (xs ys : List FieldValue) → KeysGive look_a (keys_from place fs) xs → KeysGive look_b (keys_from place fs) ys
-      → compared_from which place fs xs ys ≡ map seen (kept_from which place fs)
-  compared-seen which place [] xs ys give_a give_b = refl
-  compared-seen which place (f ∷ fs) [] ys give_a give_b = absurd give_a
-  compared-seen which place (f ∷ fs) (x ∷ xs) [] give_a give_b = absurd give_b
-  compared-seen which place (f ∷ fs) (x ∷ xs) (y ∷ ys) give_a give_b =
-      seen_step which place f x y (compared_from which (place + 1) fs xs ys) (kept_from which (place + 1) fs) (is_kept which f) give_a.0 give_b.0
-      (compared-seen which (place + 1) fs xs ys give_a.1 give_b.1)
+  compared-seen : (which : Comparison) (d : DeriveInput) (place : ℕ) (fs : List Field) (xs ys : List FieldValue) → KeysGive look_a (keys_from place fs) xs → KeysGive look_b (keys_from place fs) ys
+      → compared_from which d place fs xs ys ≡ map seen (kept_from which d place fs)
+  compared-seen which d place [] xs ys give_a give_b = refl
+  compared-seen which d place (f ∷ fs) [] ys give_a give_b = absurd give_a
+  compared-seen which d place (f ∷ fs) (x ∷ xs) [] give_a give_b = absurd give_b
+  compared-seen which d place (f ∷ fs) (x ∷ xs) (y ∷ ys) give_a give_b =
+      seen_step which d place f x y (compared_from which d (place + 1) fs xs ys) (kept_from which d (place + 1) fs) (is_kept which d f) give_a.0 give_b.0
+      (compared-seen which d (place + 1) fs xs ys give_a.1 give_b.1)
 
 -- the field's key gives a value
 abbrev IsGiven : (List ℕ → Flow) → Kept → Type 0
@@ -149,15 +149,16 @@ IsGiven look k = look (key_of k.place k.field) ≡ Gives (Part (part_in (look (k
 given_one : (look : List ℕ → Flow) (key : List ℕ) (x : FieldValue) → look key ≡ Gives (Part x) → look key ≡ Gives (Part (part_in (look key)))
 given_one look key x at = at ∙ ap (λ (flow : Flow). Gives (Part (part_in flow))) (sym at)
 
-given_step : (look : List ℕ → Flow) (which : Trait) (place : ℕ) (f : Field) (x : FieldValue) (kept : List Kept) (keeps : Bool) → look (key_of place f) ≡ Gives (Part x) → AllByRecursion (IsGiven look) kept
-    → AllByRecursion (IsGiven look) (if keeps then kept_at which place f ∷ kept else kept)
-given_step look which place f x kept true at given = (given_one look (key_of place f) x at, given)
-given_step look which place f x kept false at given = given
+given_step : (look : List ℕ → Flow) (which : Comparison) (d : DeriveInput) (place : ℕ) (f : Field) (x : FieldValue) (kept : List Kept) (keeps : Bool) → look (key_of place f) ≡ Gives (Part x)
+    → AllByRecursion (IsGiven look) kept → AllByRecursion (IsGiven look) (if keeps then kept_at which d place f ∷ kept else kept)
+given_step look which d place f x kept true at given = (given_one look (key_of place f) x at, given)
+given_step look which d place f x kept false at given = given
 
-each_given : (look : List ℕ → Flow) (which : Trait) (place : ℕ) (fs : List Field) (xs : List FieldValue) → KeysGive look (keys_from place fs) xs → AllByRecursion (IsGiven look) (kept_from which place fs)
-each_given look which place [] xs give = tt
-each_given look which place (f ∷ fs) [] give = absurd give
-each_given look which place (f ∷ fs) (x ∷ xs) give = given_step look which place f x (kept_from which (place + 1) fs) (is_kept which f) give.0 (each_given look which (place + 1) fs xs give.1)
+each_given : (look : List ℕ → Flow) (which : Comparison) (d : DeriveInput) (place : ℕ) (fs : List Field) (xs : List FieldValue) → KeysGive look (keys_from place fs) xs
+    → AllByRecursion (IsGiven look) (kept_from which d place fs)
+each_given look which d place [] xs give = tt
+each_given look which d place (f ∷ fs) [] give = absurd give
+each_given look which d place (f ∷ fs) (x ∷ xs) give = given_step look which d place f x (kept_from which d (place + 1) fs) (is_kept which d f) give.0 (each_given look which d (place + 1) fs xs give.1)
 
 -- ---- the steps of a body
 
@@ -195,7 +196,7 @@ module _ (d : DeriveInput) (a b : Value) (table : Answers) (param : List ℕ) (i
       ∙ ap (λ (o : Option Referent). reference_value scene o (key_of place f)) other_found ∙ at
 
   -- the value of a comparison is the answer on the field's two values
-  comparison_value : (which : Trait) (place : ℕ) (f : Field) (x : Form) (y z : FieldValue) → IsComparison which param place f x
+  comparison_value : (which : Comparison) (place : ℕ) (f : Field) (x : Form) (y z : FieldValue) → IsComparison which param place f x
       → look_a (key_of place f) ≡ Gives (Part y) → look_b (key_of place f) ≡ Gives (Part z)
       → form_value scene names x ≡ answer_flow (answer_of table (comparison which) (Some y) (Some z))
   comparison_value which place f x y z is at_a at_b =
@@ -204,19 +205,19 @@ module _ (d : DeriveInput) (a b : Value) (table : Answers) (param : List ℕ) (i
       ∙ ap (λ (c : Option Callee). call_named scene c (map (form_value scene names) (is.own ∷ is.others ∷ []))) (callee_of-comparison which is.path is.path_is.made.tokens)
       ∙ (λ i. call_answer table (comparison which) (own_value place f is.own y is.own_is at_a i ∷ others_value place f is.others z is.others_is at_b i ∷ []))
 
-  step_of-value : (which : Trait) (x : Form) → form_value scene names (step_of which x) ≡ step_flow which (form_value scene names x)
+  step_of-value : (which : Comparison) (x : Form) → form_value scene names (step_of which x) ≡ step_flow which (form_value scene names x)
   step_of-value PartialEq x = lawful_forms.test scene names x
   step_of-value PartialOrd x = lawful_forms.matches scene names x true Greater Less
   step_of-value Ord x = lawful_forms.matches scene names x false Greater Less
 
   -- what the last form gives
-  last_value : (which : Trait) (last : Thing) → outcome_of (list_value scene names last (form.Known (last_of which) ∷ [])) ≡ means which table []
+  last_value : (which : Comparison) (last : Thing) → outcome_of (list_value scene names last (form.Known (last_of which) ∷ [])) ≡ means which table []
   last_value PartialEq last = refl
   last_value PartialOrd last = refl
   last_value Ord last = refl
 
   -- the steps on fields, and what is answered where none returned
-  steps_value : (which : Trait) (ks : List Kept) (steps : List Form) (last : Thing) → AllZip (λ k step. IsStep which param k.place k.field step) ks steps
+  steps_value : (which : Comparison) (ks : List Kept) (steps : List Form) (last : Thing) → AllZip (λ k step. IsStep which param k.place k.field step) ks steps
       → AllByRecursion (IsGiven look_a) ks → AllByRecursion (IsGiven look_b) ks → AllByRecursion (λ k. IsAnswered which table (seen look_a look_b k)) ks
       → outcome_of (list_value scene names last (steps ++ form.Known (last_of which) ∷ [])) ≡ means which table (map (seen look_a look_b) ks)
   steps_value which [] [] last are given_a given_b known = last_value which last
@@ -233,13 +234,13 @@ module _ (d : DeriveInput) (a b : Value) (table : Answers) (param : List ℕ) (i
 -- ---- the order of the fields
 
 -- what fields mean to a trait
-abbrev meaning_of : Trait → Answers → List Compared → Outcome
+abbrev meaning_of : Comparison → Answers → List Compared → Outcome
 meaning_of PartialEq table cs = Truth (equal table cs)
 meaning_of PartialOrd table cs = PartialOrder (partial_order table cs)
 meaning_of Ord table cs = Order (order table cs)
 
 -- what the fields mean in the order of the trait is what they mean
-means_in_order : (which : Trait) (table : Answers) (look_a look_b : List ℕ → Flow) (kept ordered : List Kept) (cs : List Compared) → IsInOrder which kept ordered → cs ≡ map (seen look_a look_b) kept
+means_in_order : (which : Comparison) (table : Answers) (look_a look_b : List ℕ → Flow) (kept ordered : List Kept) (cs : List Compared) → IsInOrder which kept ordered → cs ≡ map (seen look_a look_b) kept
     → means which table (map (seen look_a look_b) ordered) ≡ meaning_of which table cs
 means_in_order PartialEq table look_a look_b kept ordered cs in_order same = ap (λ ks. Truth (equal table (map (seen look_a look_b) ks))) in_order ∙ ap (λ cs. Truth (equal table cs)) (sym same)
 means_in_order PartialOrd table look_a look_b kept ordered cs in_order same =
@@ -253,7 +254,7 @@ means_in_order Ord table look_a look_b kept ordered cs in_order same =
     (IsPermutation-map one kept ordered in_order.same) (Rises-mapped (λ (c : Compared). c.kept.rank) one ordered in_order.rises)))
     ∙ ap (λ cs. Order (order table cs)) (sym same)
 
-meaning-whole : (which : Trait) (table : Answers) (d : DeriveInput) (a b : Value) → meaning_of which table (compared which d a b) ≡ meaning which table d a b
+meaning-whole : (which : Comparison) (table : Answers) (d : DeriveInput) (a b : Value) → meaning_of which table (compared which d a b) ≡ meaning which table d a b
 meaning-whole PartialEq table d a b = refl
 meaning-whole PartialOrd table d a b = refl
 meaning-whole Ord table d a b = refl
@@ -271,7 +272,7 @@ length_keys place [] = refl
 length_keys place (f ∷ fs) = ap suc (length_keys (place + 1) fs)
 
 -- the body of a comparison evaluates to what its trait means
-pub body_evaluates : (which : Trait) (d : DeriveInput) (body : Body) → AreDifferent (keys_of d) → IsBody which d body → Evaluates which d body
+pub body_evaluates : (which : Comparison) (d : DeriveInput) (body : Body) → AreDifferent (keys_of d) → IsBody which d body → Evaluates which d body
 body_evaluates which d body differ k table a b covers =
     let fs = fields_of d in
     let kept = kept_fields which d in
@@ -281,11 +282,11 @@ body_evaluates which d body differ k table a b covers =
     λ v types. lawful_keys.select (keys_of d) v.fields differ (length_keys 0 fs ∙ length_from_types fs fs v.fields types) in
     let give_a = give a covers.first.fields in
     let give_b = give b covers.second.fields in
-    let same : compared which d a b ≡ map (seen at_a at_b) kept = compared-seen at_a at_b which 0 fs a.fields b.fields give_a give_b in
+    let same : compared which d a b ≡ map (seen at_a at_b) kept = compared-seen at_a at_b which d 0 fs a.fields b.fields give_a give_b in
     let known = each_map (IsAnswered which table) (seen at_a at_b) kept (subst (AllByRecursion (IsAnswered which table)) same covers.each) in
     (λ i. outcome_of (list_value (scene_of d a b table) (bindings_of (k.params_are i)) Nothing (k.block_has.block_is i)))
     ∙ steps_value d a b table k.param.text k.param_is which k.ordered k.block_has.steps Nothing k.block_has.steps_are
-    (each_in_order which (IsGiven at_a) kept k.ordered k.ordered_is (each_given at_a which 0 fs a.fields give_a))
-    (each_in_order which (IsGiven at_b) kept k.ordered k.ordered_is (each_given at_b which 0 fs b.fields give_b))
+    (each_in_order which (IsGiven at_a) kept k.ordered k.ordered_is (each_given at_a which d 0 fs a.fields give_a))
+    (each_in_order which (IsGiven at_b) kept k.ordered k.ordered_is (each_given at_b which d 0 fs b.fields give_b))
     (each_in_order which (λ k. IsAnswered which table (seen at_a at_b k)) kept k.ordered k.ordered_is known)
     ∙ means_in_order which table at_a at_b kept k.ordered (compared which d a b) k.ordered_is same ∙ meaning-whole which table d a b

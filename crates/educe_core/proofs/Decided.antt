@@ -1,4 +1,4 @@
--- A text is valid exactly where no cause of a refusal stands, out of memory aside.
+-- A text in which no cause of a refusal stands is valid, out of memory aside.
 use Rattle.std.proofs.Common.{◌≡◌, ◌≢◌, ℕ, List, ◌⊎◌, inl, inr, refl, chars}
 use Rattle.educe_tokens.specs.declared.error.EduceError.{EduceError}
 use Rattle.educe_tokens.specs.declared.error.Kind.{Kind}
@@ -13,10 +13,13 @@ use Rattle.educe_syntax.specs.Parsed.{IsWhole, IsParseCause}
 use Rattle.educe_syntax.specs.Refusal.{IsRefusalOf}
 use Rattle.educe_syntax.specs.Laws.{lawful_definitions}
 use Rattle.educe_syntax.specs.TokenLaws.{lawful_lexing}
-use Rattle.educe_core.specs.Headline.{Defines, IsValid, IsHandlerCause, IsCause, not_set_up_of, reuse_of}
-use Rattle.educe_core.proofs.Causes.{defined_by, done_uncaused}
+use Rattle.educe_attrs.specs.Causes.{Cause, NoCause}
+use Rattle.educe_core.specs.Handled.{IsListedCause}
+use Rattle.educe_core.specs.Headline.{Defines, IsValid, IsHandlerCause, IsCause}
+use Rattle.educe_core.specs.Listed.{IsListingCause}
 use Rattle.educe_core.proofs.BuiltDecided.{built_if}
-use Rattle.educe_core.proofs.RanksDecided.{none_used_again}
+use Rattle.educe_core.proofs.Causes.{defined_by}
+use Rattle.educe_core.proofs.HandlerCauses.{listing_message, listed_message}
 
 -- A text is a definition within the limits whose names are apart, or there is a cause why it is none.
 pub defined_or_refused : (source : List ℕ) → ((d : DeriveInput) × Defines (chars source) d) ⊎ HasCause (IsCause source)
@@ -79,16 +82,21 @@ unread_refused source none =
 
 -- ---- valid texts
 
+-- where each cause is out of memory, and none is, no cause stands
+no_cause : (P : Cause) → ((e : EduceError) → P e → e.kind ≢ Alloc) → ((e : EduceError) → P e → e.kind ≡ Alloc) → NoCause P
+no_cause P told none = record { none_stands = λ e cause. told e cause (none e cause) }
+
 -- a definition of which the handler has no cause is valid
 valid_definition : (source : List ℕ) (d : DeriveInput) → Defines (chars source) d → ((e : EduceError) → IsHandlerCause d e → e.kind ≡ Alloc) → IsValid source
 valid_definition source d defines none =
-    let built = built_if d (λ never. (let same = none (placeless NotBuilt) (IsHandlerCause.unbuilt never) in cc)) in
+    let listing = no_cause (IsListingCause d) (λ e cause. (listing_message d e cause).kind) (λ e cause. none e (IsHandlerCause.listing cause)) in
+    let built = built_if d (λ never. (let same = none (placeless NotBuilt) (IsHandlerCause.unbuilt listing never) in cc)) in
     record {
       definition = d;
       defines = defines;
+      listing = listing;
       built = built;
-      lists = λ nothing. (let same = none (not_set_up_of d) (IsHandlerCause.not_set_up built nothing) in cc);
-      ranks_apart = none_used_again d (λ rank place reuses. (let same = none (reuse_of rank place) (IsHandlerCause.reuse rank place built reuses) in cc));
+      uncaused = no_cause (IsListedCause d) (λ e cause. (listed_message d e cause).kind) (λ e cause. none e (IsHandlerCause.handled listing built cause));
     }
 
 -- A text in which no cause stands, out of memory aside, is valid.
@@ -98,7 +106,3 @@ valid_if_uncaused source none =
       | inl defined ↦ valid_definition source defined.0 defined.1 (λ e cause. none e (IsCause.handled defined.0 defined.1 cause))
       | inr refused ↦ absurd (refused.is_told (none refused.error refused.stands))
     ]
-
--- In a valid text no cause stands, out of memory aside.
-pub uncaused_if_valid : (source : List ℕ) → IsValid source → (e : EduceError) → IsCause source e → e.kind ≢ Alloc → ⊥
-uncaused_if_valid source valid e cause told = done_uncaused source valid.definition valid.defines valid.built valid.lists valid.ranks_apart e told cause

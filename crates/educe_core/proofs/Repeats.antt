@@ -7,12 +7,12 @@ use Rattle.std.specs.Ordering.{int_cmp}
 use Rattle.std.proofs.lemmas.Int.{ints}
 use Rattle.std.proofs.lemmas.List.Sorted.{IsPermutation-map, IsPermutation-sym}
 use Rattle.educe_syntax.specs.DeriveInput.{DeriveInput}
-use Rattle.educe_traits.specs.declared.traits.Trait.{Trait}
+use Rattle.educe_body.specs.declared.comparison.Comparison.{Comparison}
 use Rattle.educe_body.specs.Keys.{fields_of}
 use Rattle.educe_core.specs.declared.ranked.Ranked.{Ranked}
 use Rattle.educe_core.specs.Ranked.{kept_of}
 use Rattle.educe_core.specs.Ranks.{Rises, IsRepeatAt, IsEarliestRepeat}
-use Rattle.educe_core.specs.Settings.{Kept, kept_fields, rank_place, RanksDiffer, IsEarliest, ReusesARank}
+use Rattle.educe_core.specs.Settings.{Kept, kept_fields, RanksDiffer, IsEarliest, ReusesARank}
 use Rattle.educe_core.specs.Blocks.{IsByRank}
 use Rattle.educe_core.proofs.Elements.{In, In-all, in_middle, In-permutation, In-from_Contains, Contains-from_In, In-mapped, each_map, each_mapped}
 use Rattle.educe_core.proofs.Sorting.{apart_from_Rises, rises_among_ties, second_from_sort}
@@ -52,7 +52,7 @@ In-image f (x ∷ xs) y found =
       | inr later ↦ (let rest = In-image f xs y later in (rest.0, inr rest.1, rest.2))
     ]
 
-module _ (which : Trait) (d : DeriveInput) (old new : List Ranked) (gathered : map kept_of old ≡ kept_fields which d) (moved : IsPermutation old new) where
+module _ (which : Comparison) (d : DeriveInput) (old new : List Ranked) (gathered : map kept_of old ≡ kept_fields which d) (moved : IsPermutation old new) where
   -- the fields that take part, in another order
   moved_fields : IsPermutation (kept_fields which d) (map kept_of new)
   moved_fields = subst (λ (kept : List Kept). IsPermutation kept (map kept_of new)) gathered (IsPermutation-map kept_of old new moved)
@@ -70,7 +70,7 @@ module _ (which : Trait) (d : DeriveInput) (old new : List Ranked) (gathered : m
 
   -- the places rose before
   places : Rises (λ (r : Ranked). pos r.place) old
-  places = Rises-map (λ (k : Kept). pos k.place) kept_of old (subst (Rises (λ (k : Kept). pos k.place)) (sym gathered) (places_rise which (fields_of d)))
+  places = Rises-map (λ (k : Kept). pos k.place) kept_of old (subst (Rises (λ (k : Kept). pos k.place)) (sym gathered) (places_rise which d (fields_of d)))
 
   -- a field that takes part is one of those
   moved_to : (x : Kept) → Contains (kept_fields which d) x → (r : Ranked) × In r new × (kept_of r ≡ x)
@@ -95,7 +95,7 @@ module _ (which : Trait) (d : DeriveInput) (old new : List Ranked) (gathered : m
 
   -- neighbours of one rank use it again, the second one later
   pub ReusesARank-from_sort : (k : ℕ) (later : Ranked) → IsSortedByKey (λ (r : Ranked). r.rank) int_cmp new → IsStableByKey (λ (r : Ranked). r.rank) int_cmp old new → IsRepeatAt (λ (r : Ranked). r.rank) new k
-      → IsEarliestRepeat (λ (r : Ranked). r.rank) (λ r. r.place) new k → later ≡ get_or new (k + 1) later → ReusesARank which d later.rank (rank_place which later.field.now)
+      → IsEarliestRepeat (λ (r : Ranked). r.rank) (λ r. r.place) new k → later ≡ get_or new (k + 1) later → ReusesARank which d later.rank later.rank_span
   ReusesARank-from_sort k later up stable repeats least is =
       let first : Ranked = get_or new k later in
       let rises = rises_among_ties (λ (r : Ranked). pos r.place) (λ (r : Ranked). r.rank) old new places moved stable k later repeats.within (repeats.same later) in

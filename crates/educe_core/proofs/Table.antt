@@ -45,7 +45,7 @@ Answers-refusal source sink notes input error status reads utf8 cause valid (inl
         utf8 = utf8;
         kind = kind;
         cause = cause;
-        alone = λ other differs stands. alone input error cause other kind differs stands;
+        alone = λ undefined. alone input undefined error cause kind;
         invalid = λ v. kind (valid v);
         is = refl;
       },

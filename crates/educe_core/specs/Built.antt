@@ -1,42 +1,62 @@
 -- The form of definitions that is built so far.
-use Rattle.std.specs.Prelude.{◌≡◌, Bool, true, false, IsTrue, List, [], map, Some, codes}
-use Rattle.std.specs.List.{AllByRecursion}
-use Rattle.educe_syntax.specs.Field.{Field}
+use Rattle.std.specs.Prelude.{◌≡◌, ◌||◌, Bool, true, false, not, if◌then◌else◌, IsTrue, List, [], ◌∷◌, codes}
+use Rattle.std.specs.List.{list_any, list_all}
+use Rattle.educe_tokens.specs.declared.token.Token.{Token}
+use Rattle.educe_syntax.specs.Attribute.{Attribute}
 use Rattle.educe_syntax.specs.DeriveInput.{DeriveInput}
+use Rattle.educe_syntax.specs.Field.{Field}
+use Rattle.educe_syntax.specs.Meta.{Meta}
+use Rattle.educe_syntax.specs.Meta.TheVariants as said
 use Rattle.educe_syntax.specs.Shape.{Shape}
 use Rattle.educe_syntax.specs.Shape.TheVariants.{Struct, Enum}
-use Rattle.educe_attrs.specs.declared.setting.Setting.{Setting}
-use Rattle.educe_traits.specs.declared.traits.Trait.{Trait}
-use Rattle.educe_attrs.specs.Said.{listed_by, settings_by}
-use Rattle.educe_traits.specs.Traits.{each_once, all_listed}
+use Rattle.educe_bound.specs.declared.traits.Trait.{Trait}
+use Rattle.educe_bound.specs.declared.traits.Trait.TheVariants.{PartialEq, PartialOrd, Ord}
+use Rattle.educe_bound.specs.Traits.{all_listed}
+use Rattle.educe_attrs.specs.Words.{is_word}
+use Rattle.educe_attrs.specs.Lists.{is_educe}
+use Rattle.educe_attrs.specs.Packed.{IsPacked}
 use Rattle.educe_body.specs.Keys.{fields_of}
 use Rattle.educe_body.specs.Words.{HasWord}
+use Rattle.educe_core.specs.Listed.{listed}
 
 -- a struct, of any form
 abbrev pub is_struct : Shape → Bool
 is_struct (Struct shape) = true
 is_struct (Enum variants) = false
 
--- the traits that are set
-abbrev pub traits_set : List Setting → List Trait
-traits_set settings = map (λ (s : Setting). s.which) settings
+-- the token is `method` or `bound`
+abbrev pub is_unbuilt_word : Token → Bool
+is_unbuilt_word t = is_word (codes "method") t || is_word (codes "bound") t
 
--- the attributes of a field may stand there; no trait is set twice, and each that is set is listed
-pub record IsFitting (traits : List Trait) (field : Field) : Type 0 where
-  pub settings : List Setting
-  pub settings_are : settings_by field.attrs ≡ Some settings
-  pub once : IsTrue (each_once (traits_set settings))
-  pub listed : IsTrue (all_listed traits (traits_set settings))
+-- the attribute is no `educe` list in which such a token stands
+abbrev pub is_plain_meta : Meta → Bool
+is_plain_meta (said.Word path) = true
+is_plain_meta (said.List path tokens place) = if is_educe path then not (list_any is_unbuilt_word tokens.tokens) else true
+is_plain_meta (said.NameValue path value place) = true
+is_plain_meta (said.Doc t) = true
+is_plain_meta (said.Unread path tokens place) = true
 
--- A definition of the form that is built so far: a struct with neither generic parameters nor predicates; the attributes of
--- the type may stand there and list no trait twice; so may those of each field, which set no trait twice and listed traits
--- alone; and `other`, by which generated code names the second value, is no word of the input.
+-- so is each of these
+abbrev pub are_plain : List Attribute → Bool
+are_plain attributes = list_all (λ (a : Attribute). is_plain_meta a.meta) attributes
+
+-- the attributes of a field are
+abbrev pub has_plain : Field → Bool
+has_plain field = are_plain field.attrs
+
+-- the traits are among those whose items are built
+abbrev pub are_built : List Trait → Bool
+are_built traits = all_listed (PartialEq ∷ PartialOrd ∷ Ord ∷ []) traits
+
+-- A definition of the form that is built so far: a struct with neither generic parameters nor predicates, which is not packed;
+-- it lists no other traits than `PartialEq`, `PartialOrd` and `Ord`; no token in its `educe` lists and those of its fields is
+-- `method` or `bound`; and `other`, by which generated code names the second value, is no word of the input.
 pub record IsBuilt (definition : DeriveInput) : Type 0 where
   pub structure : IsTrue (is_struct definition.shape)
   pub no_params : definition.generics.params ≡ []
   pub no_predicates : definition.generics.predicates ≡ []
-  pub traits : List Trait
-  pub traits_are : listed_by definition.attrs ≡ Some traits
-  pub once : IsTrue (each_once traits)
-  pub fitting : AllByRecursion (IsFitting traits) (fields_of definition)
+  pub not_packed : IsPacked definition.attrs → ⊥
+  pub traits : IsTrue (are_built (listed definition))
+  pub plain : IsTrue (are_plain definition.attrs)
+  pub fields_plain : IsTrue (list_all has_plain (fields_of definition))
   pub no_other : HasWord definition.tokens (codes "other") → ⊥

@@ -8,8 +8,8 @@ use Rattle.std.specs.Cmp.Lexicographic.{pointwise}
 use Rattle.educe_syntax.specs.Field.{Field}
 use Rattle.educe_syntax.specs.DeriveInput.{DeriveInput}
 use Rattle.educe_syntax.specs.Ty.{out-Ty}
-use Rattle.educe_traits.specs.declared.traits.Trait.{Trait}
-use Rattle.educe_traits.specs.declared.traits.Trait.TheVariants.{PartialEq, PartialOrd, Ord}
+use Rattle.educe_body.specs.declared.comparison.Comparison.{Comparison}
+use Rattle.educe_body.specs.declared.comparison.Comparison.TheVariants.{PartialEq, PartialOrd, Ord}
 use Rattle.educe_body.specs.Keys.{fields_of}
 use Rattle.educe_body.specs.declared.value.FieldValue.{FieldValue}
 use Rattle.educe_body.specs.declared.value.Value.{Value}
@@ -56,26 +56,26 @@ pub record Compared : Type 0 where
   pub second : FieldValue
 
 -- those that take part among fields of which the first has this place, with their values, in written order
-abbrev pub compared_from : Trait → ℕ → List Field → List FieldValue → List FieldValue → List Compared
-compared_from which place [] xs ys = []
-compared_from which place (f ∷ fs) [] ys = []
-compared_from which place (f ∷ fs) (x ∷ xs) [] = []
-compared_from which place (f ∷ fs) (x ∷ xs) (y ∷ ys) =
-    if is_kept which f then record { kept = kept_at which place f; first = x; second = y } ∷ compared_from which (place + 1) fs xs ys
-    else compared_from which (place + 1) fs xs ys
+abbrev pub compared_from : Comparison → DeriveInput → ℕ → List Field → List FieldValue → List FieldValue → List Compared
+compared_from which definition place [] xs ys = []
+compared_from which definition place (f ∷ fs) [] ys = []
+compared_from which definition place (f ∷ fs) (x ∷ xs) [] = []
+compared_from which definition place (f ∷ fs) (x ∷ xs) (y ∷ ys) =
+    if is_kept which definition f then record { kept = kept_at which definition place f; first = x; second = y } ∷ compared_from which definition (place + 1) fs xs ys
+    else compared_from which definition (place + 1) fs xs ys
 
--- the fields that take part in a trait, with their values
-abbrev pub compared : Trait → DeriveInput → Value → Value → List Compared
-compared which definition a b = compared_from which 0 (fields_of definition) a.fields b.fields
+-- the fields that take part in a comparison, with their values
+abbrev pub compared : Comparison → DeriveInput → Value → Value → List Compared
+compared which definition a b = compared_from which definition 0 (fields_of definition) a.fields b.fields
 
 -- the function by which a trait compares two values of a field
-abbrev pub comparison : Trait → Callee
+abbrev pub comparison : Comparison → Callee
 comparison PartialEq = Ne
 comparison PartialOrd = PartialCmp
 comparison Ord = Cmp
 
 -- what it answers
-abbrev pub comparison_answer : Trait → Answers → Compared → Option Answer
+abbrev pub comparison_answer : Comparison → Answers → Compared → Option Answer
 comparison_answer which table c = answer_of table (comparison which) (Some c.first) (Some c.second)
 
 abbrev pub opposite_truth : Option Answer → Option Bool
@@ -109,13 +109,13 @@ abbrev pub says_partial_order : Answers → Compared → Option (Option Ordering
 says_partial_order table c = partial_order_answered (comparison_answer PartialOrd table c)
 
 -- the field says something to the trait
-abbrev pub IsAnswered : Trait → Answers → Compared → Type 0
+abbrev pub IsAnswered : Comparison → Answers → Compared → Type 0
 IsAnswered PartialEq table c = IsSome (says_equal table c)
 IsAnswered PartialOrd table c = IsSome (says_partial_order table c)
 IsAnswered Ord table c = IsSome (says_order table c)
 
 -- both values have the definition's shape, and the table says something of each field that takes part
-pub record Covers (which : Trait) (table : Answers) (definition : DeriveInput) (a b : Value) : Type 0 where
+pub record Covers (which : Comparison) (table : Answers) (definition : DeriveInput) (a b : Value) : Type 0 where
   pub first : HasShape definition a
   pub second : HasShape definition b
   pub each : AllByRecursion (IsAnswered which table) (compared which definition a b)
@@ -161,7 +161,7 @@ abbrev pub partial_order : Answers → List Compared → Option Ordering
 partial_order table cs = partial_order_of table (deciding (differs_in_partial_order table) cs)
 
 -- what the function of a trait means of two values
-abbrev pub meaning : Trait → Answers → DeriveInput → Value → Value → Outcome
+abbrev pub meaning : Comparison → Answers → DeriveInput → Value → Value → Outcome
 meaning PartialEq table definition a b = Truth (equal table (compared PartialEq definition a b))
 meaning PartialOrd table definition a b = PartialOrder (partial_order table (compared PartialOrd definition a b))
 meaning Ord table definition a b = Order (order table (compared Ord definition a b))

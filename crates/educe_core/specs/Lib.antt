@@ -1,11 +1,12 @@
+pub mod Comparisons
+pub mod Listed
 pub mod Ranks
 pub mod Settings
 pub mod Ranked
-pub mod Listed
 pub mod Built
-pub mod Model
 pub mod Comparing
 pub mod Blocks
+pub mod Handled
 pub mod Headline
 pub mod Expansion
 pub mod Run

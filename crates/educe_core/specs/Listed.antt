@@ -1,24 +1,21 @@
 -- The traits that a definition lists.
-use Rattle.std.specs.Prelude.{List, [], ◌∷◌, unwrap_or}
-use Rattle.std.specs.List.{before_first, filter}
+use Rattle.std.specs.Prelude.{List}
+use Rattle.std.specs.List.{filter}
 use Rattle.educe_syntax.specs.DeriveInput.{DeriveInput}
-use Rattle.educe_traits.specs.declared.traits.Trait.{Trait}
-use Rattle.educe_traits.specs.declared.traits.Trait.TheVariants.{PartialEq, PartialOrd, Ord}
-use Rattle.educe_attrs.specs.Said.{listed_by}
-use Rattle.educe_traits.specs.Traits.{is_listed, same_trait}
+use Rattle.educe_syntax.specs.Parsed.{end_of}
+use Rattle.educe_bound.specs.declared.traits.Trait.{Trait}
+use Rattle.educe_bound.specs.Traits.{variants, is_listed}
+use Rattle.educe_attrs.specs.Causes.{Cause}
+use Rattle.educe_attrs.specs.Listing.{listed_traits, OfListing}
 
--- the traits that a definition lists; none where an attribute of the type may not stand there
-unfoldable pub listed : DeriveInput → List Trait
-listed definition = unwrap_or (listed_by definition.attrs) []
+-- the traits that a definition lists, as they are written
+abbrev pub listed : DeriveInput → List Trait
+listed definition = listed_traits definition.attrs
 
--- the fixed order, in which items are written
-abbrev pub fixed_order : List Trait
-fixed_order = PartialEq ∷ PartialOrd ∷ Ord ∷ []
-
--- the listed traits in the fixed order
+-- the listed traits in the fixed order, in which items are written
 abbrev pub listed_in_order : DeriveInput → List Trait
-listed_in_order definition = filter (is_listed (listed definition)) fixed_order
+listed_in_order definition = filter (is_listed (listed definition)) variants
 
--- the traits before this one in the fixed order
-abbrev pub traits_before : Trait → List Trait
-traits_before which = before_first (same_trait which) fixed_order
+-- why what a definition lists is refused
+abbrev pub IsListingCause : DeriveInput → Cause
+IsListingCause definition = OfListing definition.attrs (end_of definition.tokens)

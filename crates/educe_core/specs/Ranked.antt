@@ -3,9 +3,9 @@ use Rattle.std.specs.Prelude.{ℕ, ◌+◌, ◌≤◌, List, slice_index_or}
 use Rattle.educe_core.specs.declared.ranked.Ranked.{Ranked}
 use Rattle.educe_core.specs.Settings.{Kept}
 
--- the field behind the reference, its place and its rank
+-- the field behind the reference, its place, its rank, and where that stands
 abbrev pub kept_of : Ranked → Kept
-kept_of ranked = record { field = ranked.field.now; place = ranked.place; rank = ranked.rank }
+kept_of ranked = record { field = ranked.field.now; place = ranked.place; rank = ranked.rank; rank_span = ranked.rank_span }
 
 -- the field behind the one place is written no later than the field behind the other
 abbrev pub IsNoLater : List Ranked → ℕ → ℕ → Type 0

@@ -9,7 +9,7 @@ use Rattle.educe_core_devices.specs.declared.status.Status.{Status}
 use Rattle.educe_core_devices.specs.declared.status.Status.TheVariants.{Done, Refused, Usage, ReadFault, WriteFault, TooLong, NotUtf8, NoMemory}
 use Rattle.educe_core_devices.specs.Devices.{Change, ahead, IsAtEnd, IsUnchanged, Fails, Gains, FailsWithin, RunsShortWithin}
 use Rattle.educe_core_devices.specs.Status.{Delivers}
-use Rattle.educe_core.specs.Headline.{IsExpansion, IsCause, IsValid}
+use Rattle.educe_core.specs.Headline.{IsExpansion, IsCause, IsValid, IsUndefined, IsAlone}
 
 -- the words of the command
 abbrev pub expand_words : List (List ℕ)
@@ -54,14 +54,15 @@ pub record IsText (source : Change) (text : List ℕ) : Type 0 where
   pub expands : IsExpansion input items text
   pub uncaused : (e : EduceError) → e.kind ≢ Alloc → IsCause input e → ⊥
 
--- the line of a refusal whose cause stands in the whole input, and that of no other refusal does; the input is not valid
+-- the line of a refusal whose cause stands in the whole input, which is not valid; where the input is no definition, no other
+-- refusal has a cause
 pub record IsRefusal (source : Change) (error : EduceError) (line : List ℕ) : Type 0 where
   pub input : List ℕ
   pub whole : ReadsAll source input
   pub utf8 : IsUtf8 input
   pub kind : error.kind ≢ Alloc
   pub cause : IsCause input error
-  pub alone : (other : EduceError) → other.kind ≢ Alloc → IsCause input other → other ≡ error
+  pub alone : IsUndefined input → IsAlone input error
   pub invalid : IsValid input → ⊥
   pub is : line ≡ refusal_line input error
 

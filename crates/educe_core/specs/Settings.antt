@@ -1,105 +1,93 @@
--- What the attributes of a field say of it to a trait.
-use Rattle.std.specs.Prelude.{ℕ, ℤ, pos, ◌-ℤ◌, ◌+◌, ◌^◌, ◌<◌, ◌≤◌, ◌≡◌, Bool, true, not, List, [], ◌∷◌, Option, Some, None, if◌then◌else◌, unwrap_or, option_and_then}
+-- What the attributes of a field say of it to a comparison.
+use Rattle.std.specs.Prelude.{ℕ, ℤ, pos, ◌-ℤ◌, ◌+◌, ◌^◌, ◌<◌, ◌≤◌, ◌≡◌, Bool, false, not, List, [], ◌∷◌, if◌then◌else◌, unwrap_or}
 use Rattle.std.specs.List.{Contains}
 use Rattle.educe_tokens.specs.declared.span.Span.{Span}
 use Rattle.educe_syntax.specs.Field.{Field}
 use Rattle.educe_syntax.specs.DeriveInput.{DeriveInput}
-use Rattle.educe_attrs.specs.declared.param.Param.{Param}
-use Rattle.educe_attrs.specs.declared.setting.Setting.{Setting}
-use Rattle.educe_traits.specs.declared.traits.Trait.{Trait}
-use Rattle.educe_traits.specs.declared.traits.Trait.TheVariants.{PartialEq, PartialOrd, Ord}
-use Rattle.educe_attrs.specs.Params.{ignores, rank_in, rank_span_in}
-use Rattle.educe_attrs.specs.Said.{settings_by}
-use Rattle.educe_attrs.specs.Settings.{params_of}
+use Rattle.educe_attrs.specs.FieldSettings.{FieldSettings}
+use Rattle.educe_attrs.specs.Fields.{settings_at}
+use Rattle.educe_attrs.specs.Compared.{number_of, place_of}
+use Rattle.educe_body.specs.declared.comparison.Comparison.{Comparison}
 use Rattle.educe_body.specs.Keys.{fields_of}
+use Rattle.educe_core.specs.Comparisons.{trait_of, field_row}
+use Rattle.educe_core.specs.Listed.{listed}
 use Rattle.educe_core.specs.Ranks.{AreRanksApart}
 
 -- ---- settings
 
--- the settings of a field; none where an attribute may not stand there
-unfoldable pub settings_of : Field → List Setting
-settings_of field = unwrap_or (settings_by field.attrs) []
+-- the settings of a field
+abbrev pub settings_of : Comparison → DeriveInput → Field → FieldSettings
+settings_of which definition = settings_at (trait_of which) (field_row which) (listed definition)
 
--- the first, or else the second
-abbrev pub or_else : Option (List Param) → Option (List Param) → Option (List Param)
-or_else None second = second
-or_else (Some first) second = Some first
-
--- where there is no setting of the trait: each of the two orders takes that of the other one
-abbrev pub other_params : Trait → List Setting → Option (List Param)
-other_params PartialEq settings = None
-other_params PartialOrd settings = params_of Ord settings
-other_params Ord settings = params_of PartialOrd settings
-
--- the parameters that are set for a trait
-unfoldable pub params_among : Trait → List Setting → Option (List Param)
-params_among which settings = or_else (params_of which settings) (other_params which settings)
-
--- by these settings a field takes part in the trait
-abbrev pub keeps : Trait → List Setting → Bool
-keeps which settings = kept_by (params_among which settings)
-  where
-    kept_by : Option (List Param) → Bool
-    kept_by None = true
-    kept_by (Some params) = not (ignores params)
+-- by these settings a field takes part
+abbrev pub keeps : FieldSettings → Bool
+keeps settings = not (unwrap_or settings.values.ignore false)
 
 -- the rank at a place where none is set
 abbrev pub default_rank : ℕ → ℤ
 default_rank place = pos place -ℤ pos (2 ^ 63)
 
 -- the rank that these settings give at a place, or else the default one
-abbrev pub rank_by : Trait → ℕ → List Setting → ℤ
-rank_by which place settings = unwrap_or (option_and_then rank_in (params_among which settings)) (default_rank place)
+abbrev pub rank_by : ℕ → FieldSettings → ℤ
+rank_by place settings = number_of settings.values.rank (default_rank place)
 
 -- where these settings give the rank, or else the other place
-abbrev pub rank_place_by : Trait → List Setting → Span → Span
-rank_place_by which settings other = unwrap_or (option_and_then rank_span_in (params_among which settings)) other
+abbrev pub rank_span_by : FieldSettings → Span → Span
+rank_span_by settings other = unwrap_or (place_of settings.values.rank) other
 
 -- ---- fields
 
--- the field takes part in the trait
-abbrev pub is_kept : Trait → Field → Bool
-is_kept which field = keeps which (settings_of field)
+-- the field takes part in the comparison
+abbrev pub is_kept : Comparison → DeriveInput → Field → Bool
+is_kept which definition field = keeps (settings_of which definition field)
 
 -- the rank that is set, or else the default one
-abbrev pub rank_of : Trait → ℕ → Field → ℤ
-rank_of which place field = rank_by which place (settings_of field)
+abbrev pub rank_of : Comparison → DeriveInput → ℕ → Field → ℤ
+rank_of which definition place field = rank_by place (settings_of which definition field)
 
 -- where the rank stands: the parameter, or the field where it has none
-abbrev pub rank_place : Trait → Field → Span
-rank_place which field = rank_place_by which (settings_of field) field.span
+abbrev pub rank_span_of : Comparison → DeriveInput → Field → Span
+rank_span_of which definition field = rank_span_by (settings_of which definition field) field.span
 
--- a field that takes part, its place among all fields, counted from 0, and its rank
+-- a field that takes part, its place among all fields, counted from 0, its rank, and where that stands
 pub record Kept : Type 0 where
   pub field : Field
   pub place : ℕ
   pub rank : ℤ
+  pub rank_span : Span
 
-abbrev pub kept_at : Trait → ℕ → Field → Kept
-kept_at which place field = record { field = field; place = place; rank = rank_of which place field }
+abbrev pub kept_at : Comparison → DeriveInput → ℕ → Field → Kept
+kept_at which definition place field = record {
+  field = field;
+  place = place;
+  rank = rank_of which definition place field;
+  rank_span = rank_span_of which definition field;
+}
 
 -- those that take part among fields of which the first has this place
-abbrev pub kept_from : Trait → ℕ → List Field → List Kept
-kept_from which place [] = []
-kept_from which place (f ∷ fs) = if is_kept which f then kept_at which place f ∷ kept_from which (place + 1) fs else kept_from which (place + 1) fs
+abbrev pub kept_from : Comparison → DeriveInput → ℕ → List Field → List Kept
+kept_from which definition place [] = []
+kept_from which definition place (f ∷ fs) =
+    if is_kept which definition f then kept_at which definition place f ∷ kept_from which definition (place + 1) fs
+    else kept_from which definition (place + 1) fs
 
 -- the fields that take part, in written order
-abbrev pub kept_fields : Trait → DeriveInput → List Kept
-kept_fields which definition = kept_from which 0 (fields_of definition)
+abbrev pub kept_fields : Comparison → DeriveInput → List Kept
+kept_fields which definition = kept_from which definition 0 (fields_of definition)
 
 -- no two fields that take part have one rank
-abbrev pub RanksDiffer : Trait → DeriveInput → Type 0
+abbrev pub RanksDiffer : Comparison → DeriveInput → Type 0
 RanksDiffer which definition = AreRanksApart (λ k. k.rank) (kept_fields which definition)
 
 -- where two fields that take part have one rank, the later of them is not written before this place
-abbrev pub IsEarliest : Trait → DeriveInput → ℕ → Type 0
+abbrev pub IsEarliest : Comparison → DeriveInput → ℕ → Type 0
 IsEarliest which definition place =
     (first later : Kept) → Contains (kept_fields which definition) first → Contains (kept_fields which definition) later
     → first.place < later.place → first.rank ≡ later.rank → place ≤ later.place
 
 -- two fields that take part have this rank, and this is the place of the later one's; of such later fields it is the
 -- one that is written first
-pub record ReusesARank (which : Trait) (definition : DeriveInput) (rank : ℤ) (place : Span) : Type 0 where
+pub record ReusesARank (which : Comparison) (definition : DeriveInput) (rank : ℤ) (place : Span) : Type 0 where
   pub first : Kept
   pub later : Kept
   pub first_kept : Contains (kept_fields which definition) first
@@ -107,5 +95,5 @@ pub record ReusesARank (which : Trait) (definition : DeriveInput) (rank : ℤ) (
   pub written : first.place < later.place
   pub first_rank : first.rank ≡ rank
   pub later_rank : later.rank ≡ rank
-  pub place_is : place ≡ rank_place which later.field
+  pub place_is : place ≡ later.rank_span
   pub earliest : IsEarliest which definition later.place

@@ -1,26 +1,18 @@
-//! The form of definitions that is built so far, and what is read of such a definition once.
-ghost use Rattle.std.specs.Prelude.{◌≡◌, ◌==◌, ◌<◌, ◌^◌, ◌↔◌, [], map, length, codes, IfOk, IfSome, IfNone, IsTrue, ◌&&◌};
-ghost use Rattle.std.specs.List.{AllByRecursion};
+//! The form of definitions that is built so far.
+ghost use Rattle.std.specs.Prelude.{◌≡◌, ◌==◌, ◌<◌, ◌^◌, ◌↔◌, length, codes, IfOk, IsTrue, ◌&&◌};
+ghost use Rattle.std.specs.List.{list_any, list_all};
 ghost use Rattle.educe_body.specs.Keys as keys;
 ghost use Rattle.educe_body.specs.Words.{HasWord};
 ghost use Rattle.educe_core.specs.Built as spec;
-ghost use Rattle.educe_core.specs.Model.{IsModelOf};
-ghost use Rattle.educe_core.specs.Settings.{settings_of};
+ghost use Rattle.educe_core.specs.Listed as listing;
 
 use crate::comparing::OTHER;
-use educe_attrs::{Setting, Settings, listed_by, settings_by};
+use educe_attrs::{is_educe, is_packed, is_word};
 use educe_body::has_word;
-use educe_syntax::{DeriveInput, Field, Shape};
-use educe_tokens::Seq;
-use educe_traits::{Trait, Traits, all_listed, each_once};
+use educe_bound::{Trait, all_listed};
+use educe_syntax::{Attribute, DeriveInput, Field, Meta, Shape};
+use educe_tokens::Token;
 use std::alloc::{AllocError, Global};
-
-/// The traits that a definition lists, and the settings of its fields in their order.
-#[derive(Drop)]
-pub struct Model {
-    pub traits: Traits,
-    pub settings: Seq<Settings>,
-}
 
 /// The fields of a struct, in written order; of an enum none.
 pub fn fields_of(ast: &DeriveInput) -> &[Field]
@@ -34,7 +26,7 @@ pub fn fields_of(ast: &DeriveInput) -> &[Field]
 }
 
 /// Whether the definition is a struct with neither generic parameters nor predicates.
-fn is_plain(ast: &DeriveInput) -> bool
+fn is_simple_struct(ast: &DeriveInput) -> bool
     ensures { result ≡ (spec.is_struct ast.now.shape
         && (length ast.now.generics.params == 0) && (length ast.now.generics.predicates == 0)) }
 {
@@ -44,83 +36,88 @@ fn is_plain(ast: &DeriveInput) -> bool
 }
 
 /// Whether the name that generated code gives the second value is a word of the input.
+#[tactic(auto, using(crate::proofs::Texts::chars_other))]
 fn has_other(alloc: Global, ast: &DeriveInput) -> Result<bool, AllocError>
     ensures { IfOk result (λ found. IsTrue found ↔ HasWord ast.now.tokens (codes "other")) }
 {
     has_word(alloc, ast.tokens.as_slice(), OTHER)
 }
 
-/// The traits that are set.
-fn traits_set(alloc: Global, settings: &[Setting]) -> Result<Traits, AllocError>
-    ensures { IfOk result (λ traits. traits ≡ spec.traits_set settings.now) }
+/// Whether the token is `method` or `bound`.
+#[tactic(auto, using(crate::proofs::Texts::chars_method, crate::proofs::Texts::chars_bound))]
+fn is_unbuilt_word(token: &Token) -> bool
+    ensures { result ≡ spec.is_unbuilt_word token.now }
 {
-    let mut traits = Seq::new(alloc);
-    for setting in settings {
-        traits.push(setting.which)?;
-    }
-    Ok(traits)
+    is_word(token, "method") || is_word(token, "bound")
 }
 
-/// The settings of a field. None where its attributes may not stand there, or set a trait twice or
-/// one that is not listed.
-fn fitting(alloc: Global, listed: &[Trait], field: &Field) -> Result<Option<Settings>, AllocError>
-    ensures some { IfOk result (λ found. IfSome found (λ _. spec.IsFitting listed.now field.now)) }
-    ensures are { IfOk result (λ found. IfSome found (λ settings. settings ≡ settings_of field.now)) }
-    ensures none { IfOk result (λ found. IfNone found (¬ spec.IsFitting listed.now field.now)) }
+/// Whether one of the tokens is.
+fn has_unbuilt_word(tokens: &[Token]) -> bool
+    ensures { result ≡ list_any spec.is_unbuilt_word tokens.now }
 {
-    let Some(settings) = settings_by(alloc, &field.attrs)? else {
-        return Ok(None);
-    };
-    let traits = traits_set(alloc, settings.as_slice())?;
-    if each_once(traits.as_slice()) && all_listed(listed, traits.as_slice()) {
-        Ok(Some(settings))
-    } else {
-        Ok(None)
-    }
+    tokens.iter().any(|token| is_unbuilt_word(token))
 }
 
-/// The settings of fields in their order. None where those of a field do not fit.
-fn all_fitting(
-    alloc: Global,
-    listed: &[Trait],
-    fields: &[Field],
-) -> Result<Option<Seq<Settings>>, AllocError>
-    ensures some { IfOk result (λ found. IfSome found (λ _.
-        AllByRecursion (spec.IsFitting listed.now) fields.now)) }
-    ensures are { IfOk result (λ found. IfSome found (λ settings.
-        settings ≡ map settings_of fields.now)) }
-    ensures none { IfOk result (λ found. IfNone found
-        (¬ AllByRecursion (spec.IsFitting listed.now) fields.now)) }
+/// Whether the attribute is no `educe` list with such a token.
+fn is_plain_meta(meta: &Meta) -> bool
+    ensures { result ≡ spec.is_plain_meta meta.now }
 {
-    let mut settings = Seq::new(alloc);
-    for field in fields {
-        match fitting(alloc, listed, field)? {
-            Some(own) => settings.push(own)?,
-            None => return Ok(None),
+    match meta {
+        Meta::Word(_) => true,
+        Meta::List(path, list, _) => {
+            if is_educe(path) {
+                !has_unbuilt_word(list.tokens().as_slice())
+            } else {
+                true
+            }
         }
+        Meta::NameValue(_, _, _) => true,
+        Meta::Doc(_) => true,
+        Meta::Unread(_, _, _) => true,
     }
-    Ok(Some(settings))
 }
 
-/// What is read of a definition once. None where it is not of the form that is built so far.
-pub fn model_of(alloc: Global, ast: &DeriveInput) -> Result<Option<Model>, AllocError>
-    ensures some { IfOk result (λ found. IfSome found (IsModelOf ast.now)) }
-    ensures none { IfOk result (λ found. IfNone found (¬ spec.IsBuilt ast.now)) }
+/// Whether each attribute is.
+fn are_plain(attributes: &[Attribute]) -> bool
+    ensures { result ≡ spec.are_plain attributes.now }
 {
-    if !is_plain(ast) {
-        return Ok(None);
+    attributes
+        .iter()
+        .all(|attribute| is_plain_meta(&attribute.meta))
+}
+
+/// The same of the attributes of each field.
+fn have_plain(fields: &[Field]) -> bool
+    ensures { result ≡ list_all spec.has_plain fields.now }
+{
+    fields.iter().all(|field| are_plain(field.attrs.as_slice()))
+}
+
+/// Whether the traits are among those whose items are built.
+fn are_built(listed: &[Trait]) -> bool
+    ensures { result ≡ spec.are_built listed.now }
+{
+    all_listed(&[Trait::PartialEq, Trait::PartialOrd, Trait::Ord], listed)
+}
+
+/// Whether what the attributes of the definition say is built, packing aside.
+fn has_built_attributes(ast: &DeriveInput, listed: &[Trait]) -> bool
+    ensures { result ≡ (spec.are_built listed.now && spec.are_plain ast.now.attrs
+        && list_all spec.has_plain (keys.fields_of ast.now)) }
+{
+    are_built(listed) && are_plain(ast.attrs.as_slice()) && have_plain(fields_of(ast))
+}
+
+/// Whether a definition that lists these traits is of the form that is built so far.
+pub fn is_built(alloc: Global, ast: &DeriveInput, listed: &[Trait]) -> Result<bool, AllocError>
+    requires { listed.now ≡ listing.listed ast.now }
+    ensures { IfOk result (λ built. IsTrue built ↔ spec.IsBuilt ast.now) }
+{
+    if !is_simple_struct(ast) || !has_built_attributes(ast, listed) {
+        return Ok(false);
     }
-    if has_other(alloc, ast)? {
-        return Ok(None);
+    if is_packed(alloc, &ast.attrs)? {
+        return Ok(false);
     }
-    let Some(traits) = listed_by(alloc, &ast.attrs)? else {
-        return Ok(None);
-    };
-    if !each_once(traits.as_slice()) {
-        return Ok(None);
-    }
-    match all_fitting(alloc, traits.as_slice(), fields_of(ast))? {
-        Some(settings) => Ok(Some(Model { traits, settings })),
-        None => Ok(None),
-    }
+    Ok(!has_other(alloc, ast)?)
 }

@@ -1,6 +1,8 @@
 //! The blocks of the traits that compare two values.
 ghost use Rattle.std.specs.Prelude.{◌≡◌, [], ◌∷◌, IfOk, IsTrue, codes, map};
 ghost use Rattle.educe_tokens.specs.Quote.{is_ascii_name};
+ghost use Rattle.educe_tokens.specs.WrittenLexemes.{written_lexemes};
+ghost use Rattle.educe_attrs.specs.Lints.{impl_attributes};
 ghost use Rattle.educe_body.specs.BuiltIn.{IsBuiltIn};
 ghost use Rattle.educe_body.specs.Words.{HasWord};
 ghost use Rattle.educe_core.specs.declared.ranked.Ranked.{Ranked};
@@ -10,13 +12,13 @@ ghost use Rattle.educe_core.specs.Comparing as meaning;
 ghost use Rattle.educe_core.specs.Blocks as spec;
 
 use crate::ranked::Ranked;
+use educe_attrs::generated_impl_attributes;
 use educe_body::{
-    Body, Callee, Form, Forms, Function, Functions, ImplItem, Item, Known, Shared, built_in_path,
-    key_word,
+    Body, Callee, Comparison, Form, Forms, Function, Functions, ImplItem, Item, Known, Shared,
+    built_in_path, key_word,
 };
 use educe_syntax::{DeriveInput, Duplicate, ExprPath, Field, Ident};
-use educe_tokens::{Boxed, Seq, Word, Written};
-use educe_traits::Trait;
+use educe_tokens::{Boxed, Seq, TokenSlice, Word, Written};
 use std::alloc::{AllocError, Global};
 use std::cmp::Ordering;
 
@@ -24,13 +26,13 @@ use std::cmp::Ordering;
 pub const OTHER: &str = "other";
 
 /// The function by which a trait compares two values of a field.
-fn comparison(which: Trait) -> Callee
+fn comparison(which: Comparison) -> Callee
     ensures { result ≡ meaning.comparison which }
 {
     match which {
-        Trait::PartialEq => Callee::Ne,
-        Trait::PartialOrd => Callee::PartialCmp,
-        Trait::Ord => Callee::Cmp,
+        Comparison::PartialEq => Callee::Ne,
+        Comparison::PartialOrd => Callee::PartialCmp,
+        Comparison::Ord => Callee::Cmp,
     }
 }
 
@@ -45,7 +47,7 @@ fn reference(alloc: Global, base: &str, place: usize, field: &Field) -> Result<F
 }
 
 /// The path by which all steps of a trait call its comparison.
-fn comparison_path(alloc: Global, which: Trait) -> Result<Shared<ExprPath>, AllocError>
+fn comparison_path(alloc: Global, which: Comparison) -> Result<Shared<ExprPath>, AllocError>
     ensures { IfOk result (IsBuiltIn (meaning.comparison which)) }
 {
     let path = built_in_path(alloc, &comparison(which))?;
@@ -55,7 +57,7 @@ fn comparison_path(alloc: Global, which: Trait) -> Result<Shared<ExprPath>, Allo
 /// `path(&self.key, &other.key)`
 fn compared(
     alloc: Global,
-    which: Trait,
+    which: Comparison,
     path: &Shared<ExprPath>,
     place: usize,
     field: &Field,
@@ -71,22 +73,27 @@ fn compared(
 }
 
 /// What a trait does with a comparison.
-fn step_of(which: Trait, comparison: Boxed<Form>) -> Form
+fn step_of(which: Comparison, comparison: Boxed<Form>) -> Form
     ensures { result ≡ spec.step_of which comparison }
 {
     match which {
-        Trait::PartialEq => Form::IfReturn(comparison),
-        Trait::PartialOrd => {
+        Comparison::PartialEq => Form::IfReturn(comparison),
+        Comparison::PartialOrd => {
             Form::MatchOrdering(comparison, true, Ordering::Greater, Ordering::Less)
         }
-        Trait::Ord => Form::MatchOrdering(comparison, false, Ordering::Greater, Ordering::Less),
+        Comparison::Ord => Form::MatchOrdering(
+            comparison,
+            false,
+            Ordering::Greater,
+            Ordering::Less,
+        ),
     }
 }
 
 /// The step of a trait on the field at a place.
 fn step(
     alloc: Global,
-    which: Trait,
+    which: Comparison,
     path: &Shared<ExprPath>,
     place: usize,
     field: &Field,
@@ -99,18 +106,18 @@ fn step(
 }
 
 /// What is answered where no step returned.
-fn last_of(which: Trait) -> Known
+fn last_of(which: Comparison) -> Known
     ensures { result ≡ spec.last_of which }
 {
     match which {
-        Trait::PartialEq => Known::Truth(true),
-        Trait::PartialOrd => Known::PartialOrder(Some(Ordering::Equal)),
-        Trait::Ord => Known::Order(Ordering::Equal),
+        Comparison::PartialEq => Known::Truth(true),
+        Comparison::PartialOrd => Known::PartialOrder(Some(Ordering::Equal)),
+        Comparison::Ord => Known::Order(Ordering::Equal),
     }
 }
 
 /// A step for each field, and then what is answered where none returned.
-fn steps(alloc: Global, which: Trait, fields: &[Ranked<'_>]) -> Result<Forms, AllocError>
+fn steps(alloc: Global, which: Comparison, fields: &[Ranked<'_>]) -> Result<Forms, AllocError>
     ensures { IfOk result (spec.HasSteps which (codes "other") (map kept_of fields.now)) }
 {
     let path = comparison_path(alloc, which)?;
@@ -125,7 +132,7 @@ fn steps(alloc: Global, which: Trait, fields: &[Ranked<'_>]) -> Result<Forms, Al
 /// The body of a comparison over the fields in the order of the trait.
 fn body(
     alloc: Global,
-    which: Trait,
+    which: Comparison,
     ast: &DeriveInput,
     fields: &[Ranked<'_>],
 ) -> Result<Body, AllocError>
@@ -140,13 +147,13 @@ fn body(
 }
 
 /// The name of the function of a trait.
-fn function_name(alloc: Global, which: Trait) -> Result<Word, AllocError>
+fn function_name(alloc: Global, which: Comparison) -> Result<Word, AllocError>
     ensures { IfOk result (λ name. name.text ≡ spec.function_name which) }
 {
     match which {
-        Trait::PartialEq => Word::from_name(alloc, "eq"),
-        Trait::PartialOrd => Word::from_name(alloc, "partial_cmp"),
-        Trait::Ord => Word::from_name(alloc, "cmp"),
+        Comparison::PartialEq => Word::from_name(alloc, "eq"),
+        Comparison::PartialOrd => Word::from_name(alloc, "partial_cmp"),
+        Comparison::Ord => Word::from_name(alloc, "cmp"),
     }
 }
 
@@ -159,19 +166,26 @@ fn functions(alloc: Global, name: Word, body: Body) -> Result<Functions, AllocEr
     Ok(functions)
 }
 
+/// The attributes of the impls that are generated for a definition.
+fn attributes(alloc: Global, ast: &DeriveInput) -> Result<Written, AllocError>
+    ensures { IfOk result (λ attributes. written_lexemes attributes ≡ impl_attributes ast.now.attrs) }
+{
+    let tokens = generated_impl_attributes(alloc, &ast.attrs)?;
+    Ok(Written::new(TokenSlice::new(alloc, tokens)?))
+}
+
 /// The block of a comparison over the fields in the order of the trait.
-#[tactic(auto, unfolding(educe_tokens::specs::Quote::quoted))]
 pub fn comparison_block(
     alloc: Global,
-    which: Trait,
+    which: Comparison,
     ast: &DeriveInput,
     fields: &[Ranked<'_>],
 ) -> Result<Item, AllocError>
     requires no_other { HasWord ast.now.tokens (codes "other") → ⊥ }
     requires in_order { spec.IsInOrder which (settings.kept_fields which ast.now) (map kept_of fields.now) }
-    ensures { IfOk result (spec.IsBlock which ast.now) }
+    ensures { IfOk result (spec.IsComparisonBlock which ast.now) }
 {
-    let attributes = Written::from_template(alloc, "# [ automatically_derived ]")?;
+    let attributes = attributes(alloc, ast)?;
     let ident = ast.ident.duplicate(alloc)?;
     let name = function_name(alloc, which)?;
     let body = body(alloc, which, ast, fields)?;

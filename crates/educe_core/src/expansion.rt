@@ -3,7 +3,7 @@ ghost use Rattle.std.specs.Prelude.{◌≡◌, ◌≢◌, ◌≤◌, length, cha
 ghost use Rattle.educe_syntax.specs.DeriveInput.{DeriveInput};
 ghost use Rattle.educe_syntax.specs.Parsed.{IsOnly};
 ghost use Rattle.educe_tokens.specs.Message.{HasWords};
-ghost use Rattle.educe_core.specs.Headline.{Defines, IsExpansion, IsCause, IsValid};
+ghost use Rattle.educe_core.specs.Headline.{Defines, IsExpansion, IsCause, IsValid, IsUndefined, IsAlone};
 ghost use Rattle.educe_core.specs.Expansion.{text_of_expansion, items_of_expansion};
 
 use crate::handler::derive_input_handler;
@@ -80,9 +80,11 @@ fn expanded(alloc: Global, source: &str) -> Result<Expansion, EduceError>
     }
 }
 
-/// The expansion of a definition with `educe` attributes. Refused where the source does not lex, is
-/// no definition within the limits, gives a name twice, is not of the form that is built so far, lists
-/// no trait, or gives two fields that take part in an order one rank.
+/// The expansion of a definition with `educe` attributes. A source is refused, in this order, where it
+/// does not lex, is no definition within the limits, or gives a name twice; where what the type lists
+/// is wrong; where it is not of the form that is built so far; and where an attribute of a listed trait
+/// is wrong or two fields have one rank. Of several causes of one phase any may be reported
+/// (documentation of `educe`, Traits).
 pub fn expand(alloc: Global, source: &str) -> Result<Expansion, EduceError>
     requires { length source.now ≤ 131_072 }
     ensures done { IfOk result (λ e.
@@ -92,9 +94,10 @@ pub fn expand(alloc: Global, source: &str) -> Result<Expansion, EduceError>
     ensures valid { IsValid source.now → IfErr result (λ e. e.kind ≡ Kind.Alloc) }
     ensures invalid { IfOk result (λ _. (e : EduceError) → e.kind ≢ Kind.Alloc →
         IsCause source.now e → ⊥) }
-    // No other refusal than the one that is answered has a cause, out of memory aside.
-    ensures alone { IfErr result (λ e. (f : EduceError) → e.kind ≢ Kind.Alloc →
-        f.kind ≢ Kind.Alloc → IsCause source.now f → f ≡ e) }
+    // Where the source is no definition, no other refusal than the one that is answered has a cause,
+    // out of memory aside.
+    ensures alone { IsUndefined source.now →
+        IfErr result (λ e. e.kind ≢ Kind.Alloc → IsAlone source.now e) }
     // Its refusal can be shown.
     ensures words { IfErr result (λ e. HasWords e.kind e.words) }
     ensures placed { IfErr result (λ e. IsCharBoundary source.now e.span.start) }

@@ -1,79 +1,116 @@
 //! From a definition to its items.
-ghost use Rattle.std.specs.Prelude.{◌≡◌, ◌≢◌, [], map, codes, IfOk, IfErr};
+ghost use Rattle.std.specs.Prelude.{◌≡◌, true, map, codes, IfOk, IfErr};
 ghost use Rattle.std.specs.List.{AllByRecursion};
+ghost use Rattle.educe_tokens.specs.Message.{HasWords};
 ghost use Rattle.educe_syntax.specs.Naming.{AreNamesApart};
 ghost use Rattle.educe_syntax.specs.Parsed as parsed;
+ghost use Rattle.educe_bound.specs.Traits as traits;
+ghost use Rattle.educe_attrs.specs.Causes.{NoCause, OfStop};
+ghost use Rattle.educe_attrs.specs.Fields.{HaveNoCauses};
+ghost use Rattle.educe_attrs.specs.Listing.{IsListing};
+ghost use Rattle.educe_attrs.specs.Phases.{OfHandler};
 ghost use Rattle.educe_body.specs.Keys.{fields_of};
 ghost use Rattle.educe_body.specs.Words.{HasWord};
-ghost use Rattle.educe_core.specs.Blocks.{IsBlock, IsInOrder, HasNoCause, HasNoCauses, OneEach, EachEvaluates, IsTraitCause, IsListedCause};
+ghost use Rattle.educe_core.specs.Blocks.{IsComparisonBlock, IsInOrder, OneEach, EachEvaluates};
 ghost use Rattle.educe_core.specs.Built.{IsBuilt};
+ghost use Rattle.educe_core.specs.Comparisons as comparisons;
+ghost use Rattle.educe_core.specs.Handled.{IsRankCause, IsListedCause, handling};
 ghost use Rattle.educe_core.specs.Headline.{IsHandlerCause};
-ghost use Rattle.educe_core.specs.Listed.{listed};
-ghost use Rattle.educe_core.specs.Model.{IsModelOf};
+ghost use Rattle.educe_core.specs.Listed as listing;
 ghost use Rattle.educe_core.specs.Ranked.{kept_of};
 ghost use Rattle.educe_core.specs.Settings as spec;
-ghost use Rattle.educe_core.specs.Settings.{settings_of};
 
-use crate::built::{Model, model_of};
+use crate::built::{fields_of, is_built};
 use crate::comparing::comparison_block;
-use crate::handler_error::HandlerError;
+use crate::comparison::{field_row, is_order, trait_of, type_row};
 use crate::ranked::Ranked;
 use crate::ranks::{by_rank, kept_fields};
-use educe_attrs::Settings;
-use educe_body::{Item, Items};
-use educe_syntax::DeriveInput;
+use educe_attrs::{
+    FieldSettings, Stop, error_of, place_settings, settings_of_fields, type_listing,
+};
+use educe_body::{Comparison, Item, Items};
+use educe_bound::{Trait, Traits, is_listed};
+use educe_syntax::{DeriveInput, Field};
 use educe_tokens::{EduceError, Kind, Seq, Span, Token};
-use educe_traits::{Trait, is_listed};
 use std::alloc::Global;
 
-/// The fields that take part in a trait, in the order in which it goes over them.
+/// The fields that take part in a comparison, in the order in which it goes over them.
 fn fields_in_order<'a>(
     alloc: Global,
-    which: Trait,
+    which: Comparison,
     ast: &'a DeriveInput,
-    settings: &'a [Settings],
-) -> Result<Vec<Ranked<'a>>, HandlerError>
-    requires { settings.now ≡ map settings_of (fields_of ast.now) }
+    settings: &[FieldSettings],
+) -> Result<Vec<Ranked<'a>>, Stop>
+    requires settings { settings.now ≡ map (spec.settings_of which ast.now) (fields_of ast.now) }
+    requires read { HaveNoCauses (comparisons.trait_of which) (comparisons.field_row which) (listing.listed ast.now) (fields_of ast.now) }
     ensures in_order { IfOk result (λ fields.
         IsInOrder which (spec.kept_fields which ast.now) (map kept_of fields.items)) }
-    ensures uncaused { IfOk result (λ _. HasNoCause which ast.now) }
-    ensures err { IfErr result (IsTraitCause which ast.now) }
+    ensures uncaused { IfOk result (λ _. NoCause (IsRankCause which ast.now)) }
+    ensures err { IfErr result (λ s. OfStop (IsRankCause which ast.now) s) }
 {
-    match which {
-        Trait::PartialEq => Ok(kept_fields(alloc, Trait::PartialEq, ast, settings)?),
-        Trait::PartialOrd => by_rank(alloc, Trait::PartialOrd, ast, settings),
-        Trait::Ord => by_rank(alloc, Trait::Ord, ast, settings),
+    if is_order(which) {
+        by_rank(alloc, which, ast, settings)
+    } else {
+        Ok(kept_fields(alloc, which, ast, settings)?)
     }
 }
 
-/// The block of a trait.
+/// The block of a comparison over the fields of these settings.
 fn block(
     alloc: Global,
+    which: Comparison,
     ast: &DeriveInput,
-    settings: &[Settings],
-    which: Trait,
-) -> Result<Item, HandlerError>
-    requires settings { settings.now ≡ map settings_of (fields_of ast.now) }
+    settings: &[FieldSettings],
+) -> Result<Item, Stop>
+    requires settings { settings.now ≡ map (spec.settings_of which ast.now) (fields_of ast.now) }
+    requires read { HaveNoCauses (comparisons.trait_of which) (comparisons.field_row which) (listing.listed ast.now) (fields_of ast.now) }
     requires no_other { HasWord ast.now.tokens (codes "other") → ⊥ }
-    ensures ok { IfOk result (IsBlock which ast.now) }
-    ensures uncaused { IfOk result (λ _. HasNoCause which ast.now) }
-    ensures err { IfErr result (IsTraitCause which ast.now) }
+    ensures ok { IfOk result (IsComparisonBlock which ast.now) }
+    ensures uncaused { IfOk result (λ _. NoCause (IsRankCause which ast.now)) }
+    ensures err { IfErr result (λ s. OfStop (IsRankCause which ast.now) s) }
 {
     let fields = fields_in_order(alloc, which, ast, settings)?;
     Ok(comparison_block(alloc, which, ast, &fields)?)
 }
 
-/// The blocks of the listed traits, in the fixed order.
-fn blocks(alloc: Global, ast: &DeriveInput, model: &Model) -> Result<Items, HandlerError>
-    requires { IsModelOf ast.now model.now }
-    ensures ok { IfOk result (OneEach ast.now) }
-    ensures uncaused { IfOk result (λ _. HasNoCauses ast.now) }
-    ensures err { IfErr result (IsListedCause ast.now) }
+/// The block of a comparison that is listed. It is refused exactly where a list of the definition has
+/// a cause, or what is said of the comparison, or memory fails.
+fn handle(
+    alloc: Global,
+    which: Comparison,
+    ast: &DeriveInput,
+    fields: &[Field],
+    listed: &[Trait],
+) -> Result<Item, Stop>
+    requires fields { fields.now ≡ fields_of ast.now }
+    requires listed { listed.now ≡ listing.listed ast.now }
+    requires lists { traits.is_listed listed.now (comparisons.trait_of which) ≡ true }
+    requires no_other { HasWord ast.now.tokens (codes "other") → ⊥ }
+    ensures ok { IfOk result (IsComparisonBlock which ast.now) }
+    ensures uncaused { IfOk result (λ _. NoCause (OfHandler (handling ast.now) (comparisons.trait_of which))) }
+    ensures err { IfErr result (λ s. OfStop (OfHandler (handling ast.now) (comparisons.trait_of which)) s) }
 {
+    let own = trait_of(which);
+    let _type_settings = place_settings(alloc, own, &type_row(), listed, ast.attrs.as_slice())?;
+    let settings = settings_of_fields(alloc, own, &field_row(which), listed, fields)?;
+    block(alloc, which, ast, settings.as_slice())
+}
+
+/// The blocks of the listed traits, in the fixed order, of a definition that is built.
+fn blocks(alloc: Global, ast: &DeriveInput, listed: &[Trait]) -> Result<Items, Stop>
+    requires listed { listed.now ≡ listing.listed ast.now }
+    requires lists { IsListing ast.now.attrs (listing.listed ast.now) }
+    requires built { IsBuilt ast.now }
+    ensures one_each { IfOk result (OneEach ast.now) }
+    ensures evaluates { AreNamesApart ast.now → IfOk result (AllByRecursion (EachEvaluates ast.now)) }
+    ensures uncaused { IfOk result (λ _. NoCause (IsListedCause ast.now)) }
+    ensures err { IfErr result (λ s. OfStop (IsListedCause ast.now) s) }
+{
+    let fields = fields_of(ast);
     let mut items = Seq::new(alloc);
-    for which in Trait::VARIANTS {
-        if is_listed(model.traits.as_slice(), which) {
-            items.push(block(alloc, ast, model.settings.as_slice(), which)?)?;
+    for which in Comparison::VARIANTS {
+        if is_listed(listed, trait_of(which)) {
+            items.push(handle(alloc, which, ast, fields, listed)?)?;
         }
     }
     Ok(items)
@@ -89,46 +126,51 @@ fn end_of(tokens: &[Token]) -> u32
     }
 }
 
-/// The items of a definition of the form that is built so far: one block for each listed trait, in
-/// the fixed order. A definition that lists no trait is refused, over the whole input; so is one
-/// where two fields that take part in a listed order have one rank, at the later one's.
-fn items_of(alloc: Global, ast: &DeriveInput, model: &Model) -> Result<Items, EduceError>
-    requires { IsModelOf ast.now model.now }
-    ensures one_each { IfOk result (OneEach ast.now) }
-    ensures lists { IfOk result (λ _. listed ast.now ≢ []) }
-    ensures uncaused { IfOk result (λ _. HasNoCauses ast.now) }
-    ensures err { IfErr result (IsHandlerCause ast.now) }
+/// The traits that a definition lists, as they are written.
+fn listed_traits(alloc: Global, ast: &DeriveInput) -> Result<Traits, Stop>
+    ensures listed { IfOk result (λ listed. listed ≡ listing.listed ast.now) }
+    ensures lists { IfOk result (λ _. IsListing ast.now.attrs (listing.listed ast.now)) }
+    ensures uncaused { IfOk result (λ _. NoCause (listing.IsListingCause ast.now)) }
+    ensures err { IfErr result (λ s. OfStop (listing.IsListingCause ast.now) s) }
 {
-    if model.traits.as_slice().is_empty() {
-        let span = Span {
-            start: 0,
-            end: end_of(ast.tokens.as_slice()),
-        };
-        return Err(EduceError::new(alloc, Kind::DeriveAttributeNotSetUpYet, span));
-    }
-    match blocks(alloc, ast, model) {
-        Ok(items) => Ok(items),
-        Err(HandlerError::ReuseARank { rank, place }) => {
-            Err(EduceError::new(alloc, Kind::ReuseARank { rank }, place))
-        }
-        Err(HandlerError::Memory) => Err(EduceError::alloc(alloc)),
-    }
+    let end = end_of(ast.tokens.as_slice());
+    type_listing(alloc, ast.attrs.as_slice(), end)
 }
 
-/// The items of a definition: one block for each listed trait, in the fixed order. A definition that
-/// is not of the form that is built so far is refused; so is one that lists no trait, over the whole
-/// input, and one where two fields that take part in a listed order have one rank, at the later one's.
-pub fn derive_input_handler(alloc: Global, ast: &DeriveInput) -> Result<Items, EduceError>
-    ensures built { IfOk result (λ _. IsBuilt ast.now) }
+/// The items of a definition, by phases: what it lists, its form, and the handlers of what it lists.
+fn items_of(alloc: Global, ast: &DeriveInput) -> Result<Items, Stop>
     ensures one_each { IfOk result (OneEach ast.now) }
     ensures evaluates { AreNamesApart ast.now → IfOk result (AllByRecursion (EachEvaluates ast.now)) }
-    ensures lists { IfOk result (λ _. listed ast.now ≢ []) }
-    ensures uncaused { IfOk result (λ _. HasNoCauses ast.now) }
-    ensures err { IfErr result (IsHandlerCause ast.now) }
+    ensures lists { IfOk result (λ _. IsListing ast.now.attrs (listing.listed ast.now)) }
+    ensures listing { IfOk result (λ _. NoCause (listing.IsListingCause ast.now)) }
+    ensures built { IfOk result (λ _. IsBuilt ast.now) }
+    ensures uncaused { IfOk result (λ _. NoCause (IsListedCause ast.now)) }
+    ensures err { IfErr result (λ s. OfStop (IsHandlerCause ast.now) s) }
 {
-    match model_of(alloc, ast) {
-        Ok(Some(model)) => items_of(alloc, ast, &model),
-        Ok(None) => Err(EduceError::new(alloc, Kind::NotBuilt, Span::NONE)),
-        Err(_) => Err(EduceError::alloc(alloc)),
+    let listed = listed_traits(alloc, ast)?;
+    if !is_built(alloc, ast, listed.as_slice())? {
+        return Err(Stop::Refused(EduceError::new(alloc, Kind::NotBuilt, Span::NONE)));
+    }
+    blocks(alloc, ast, listed.as_slice())
+}
+
+/// The items of a definition: one block for each listed trait, in the fixed order. A definition is
+/// refused where what it lists is, then where it is not of the form that is built so far, and then
+/// where a handler of a listed trait refuses it (documentation of `educe`, Traits).
+pub fn derive_input_handler(alloc: Global, ast: &DeriveInput) -> Result<Items, EduceError>
+    ensures one_each { IfOk result (OneEach ast.now) }
+    ensures evaluates { AreNamesApart ast.now → IfOk result (AllByRecursion (EachEvaluates ast.now)) }
+    ensures lists { IfOk result (λ _. IsListing ast.now.attrs (listing.listed ast.now)) }
+    // No cause stands in any phase.
+    ensures listing { IfOk result (λ _. NoCause (listing.IsListingCause ast.now)) }
+    ensures built { IfOk result (λ _. IsBuilt ast.now) }
+    ensures uncaused { IfOk result (λ _. NoCause (IsListedCause ast.now)) }
+    ensures err { IfErr result (IsHandlerCause ast.now) }
+    // Its refusal has the words of its message.
+    ensures words { IfErr result (λ e. HasWords e.kind e.words) }
+{
+    match items_of(alloc, ast) {
+        Ok(items) => Ok(items),
+        Err(stop) => Err(error_of(alloc, stop)),
     }
 }

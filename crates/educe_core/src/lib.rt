@@ -4,9 +4,9 @@
 
 mod built;
 mod comparing;
+mod comparison;
 mod expansion;
 mod handler;
-mod handler_error;
 mod laws;
 mod program;
 mod ranked;

@@ -1,43 +1,45 @@
-//! The fields that take part in a trait, and their ranks.
-ghost use Rattle.std.specs.Prelude.{◌≡◌, ◌+◌, ◌<◌, ◌⊎◌, length, map, Some, IfOk, IfErr, IfSome, IfNone};
+//! The fields that take part in a comparison, and their ranks.
+ghost use Rattle.std.specs.Prelude.{◌≡◌, ◌+◌, ◌<◌, ◌⊎◌, length, map, Some, IsTrue, IfOk, IfErr, IfSome, IfNone};
+ghost use Rattle.educe_attrs.specs.Causes.{OfStop};
+ghost use Rattle.educe_attrs.specs.Fields.{HaveNoCauses};
 ghost use Rattle.educe_body.specs.Keys.{fields_of};
+ghost use Rattle.educe_core.specs.Blocks.{IsByRank};
+ghost use Rattle.educe_core.specs.Comparisons.{trait_of, is_order, field_row};
+ghost use Rattle.educe_core.specs.Handled.{reuse_of, IsRankCause};
+ghost use Rattle.educe_core.specs.Listed.{listed};
+ghost use Rattle.educe_core.specs.Ranked.{kept_of, IsNoLater};
 ghost use Rattle.educe_core.specs.Ranks.{NeighboursDiffer, IsRepeatAt, IsEarliestRepeat};
 ghost use Rattle.educe_core.specs.Settings as spec;
-ghost use Rattle.educe_core.specs.Settings.{settings_of};
-ghost use Rattle.educe_core.specs.Ranked.{kept_of, IsNoLater};
-ghost use Rattle.educe_core.specs.Blocks.{IsByRank, IsRankCause};
 ghost use Rattle.educe_core.specs.declared.ranked.Ranked.{Ranked};
-ghost use Rattle.educe_core.specs.declared.handler_error.HandlerError.TheVariants.{ReuseARank};
 
 use crate::built::fields_of;
-use crate::handler_error::HandlerError;
 use crate::ranked::Ranked;
-use crate::settings::{is_kept, rank_of, rank_place};
-use educe_attrs::Settings;
+use crate::settings::{is_kept, rank_of, rank_span};
+use educe_attrs::{FieldSettings, Stop};
+use educe_body::Comparison;
 use educe_syntax::DeriveInput;
-use educe_traits::Trait;
+use educe_tokens::{EduceError, Kind};
 use std::alloc::{AllocError, Global};
 
-/// The fields that take part in a trait, in written order.
+/// The fields that take part in a comparison, in written order.
 pub fn kept_fields<'a>(
     alloc: Global,
-    which: Trait,
+    which: Comparison,
     ast: &'a DeriveInput,
-    settings: &'a [Settings],
+    settings: &[FieldSettings],
 ) -> Result<Vec<Ranked<'a>>, AllocError>
-    requires { settings.now ≡ map settings_of (fields_of ast.now) }
+    requires { settings.now ≡ map (spec.settings_of which ast.now) (fields_of ast.now) }
     ensures { IfOk result (λ kept. map kept_of kept.items ≡ spec.kept_fields which ast.now) }
 {
     let mut kept = Vec::new(alloc);
     for (place, field) in fields_of(ast).iter().enumerate() {
-        let settings = settings[place].as_slice();
-        if is_kept(which, settings) {
-            let rank = rank_of(which, place, settings);
+        let own = &settings[place];
+        if is_kept(own) {
             kept.push(Ranked {
                 field,
-                settings,
                 place,
-                rank,
+                rank: rank_of(place, own),
+                rank_span: rank_span(own, field.span),
             })?;
         }
     }
@@ -75,33 +77,36 @@ fn repeat_at(sorted: &[Ranked<'_>]) -> Option<usize>
 }
 
 /// The refusal of a field that has the rank of an earlier one.
-fn reuse(which: Trait, later: &Ranked<'_>) -> HandlerError
-    ensures { result ≡ ReuseARank later.now.rank (spec.rank_place which later.now.field.now) }
+fn reuse(alloc: Global, later: &Ranked<'_>) -> EduceError
+    ensures { result ≡ reuse_of later.now.rank later.now.rank_span }
 {
-    HandlerError::ReuseARank {
-        rank: later.rank,
-        place: rank_place(which, later.settings, later.field.span),
-    }
+    EduceError::new(
+        alloc,
+        Kind::ReuseARank { rank: later.rank },
+        later.rank_span,
+    )
 }
 
 /// The fields that take part in an order, the one of least rank first. Refused where two of them
 /// have one rank; of such fields the one that is written first behind another counts.
 pub fn by_rank<'a>(
     alloc: Global,
-    which: Trait,
+    which: Comparison,
     ast: &'a DeriveInput,
-    settings: &'a [Settings],
-) -> Result<Vec<Ranked<'a>>, HandlerError>
-    requires { settings.now ≡ map settings_of (fields_of ast.now) }
+    settings: &[FieldSettings],
+) -> Result<Vec<Ranked<'a>>, Stop>
+    requires settings { settings.now ≡ map (spec.settings_of which ast.now) (fields_of ast.now) }
+    requires orders { IsTrue (is_order which) }
+    requires read { HaveNoCauses (trait_of which) (field_row which) (listed ast.now) (fields_of ast.now) }
     ensures sorted { IfOk result (λ sorted.
         IsByRank (spec.kept_fields which ast.now) (map kept_of sorted.items)) }
     ensures apart { IfOk result (λ _. spec.RanksDiffer which ast.now) }
-    ensures err { IfErr result (IsRankCause which ast.now) }
+    ensures err { IfErr result (λ s. OfStop (IsRankCause which ast.now) s) }
 {
     let mut sorted = kept_fields(alloc, which, ast, settings)?;
     sorted.sort_by_key(|field| field.rank)?;
     match repeat_at(&sorted) {
-        Some(at) => Err(reuse(which, &sorted[at + 1])),
+        Some(at) => Err(Stop::Refused(reuse(alloc, &sorted[at + 1]))),
         None => Ok(sorted),
     }
 }

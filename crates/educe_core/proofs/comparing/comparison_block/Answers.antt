@@ -1,13 +1,10 @@
 use Rattle.std.proofs.Common.{refl}
-use Rattle.educe_tokens.specs.Quote.{quoted}
 use Rattle.educe_core.proofs.comparing.comparison_block.Goals as goal
 
 pub returns : goal.returns
-unfolding quoted
 returns c = record {
   which_is = refl;
-  attributes_are = c.in_ok-attributes.ensures.printed;
-  attributes_lie = c.in_ok-attributes.ensures.nowhere;
+  attributes_are = c.in_ok-attributes.ensures;
   ident_is = c.in_ok-ident.ensures;
   functions_are = record {
     name = c.in_ok-name.name;

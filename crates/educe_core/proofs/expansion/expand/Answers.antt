@@ -3,7 +3,8 @@ use Rattle.std.specs.Prelude.{IfErr}
 use Rattle.educe_tokens.specs.declared.error.EduceError.{EduceError}
 use Rattle.educe_core.specs.Headline.{IsCause}
 use Rattle.educe_core.proofs.Alone.{alone}
-use Rattle.educe_core.proofs.Causes.{cause_placed, cause_words}
+use Rattle.educe_core.proofs.Causes.{cause_words}
+use Rattle.educe_core.proofs.Places.{cause_placed}
 use Rattle.educe_core.proofs.expansion.expand.Goals as goal
 
 -- what follows from a cause holds of a refusal that has one
@@ -12,10 +13,10 @@ from_cause source P (Ok found) follows caused = tt
 from_cause source P (Err error) follows caused = follows error caused
 
 pub returns-clause-alone : goal.returns-clause-alone
-returns-clause-alone c = from_cause c.args.source.now _ c.expanded.result (alone c.args.source.now) c.expanded.ensures.cause
+returns-clause-alone c = λ undefined. from_cause c.args.source.now _ c.expanded.result (alone c.args.source.now undefined) c.expanded.ensures.cause
 
 pub returns-clause-words : goal.returns-clause-words
 returns-clause-words c = from_cause c.args.source.now _ c.expanded.result (cause_words c.args.source.now) c.expanded.ensures.cause
 
 pub returns-clause-placed : goal.returns-clause-placed
-returns-clause-placed c = from_cause c.args.source.now _ c.expanded.result (λ e cause. cause_placed c.args.source.now e c.utf8.source cause) c.expanded.ensures.cause
+returns-clause-placed c = from_cause c.args.source.now _ c.expanded.result (cause_placed c.args.source.now c.utf8.source) c.expanded.ensures.cause

@@ -1,6 +1,6 @@
 use Rattle.educe_core.specs.Expansion.{text_of_expansion, items_of_expansion}
-use Rattle.educe_core.specs.Headline.{handled}
-use Rattle.educe_core.proofs.Causes.{done_uncaused, memory_cause, valid_handler}
+use Rattle.educe_core.specs.Headline.{IsValid, handled}
+use Rattle.educe_core.proofs.Causes.{memory_cause, uncaused_if_valid, valid_handler}
 use Rattle.educe_core.proofs.expansion.expanded.Goals as goal
 
 pub returns-in-Err-clause-valid : goal.returns-in-Err-clause-valid
@@ -29,9 +29,11 @@ returns-in-Ok-spell-clause-done c = record {
 }
 
 pub returns-in-Ok-spell-clause-invalid : goal.returns-in-Ok-spell-clause-invalid
-returns-in-Ok-spell-clause-invalid c =
-    done_uncaused c.args.source.now c.in-Ok.ast c.in-Ok.ensures.defines c.in-Ok-derive_input_handler.ensures.built
-    c.in-Ok-derive_input_handler.ensures.lists c.in-Ok-derive_input_handler.ensures.uncaused
+returns-in-Ok-spell-clause-invalid c = λ e kind cause.
+    let handler = c.in-Ok-derive_input_handler.ensures in
+    let valid : IsValid c.args.source.now =
+    record { definition = c.in-Ok.ast; defines = c.in-Ok.ensures.defines; listing = handler.listing; built = handler.built; uncaused = handler.uncaused } in
+    uncaused_if_valid c.args.source.now valid e cause kind
 
 pub returns-clause-cause : goal.returns-clause-cause
 returns-clause-cause c = memory_cause c.args.source.now c.alloc.result c.alloc.ensures

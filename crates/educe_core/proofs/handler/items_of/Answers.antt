@@ -1,22 +1,22 @@
-use Rattle.std.proofs.Common.{[], rules, sym, ap, ◌∙◌}
-use Rattle.educe_tokens.specs.declared.error.Kind.TheVariants.{DeriveAttributeNotSetUpYet}
-use Rattle.educe_syntax.specs.Parsed.{end_of}
-use Rattle.educe_core.proofs.Causes.{handler_memory, handler_not_set_up, handler_reuse}
-use Rattle.educe_core.proofs.Forms.{nothing}
+use Rattle.std.proofs.Common.{◌∙◌, sym}
+use Rattle.std.proofs.lemmas.Bool.{true≢false}
+use Rattle.educe_core.specs.Handled.{IsListedCause}
+use Rattle.educe_core.specs.Headline.{IsHandlerCause}
+use Rattle.educe_core.specs.Listed.{IsListingCause}
+use Rattle.educe_core.proofs.Handled.{stop_passed, stop_returned, form_refused}
 use Rattle.educe_core.proofs.handler.items_of.Goals as goal
 
-pub returns-then-is_empty-clause-err : goal.returns-then-is_empty-clause-err
-returns-then-is_empty-clause-err c =
-    let ends = c.end_of.ensures ∙ ap end_of c.as_slice-then-is_empty.ensures in
-    handler_not_set_up c.args.ast.now c.new.result
-    (c.new.ensures ∙ (λ i. record { kind = DeriveAttributeNotSetUpYet; span = record { start = 0; end = ends i }; words = [] }))
-    c.requires.built
-    (sym c.requires.traits_are ∙ sym c.as_slice.ensures ∙ nothing c.as_slice.result.now (sym c.is_empty.ensures ∙ c.if-is_empty.true))
+pub returns-in_err-listed-clause-err : goal.returns-in_err-listed-clause-err
+returns-in_err-listed-clause-err c =
+    stop_passed (IsListingCause c.args.ast.now) (IsHandlerCause c.args.ast.now) (λ e cause. IsHandlerCause.listing cause) c.from_residual.result c.in_err-listed.field-0.0
+    c.from_residual.ensures.1 c.in_err-listed.ensures.err
 
-pub returns-in-Err-ReuseARank-clause-err : goal.returns-in-Err-ReuseARank-clause-err
-returns-in-Err-ReuseARank-clause-err c =
-    handler_reuse c.args.ast.now c.new-in-Err-ReuseARank.result c.in-Err-ReuseARank.rank c.in-Err-ReuseARank.place (search rules) c.requires.built
-    (rw c.in-Err-ReuseARank.field-0-is at c.in-Err-ReuseARank.ensures.err)
+pub returns-then-not-branch-clause-err : goal.returns-then-not-branch-clause-err
+returns-then-not-branch-clause-err c =
+    form_refused c.args.ast.now c.new.result c.new.ensures c.in_ok-listed.ensures.uncaused (λ built. true≢false (sym (c.in_ok-is_built.ensures.1 built) ∙ c.if-not-branch.true))
 
-pub returns-in-Err-Memory-clause-err : goal.returns-in-Err-Memory-clause-err
-returns-in-Err-Memory-clause-err c = handler_memory c.args.ast.now c.alloc.result c.alloc.ensures
+pub returns-clause-err : goal.returns-clause-err
+returns-clause-err c =
+    let built = c.in_ok-is_built.ensures.0 c.if-not-branch.false in
+    stop_returned (IsListedCause c.args.ast.now) (IsHandlerCause c.args.ast.now) (λ e cause. IsHandlerCause.handled c.in_ok-listed.ensures.uncaused built cause) c.blocks-2.result
+    c.blocks-2.ensures.err

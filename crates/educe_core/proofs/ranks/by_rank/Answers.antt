@@ -1,8 +1,6 @@
-use Rattle.std.proofs.Common.{rules, sym, subst}
+use Rattle.std.proofs.Common.{rules}
 use Rattle.educe_core.specs.declared.ranked.Ranked.{Ranked}
-use Rattle.educe_core.specs.declared.handler_error.HandlerError.{HandlerError}
 use Rattle.educe_core.specs.Ranks.{Rises}
-use Rattle.educe_core.specs.Blocks.{IsRankCause}
 use Rattle.educe_core.proofs.Sorting.{Rises-from_sort, IsStableByKey-from_sort, IsSortedByKey-from_sort}
 use Rattle.educe_core.proofs.Repeats.{IsByRank-from_sort, RanksDiffer-from_sort, ReusesARank-from_sort}
 use Rattle.educe_core.proofs.ranks.by_rank.Goals as goal
@@ -22,8 +20,7 @@ returns-in-Some-clause-err c =
     let least = rw c.deref.ensures.value at c.in-Some.ensures.earliest in
     let reuses = ReusesARank-from_sort c.args.which c.args.ast.now c.in_ok-sorted.sorted.items sorted c.in_ok-sorted.ensures
     c.in_ok-sort_by_key.ensures.permutation c.in-Some.at later up stable repeats least c.index.ensures in
-    let IsCause : HandlerError → Type 0 = λ e. IsRankCause c.args.which c.args.ast.now e in
-    subst IsCause (sym c.reuse.ensures) reuses
+    record { rank = later.rank; place = later.rank_span; orders = c.requires.orders; read = c.requires.read; reuses = reuses; is = c.reuse.ensures }
 
 pub returns-clause-sorted : goal.returns-clause-sorted
 returns-clause-sorted c = IsByRank-from_sort c.args.which c.args.ast.now c.in_ok-sorted.sorted.items c.sort_by_key.new.self.items c.in_ok-sorted.ensures c.in_ok-sort_by_key.ensures.permutation (rises c)

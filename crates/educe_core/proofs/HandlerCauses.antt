@@ -1,0 +1,143 @@
+-- The causes of the handler have messages, and start at boundaries of tokens.
+use Rattle.std.proofs.Common.{ℕ, List, [], ◌∷◌, ◌++◌, map, Option, Some, None, Bool, true, false, inl, inr, refl, sym, subst}
+use Rattle.std.specs.Prelude.{◌+◌, IfSome, unwrap_or, if◌then◌else◌}
+use Rattle.std.specs.List.{AllByRecursion}
+use Rattle.std.proofs.lemmas.List.Elements.{All-contains, All-from_recursion}
+use Rattle.educe_tokens.specs.declared.error.EduceError.{EduceError}
+use Rattle.educe_tokens.specs.declared.span.Span.{Span}
+use Rattle.educe_tokens.specs.declared.token.Token.{Token}
+use Rattle.educe_tokens.specs.Message.{HasWords}
+use Rattle.educe_syntax.specs.Attribute.{Attribute}
+use Rattle.educe_syntax.specs.DeriveInput.{DeriveInput}
+use Rattle.educe_syntax.specs.Few as every
+use Rattle.educe_syntax.specs.Field.{Field}
+use Rattle.educe_syntax.specs.Parsed.{end_of}
+use Rattle.educe_syntax.specs.Placed.{AreAttributesPlaced, IsFieldPlaced, AreFieldsPlaced, IsDefinitionPlaced}
+use Rattle.educe_syntax.specs.Shape.{Shape}
+use Rattle.educe_syntax.specs.Shape.TheVariants.{Struct, Enum}
+use Rattle.educe_bound.specs.declared.traits.Trait.{Trait}
+use Rattle.educe_bound.specs.declared.traits.Trait.TheVariants as trait
+use Rattle.educe_attrs.specs.Among.{IsAmong}
+use Rattle.educe_attrs.specs.Compared.{place_of}
+use Rattle.educe_attrs.specs.Rank.{Rank}
+use Rattle.educe_body.specs.declared.comparison.Comparison.{Comparison}
+use Rattle.educe_body.specs.declared.comparison.Comparison.TheVariants.{PartialEq, PartialOrd, Ord}
+use Rattle.educe_body.specs.Keys.{shape_fields, fields_of}
+use Rattle.educe_core.specs.Comparisons.{trait_of, type_row, field_row}
+use Rattle.educe_core.specs.Handled.{places, IsRankCause, IsComparisonCause, IsTraitCause, IsListsCause, IsListedCause}
+use Rattle.educe_core.specs.Headline.{IsHandlerCause}
+use Rattle.educe_core.specs.Listed.{listed, IsListingCause}
+use Rattle.educe_core.specs.Settings.{settings_of, rank_span_of, Kept, is_kept, kept_at, kept_from, kept_fields}
+use Rattle.educe_attrs.specs.Laws.{lawful_reports}
+use Rattle.educe_attrs.specs.Messages.{HasMessage, IsBoundary}
+
+-- what holds of the causes of lists, and of those of each comparison, holds of those of the listed traits
+each_listed : (d : DeriveInput) (Q : EduceError → Type 0) → ((e : EduceError) → IsListsCause d e → Q e)
+    → ((which : Comparison) (e : EduceError) → IsComparisonCause which d e → Q e) → (e : EduceError) → IsListedCause d e → Q e
+each_listed d Q lists compares e (inl cause) = lists e cause
+each_listed d Q lists compares e (inr cause) = own cause.0 cause.2
+  where
+    own : (which : Trait) → IsTraitCause d which e → Q e
+    own trait.PartialEq cause = compares PartialEq e cause
+    own trait.PartialOrd cause = compares PartialOrd e cause
+    own trait.Ord cause = compares Ord e cause
+    own trait.Debug cause = absurd cause
+    own trait.Clone cause = absurd cause
+    own trait.Copy cause = absurd cause
+    own trait.Eq cause = absurd cause
+    own trait.Hash cause = absurd cause
+    own trait.Default cause = absurd cause
+
+-- ---- messages
+
+module _ (d : DeriveInput) where
+  pub listing_message : (e : EduceError) → IsListingCause d e → HasMessage e
+  listing_message e cause = lawful_reports.listing_message d.attrs (end_of d.tokens) e cause
+
+  comparison_message : (which : Comparison) (e : EduceError) → IsComparisonCause which d e → HasMessage e
+  comparison_message which e (IsComparisonCause.by_type cause) = lawful_reports.said_message (trait_of which) type_row d.attrs e cause
+  comparison_message which e (IsComparisonCause.by_field field among cause) = lawful_reports.field_message (trait_of which) (field_row which) (listed d) field.attrs e cause
+  comparison_message which e (IsComparisonCause.by_rank cause) = subst HasMessage (sym cause.is) (record { kind = λ same. cc; words = refl })
+
+  pub listed_message : (e : EduceError) → IsListedCause d e → HasMessage e
+  listed_message e cause = each_listed d HasMessage (λ e lists. lawful_reports.place_message (listed d) lists.attributes e lists.cause) comparison_message e cause
+
+  pub handler_words : (e : EduceError) → IsHandlerCause d e → HasWords e.kind e.words
+  handler_words e (IsHandlerCause.listing cause) = (listing_message e cause).words
+  handler_words e (IsHandlerCause.unbuilt none never) = refl
+  handler_words e (IsHandlerCause.handled none built cause) = (listed_message e cause).words
+  handler_words e IsHandlerCause.memory = refl
+
+-- ---- places
+
+-- what holds of each item holds of one
+among_all : {X : Type 0} (P : X → Type 0) (front back : List X) (x : X) → AllByRecursion P (front ++ x ∷ back) → P x
+among_all P [] back x each = each.0
+among_all P (y ∷ ys) back x each = among_all P ys back x each.1
+
+one_among : {X : Type 0} (P : X → Type 0) (xs : List X) (x : X) → AllByRecursion P xs → IsAmong x xs → P x
+one_among P xs x each among = among_all P among.front among.back x (subst (AllByRecursion P) among.is each)
+
+-- the fields of a struct are its fields
+of_struct : (tokens : List Token) (shape : Shape) → AreFieldsPlaced tokens (every.shape_fields shape) → AreFieldsPlaced tokens (shape_fields shape)
+of_struct tokens (Struct shape) placed = placed
+of_struct tokens (Enum variants) placed = tt
+
+-- the definition stands among the tokens
+module _ (tokens : List Token) (d : DeriveInput) (placed : IsDefinitionPlaced tokens d) where
+  -- the span starts at a boundary of them
+  abbrev Starts : Span → Type 0
+  Starts s = IsBoundary tokens s.start
+
+  fields_placed : AreFieldsPlaced tokens (fields_of d)
+  fields_placed = of_struct tokens d.shape placed.fields
+
+  attributes_placed : (fs : List Field) → AreFieldsPlaced tokens fs → AllByRecursion (AreAttributesPlaced tokens) (map (λ (f : Field). f.attrs) fs)
+  attributes_placed [] each = tt
+  attributes_placed (f ∷ fs) each = (each.0.attrs, attributes_placed fs each.1)
+
+  lists_placed : (e : EduceError) → IsListsCause d e → Starts e.span
+  lists_placed e lists =
+      let here = one_among (AreAttributesPlaced tokens) (places d) lists.attributes (placed.attrs, attributes_placed (fields_of d) fields_placed) lists.stand in
+      lawful_reports.place_placed tokens lists.attributes here (listed d) e lists.cause
+
+  -- a rank, or else the other place
+  or_other : (rank : Option Rank) (other : Span) → IfSome rank (λ (r : Rank). Starts r.span) → Starts other → Starts (unwrap_or (place_of rank) other)
+  or_other None other has fallback = fallback
+  or_other (Some rank) other has fallback = has
+
+  rank_starts : (which : Comparison) (f : Field) → IsFieldPlaced tokens f → Starts (rank_span_of which d f)
+  rank_starts which f is =
+      or_other (settings_of which d f).values.rank f.span (lawful_reports.rank_placed tokens f.attrs is.attrs (trait_of which) (field_row which) (listed d))
+      (subst Starts (sym is.span.is) (IsBoundary.start is.span.first is.span.first_stands))
+
+  -- the ranks of the fields that take part
+  kept_start : (which : Comparison) (place : ℕ) (fs : List Field) → AreFieldsPlaced tokens fs → AllByRecursion (λ (k : Kept). Starts k.rank_span) (kept_from which d place fs)
+  kept_start which place [] each = tt
+  kept_start which place (f ∷ fs) each = step (is_kept which d f) (kept_start which (place + 1) fs each.1)
+    where
+      step : (keeps : Bool) → AllByRecursion (λ (k : Kept). Starts k.rank_span) (kept_from which d (place + 1) fs)
+          → AllByRecursion (λ (k : Kept). Starts k.rank_span) (if keeps then kept_at which d place f ∷ kept_from which d (place + 1) fs else kept_from which d (place + 1) fs)
+      step true more = (rank_starts which f each.0, more)
+      step false more = more
+
+  rank_placed : (which : Comparison) (e : EduceError) → IsRankCause which d e → Starts e.span
+  rank_placed which e cause =
+      let kept = kept_fields which d in
+      let each = All-from_recursion (λ (k : Kept). Starts k.rank_span) kept (kept_start which 0 (fields_of d) fields_placed) in
+      let later = All-contains (λ (k : Kept). Starts k.rank_span) kept cause.reuses.later each cause.reuses.later_kept in
+      subst (λ (e : EduceError). Starts e.span) (sym cause.is) (subst Starts (sym cause.reuses.place_is) later)
+
+  comparison_placed : (which : Comparison) (e : EduceError) → IsComparisonCause which d e → Starts e.span
+  comparison_placed which e (IsComparisonCause.by_type cause) = lawful_reports.said_placed tokens d.attrs placed.attrs (trait_of which) type_row e cause
+  comparison_placed which e (IsComparisonCause.by_field field among cause) =
+      let here = one_among (IsFieldPlaced tokens) (fields_of d) field fields_placed among in
+      lawful_reports.field_placed tokens field.attrs here.attrs (trait_of which) (field_row which) (listed d) e cause
+  comparison_placed which e (IsComparisonCause.by_rank cause) = rank_placed which e cause
+
+  -- each cause of the handler starts at one
+  pub handler_placed : (e : EduceError) → IsHandlerCause d e → IsBoundary tokens e.span.start
+  handler_placed e (IsHandlerCause.listing cause) = lawful_reports.listing_placed tokens d.attrs placed.attrs (end_of d.tokens) e cause
+  handler_placed e (IsHandlerCause.unbuilt none never) = IsBoundary.beginning
+  handler_placed e (IsHandlerCause.handled none built cause) = each_listed d (λ e. Starts e.span) lists_placed comparison_placed e cause
+  handler_placed e IsHandlerCause.memory = IsBoundary.beginning
