@@ -1,14 +1,19 @@
 //! The worked examples: a name, a text, and what is answered to it.
 
-use crate::examples::checks::check;
+use crate::examples::checks::check_all;
 use crate::program::ONE_FIELD;
 use educe_body::Outcome;
 use educe_tokens::Kind;
 use std::cmp::Ordering;
 use std::test::Fail;
 
+mod builders;
 mod checks;
 mod devices;
+mod fields;
+mod impls;
+mod listings;
+mod phases;
 
 /// What is answered to a text.
 #[derive(Clone, Copy)]
@@ -21,6 +26,8 @@ pub(crate) enum Answer {
     Value([i128; 2], [i128; 2], Outcome),
     /// `expand` refuses with this line.
     Line(&'static str),
+    /// `expand` refuses with one of these lines.
+    OneOf(&'static [&'static str]),
     /// The tokens print as this text.
     Printed(&'static str),
     /// So many tokens are read.
@@ -42,7 +49,7 @@ const TWO_PLACES: &str =
 const NO_FIELDS: &str =
     "# [ automatically_derived ] impl :: core :: cmp :: PartialEq for S { fn eq ( & self , other : & Self ) -> :: core :: primitive :: bool { true } }\n";
 
-const NOT_SET_UP: &str =
+pub(crate) const NOT_SET_UP: &str =
     "1:1: you are using `Educe` in the `derive` attribute, but it has not been set up yet\n";
 
 static EXAMPLES: [Example; 25] = [
@@ -159,8 +166,5 @@ static EXAMPLES: [Example; 25] = [
 
 #[test]
 fn examples_are_answered(rt: HostRuntime) -> Result<(), Fail> {
-    for example in &EXAMPLES {
-        check(rt.alloc(), example)?;
-    }
-    Ok(())
+    check_all(rt.alloc(), &EXAMPLES)
 }

@@ -129,3 +129,16 @@ pub(crate) fn check_notes(alloc: Global, input: &str, notes: &str) -> Result<(),
     check_at(input, shown(found.notes.bytes()), notes)?;
     check_at(input, found.code == 0, notes.is_empty())
 }
+
+/// The input is refused with one of these notes.
+pub(crate) fn check_one_of(alloc: Global, input: &str, notes: &[&str]) -> Result<(), Fail> {
+    let found = Case::of(input.as_bytes(), 1, "", "").outcome(alloc, 4096)?;
+    check_at(input, found.code, 1)?;
+    check_at(input, shown(found.text.bytes()), "")?;
+    let found = shown(found.notes.bytes());
+    if notes.iter().any(|line| *line == found) {
+        Ok(())
+    } else {
+        Err(Fail::new(format_args!("at {input:?}: found {found:?}")))
+    }
+}

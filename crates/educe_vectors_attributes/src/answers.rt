@@ -5,7 +5,7 @@ ghost use Rattle.educe_tokens.specs.Message.{HasWords};
 ghost use Rattle.educe_attrs_values.specs.Metas.{IsNamed};
 
 use crate::words::Worded;
-use educe_attrs_builders::{AttributeBuilder, FieldBuilder, TypeBuilder};
+use educe_attrs::{AttributeBuilder, FieldBuilder, TypeBuilder};
 use educe_bound::Trait;
 use educe_syntax::{Attributes, Duplicate, Meta, parse_metas};
 use educe_tokens::{EduceError, Kind, SOURCE_LIMIT};

@@ -3,7 +3,7 @@ ghost use Rattle.educe_attrs_values.specs.Metas.{IsNamed};
 
 use crate::answers::{Case, answer, check_case, only_meta};
 use crate::builders::{debug_field, debug_struct, ord_field, partial_ord_field};
-use educe_attrs_builders::{clone, copy, default, eq, hash, ord, partial_eq, partial_ord};
+use educe_attrs::{clone, copy, default, eq, hash, ord, partial_eq, partial_ord};
 use educe_bound::Trait;
 use educe_syntax::Meta;
 use std::alloc::Global;

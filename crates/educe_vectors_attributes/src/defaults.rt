@@ -1,7 +1,7 @@
 //! What the builder of `Default` at fields answers, to which the type of the field is given.
 
 use crate::answers::{Case, answer, attributes, check_case, only_meta, with_struct};
-use educe_attrs_builders::default::FieldAttributeBuilder;
+use educe_attrs::default::FieldAttributeBuilder;
 use educe_attrs_generated::auto_adjust_expr;
 use educe_bound::Trait;
 use educe_syntax::{Duplicate, Expr, Field, FieldShape, Shape, Ty, parse_expr};

@@ -1,7 +1,7 @@
 //! What attributes say, in words.
 
-use educe_attrs_builders::debug::{FieldName, TypeName};
-use educe_attrs_builders::{clone, copy, debug, default, ord, partial_eq, partial_ord};
+use educe_attrs::debug::{FieldName, TypeName};
+use educe_attrs::{clone, copy, debug, default, ord, partial_eq, partial_ord};
 use educe_bound::Bound;
 use educe_syntax::{Expr, ExprPath, Predicates, text_of_tree};
 use educe_tokens::Span;

@@ -2,7 +2,7 @@
 
 use crate::examples::{Answer, Example};
 use crate::program::bodies::evaluated_first;
-use crate::program::{Case, check_notes};
+use crate::program::{Case, check_notes, check_one_of};
 use educe_body::Outcome;
 use educe_tokens::{EduceError, Kind, Token, int_value, string_value};
 use educe_vectors_checks::{check_at, lex_answer, lexed, printed_source};
@@ -25,7 +25,7 @@ fn check_string(alloc: Global, source: &str, expected: &str) -> Result<(), Fail>
 }
 
 /// Whether a refusal cites this word first, or none where it is empty.
-fn cites(error: &EduceError, word: &str) -> bool {
+pub(crate) fn cites(error: &EduceError, word: &str) -> bool {
     match error.words.get(0) {
         Some(cited) => cited.as_str() == word,
         None => word.is_empty(),
@@ -52,13 +52,14 @@ fn check_value(
 }
 
 /// The example is answered as its row says.
-pub(crate) fn check(alloc: Global, example: &Example) -> Result<(), Fail> {
+fn check(alloc: Global, example: &Example) -> Result<(), Fail> {
     let (_, source, answer) = example;
     match answer {
         Answer::Text(text) => Case::of(source.as_bytes(), 0, text, "").check(alloc),
         Answer::Expanded => check_notes(alloc, source, ""),
         Answer::Value(this, other, outcome) => check_value(alloc, source, (this, other), *outcome),
         Answer::Line(line) => Case::of(source.as_bytes(), 1, "", line).check(alloc),
+        Answer::OneOf(lines) => check_one_of(alloc, source, lines),
         Answer::Printed(text) => check_at(*source, printed_source(alloc, source)?.as_str(), *text),
         Answer::Count(count) => check_at(*source, lexed(alloc, source)?.len(), *count),
         Answer::Integer(value) => {
@@ -67,4 +68,12 @@ pub(crate) fn check(alloc: Global, example: &Example) -> Result<(), Fail> {
         Answer::String(value) => check_string(alloc, source, value),
         Answer::Refusal(kind, word) => check_refusal(alloc, source, *kind, word),
     }
+}
+
+/// Each example is answered as its row says.
+pub(crate) fn check_all(alloc: Global, examples: &[Example]) -> Result<(), Fail> {
+    for example in examples {
+        check(alloc, example)?;
+    }
+    Ok(())
 }

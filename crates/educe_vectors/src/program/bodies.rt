@@ -90,19 +90,73 @@ fn check(alloc: Global, rows: &[Row], cases: &[Case]) -> Result<(), Fail> {
     Ok(())
 }
 
+/// The first of two fields has a rank of one order, and the other order says nothing.
+const RANKED: &str = "#[educe(PartialOrd, Ord)] struct S { #[educe(Ord(rank = 1))] a: u8, b: u8 }";
+
+/// The same of the other order.
+const PARTIALLY_RANKED: &str =
+    "#[educe(Ord, PartialOrd)] struct S { #[educe(PartialOrd(rank = 1))] a: u8, b: u8 }";
+
 #[test]
-fn each_order_takes_the_settings_of_the_other(rt: HostRuntime) -> Result<(), Fail> {
-    let by_cmp = "#[educe(PartialOrd, Ord)] struct S { #[educe(Ord(rank = 1))] a: u8, b: u8 }";
-    let by_partial_cmp =
-        "#[educe(PartialOrd, Ord)] struct S { #[educe(PartialOrd(ignore))] a: u8, b: u8 }";
-    let greater = Outcome::PartialOrder(Some(Ordering::Greater));
+fn each_order_takes_the_rank_of_the_other(rt: HostRuntime) -> Result<(), Fail> {
+    let partly_greater = Outcome::PartialOrder(Some(Ordering::Greater));
+    let greater = Outcome::Order(Ordering::Greater);
+    check(
+        rt.alloc(),
+        &[],
+        &[
+            (RANKED, 0, &[1, 2], &[2, 1], partly_greater),
+            (RANKED, 1, &[1, 2], &[2, 1], greater),
+            (PARTIALLY_RANKED, 0, &[1, 2], &[2, 1], partly_greater),
+            (PARTIALLY_RANKED, 1, &[1, 2], &[2, 1], greater),
+        ],
+    )
+}
+
+/// One order ignores the first of two fields, and the other order says nothing.
+const IGNORED: &str = "#[educe(PartialOrd, Ord)] struct S { #[educe(Ord(ignore))] a: u8, b: u8 }";
+
+/// The same of the other order.
+const PARTIALLY_IGNORED: &str =
+    "#[educe(PartialOrd, Ord)] struct S { #[educe(PartialOrd = false)] a: u8, b: u8 }";
+
+#[test]
+fn each_order_ignores_what_the_other_does(rt: HostRuntime) -> Result<(), Fail> {
+    let partly_equal = Outcome::PartialOrder(Some(Ordering::Equal));
     let equal = Outcome::Order(Ordering::Equal);
     check(
         rt.alloc(),
         &[],
         &[
-            (by_cmp, 0, &[1, 2], &[2, 1], greater),
-            (by_partial_cmp, 1, &[1, 2], &[2, 2], equal),
+            (IGNORED, 0, &[1, 2], &[2, 2], partly_equal),
+            (IGNORED, 1, &[1, 2], &[2, 2], equal),
+            (PARTIALLY_IGNORED, 0, &[1, 2], &[2, 2], partly_equal),
+            (PARTIALLY_IGNORED, 1, &[1, 2], &[2, 2], equal),
+        ],
+    )
+}
+
+/// Each order has settings of its own for the first of two fields.
+const BOTH: &str =
+    "#[educe(PartialOrd, Ord)] struct S { #[educe(PartialOrd(ignore), Ord(rank = 1))] a: u8, b: u8 }";
+
+/// One order has a rank for the first of two fields, and the other says that the field is kept.
+const KEPT: &str =
+    "#[educe(PartialOrd, Ord)] struct S { #[educe(PartialOrd(rank = 1))] #[educe(Ord = true)] a: u8, b: u8 }";
+
+#[test]
+fn settings_of_an_order_exclude_those_of_the_other(rt: HostRuntime) -> Result<(), Fail> {
+    let partly_equal = Outcome::PartialOrder(Some(Ordering::Equal));
+    let partly_greater = Outcome::PartialOrder(Some(Ordering::Greater));
+    let less = Outcome::Order(Ordering::Less);
+    check(
+        rt.alloc(),
+        &[],
+        &[
+            (BOTH, 0, &[1, 2], &[2, 2], partly_equal),
+            (BOTH, 1, &[1, 2], &[2, 2], less),
+            (KEPT, 0, &[1, 2], &[2, 1], partly_greater),
+            (KEPT, 1, &[1, 2], &[2, 1], less),
         ],
     )
 }

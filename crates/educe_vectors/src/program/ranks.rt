@@ -36,11 +36,11 @@ fn ranks_have_64_bits(rt: HostRuntime) -> Result<(), Fail> {
         &[
             (
                 "#[educe(Ord)] struct S { #[educe(Ord(rank = 9223372036854775808))] a: u8, b: u8 }",
-                "1:1: not built yet\n",
+                "1:45: expected `rank = integer`\n",
             ),
             (
                 "#[educe(Ord)] struct S { #[educe(Ord(rank = -9223372036854775809))] a: u8, b: u8 }",
-                "1:1: not built yet\n",
+                "1:45: expected `rank = integer`\n",
             ),
         ],
     )

@@ -1,7 +1,7 @@
 //! The attributes of a type that allow the trait alone and `bound` (documentation of `educe`, Bounds).
 
 use crate::answers::{Case, check_metas};
-use educe_attrs_builders::{clone, copy, eq, hash, ord, partial_eq, partial_ord};
+use educe_attrs::{clone, copy, eq, hash, ord, partial_eq, partial_ord};
 use std::test::Fail;
 
 const BOUND_MISSING: &str =

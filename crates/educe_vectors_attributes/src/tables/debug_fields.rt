@@ -2,8 +2,8 @@
 
 use crate::answers::{Case, check_fields, check_metas};
 use crate::builders::{debug_field, debug_field_named};
-use educe_attrs_builders::debug;
-use educe_attrs_builders::debug::FieldName;
+use educe_attrs::debug;
+use educe_attrs::debug::FieldName;
 use educe_bound::Trait;
 use std::test::Fail;
 

@@ -2,8 +2,8 @@
 
 use crate::answers::{Case, check_metas, check_types};
 use crate::builders::{debug_enum, debug_named, debug_struct, debug_variant};
-use educe_attrs_builders::debug;
-use educe_attrs_builders::debug::TypeName;
+use educe_attrs::debug;
+use educe_attrs::debug::TypeName;
 use educe_bound::Trait;
 use std::test::Fail;
 

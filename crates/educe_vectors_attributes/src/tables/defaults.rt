@@ -2,7 +2,7 @@
 
 use crate::answers::{Case, check_metas, check_types};
 use crate::defaults::{check_default_places, check_defaults, check_values};
-use educe_attrs_builders::default;
+use educe_attrs::default;
 use educe_bound::Trait;
 use std::test::Fail;
 

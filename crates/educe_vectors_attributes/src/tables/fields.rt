@@ -2,7 +2,7 @@
 //! PartialEq; Hash).
 
 use crate::answers::{Case, check_metas};
-use educe_attrs_builders::{clone, copy, eq, hash, partial_eq};
+use educe_attrs::{clone, copy, eq, hash, partial_eq};
 use std::test::Fail;
 
 static CLONE: [Case; 12] = [

@@ -3,8 +3,8 @@
 
 use crate::answers::{Case, check_fields, check_types};
 use crate::listings::{check_listings, check_whole};
-use educe_attrs_builders::{clone, copy, hash};
-use educe_bound::Trait;
+use educe_attrs::{clone, copy, hash};
+use educe_bound::{Trait, all_listed, each_once, is_listed};
 use std::test::Fail;
 
 static TYPES: [Case; 12] = [
@@ -167,7 +167,7 @@ static NOT_LISTED: [Case; 2] = [
     ("#[educe(Clone)]", "1:9", "the trait `Clone` is not used"),
 ];
 
-static FIELDS: [Case; 10] = [
+static FIELDS: [Case; 13] = [
     ("", "", "kept; no method"),
     ("#[educe(Hash(ignore))]", "", "ignored; no method"),
     (
@@ -176,10 +176,21 @@ static FIELDS: [Case; 10] = [
         "ignored; no method",
     ),
     (
+        "#[educe()] #[educe[Hash(ignore,),]]",
+        "",
+        "ignored; no method",
+    ),
+    (
+        "#[educe = 1] #[a::b = 1 + 1] #[r#educe] #[educe::educe(x)] #[educe(Hash(ignore))]",
+        "",
+        "ignored; no method",
+    ),
+    (
         "#[educe(PartialEq(foo))] #[educe(Hash(method = f))]",
         "",
         "kept; method f",
     ),
+    ("#[educe(Hash(ignore);)]", "1:21", "syntax error"),
     (
         "#[educe(Hash(ignore))] #[educe(Hash 1)]",
         "1:37",
@@ -340,7 +351,7 @@ fn copy_in_the_attributes_of_a_field(rt: HostRuntime) -> Result<(), Fail> {
     )
 }
 
-static LISTINGS: [Case; 19] = [
+static LISTINGS: [Case; 22] = [
     ("#[educe(Ord)]", "", "Ord "),
     (
         "#[educe(Ord, PartialOrd(bound(*)), Debug = 1)]",
@@ -360,6 +371,11 @@ static LISTINGS: [Case; 19] = [
     (
         "/// x
 #[educe(Ord(1 1))]",
+        "",
+        "Ord ",
+    ),
+    (
+        "#[derive] #[derive = 1] #[derive(Clone, a = 1)] #[r#derive[]] #[repr(C)] #[educe(Ord())]",
         "",
         "Ord ",
     ),
@@ -450,6 +466,21 @@ static LISTINGS: [Case; 19] = [
         "2:9",
         "the trait `Ord` is used repeatedly",
     ),
+    (
+        "#[educe(Ord, ::Ord)]",
+        "1:14",
+        "unsupported trait `::Ord`, available traits:
+    Debug
+    Clone
+    Copy
+    PartialEq
+    Eq
+    PartialOrd
+    Ord
+    Hash
+    Default",
+    ),
+    ("#[educe(,)]", "1:9", "syntax error"),
     ("#[educe(Ord Ord)]", "1:13", "syntax error"),
     ("#[educe(\"Ord\")]", "1:9", "syntax error"),
     (
@@ -467,4 +498,15 @@ fn types_list_traits(rt: HostRuntime) -> Result<(), Fail> {
 #[test]
 fn types_without_traits_are_refused_as_a_whole(rt: HostRuntime) -> Result<(), Fail> {
     check_whole(rt.alloc(), "#[educe()] struct S;")
+}
+
+#[test]
+fn traits_stand_in_lists(rt: HostRuntime) {
+    let all = Trait::VARIANTS;
+    assert!(rt; each_once(&all));
+    assert!(rt; !each_once(&[Trait::Ord, Trait::Hash, Trait::Ord]));
+    assert!(rt; all_listed(&all, &[Trait::Ord, Trait::Ord]));
+    assert!(rt; !all_listed(&[Trait::PartialOrd], &all));
+    assert!(rt; is_listed(&all, Trait::Default));
+    assert!(rt; !is_listed(&[Trait::PartialOrd, Trait::PartialEq], Trait::Ord));
 }

@@ -1,0 +1,297 @@
+//! Worked examples of texts with several causes of a refusal, and of forms that are not built yet. A
+//! cause of an earlier phase is reported before one of a later phase: the text, the names, what the
+//! type lists, the form, the attributes.
+
+use super::{Answer, Example};
+use crate::examples::checks::check_all;
+use std::test::Fail;
+
+/// The line of a definition that is not built yet.
+const NOT_BUILT: &str = "1:1: not built yet\n";
+
+/// The lines of a type that lists a trait of another name, lists a trait twice, and has an attribute
+/// that is no list.
+const LISTED: [&str; 3] = [
+    "1:9: unsupported trait `Foo`, available traits:
+    Debug
+    Clone
+    Copy
+    PartialEq
+    Eq
+    PartialOrd
+    Ord
+    Hash
+    Default
+",
+    "1:19: the trait `Ord` is used repeatedly\n",
+    "1:27: you are using an incorrect format of the `educe` attribute, which should be reformatted as follows:
+    #[educe(Trait1, Trait2, ..., TraitN)]
+",
+];
+
+/// The lines of fields with a parameter of another name, a rank that is no integer, a trait that is
+/// not listed, and one that is not supported.
+const SAID: [&str; 4] = [
+    "1:34: you are using an incorrect format of the `Ord` attribute, which should be reformatted as follows:
+    #[educe(Ord = false)]
+    #[educe(Ord(ignore))]
+    #[educe(Ord(method(path_to_method)))]
+    #[educe(Ord(rank = integer))]
+",
+    "1:50: expected `rank = integer`\n",
+    "1:54: the trait `Hash` is not used\n",
+    "1:76: unsupported trait `Foo`, available traits:
+    Debug
+    Clone
+    Copy
+    PartialEq
+    Eq
+    PartialOrd
+    Ord
+    Hash
+    Default
+",
+];
+
+/// The lines of ranks that are used again in both orders.
+const RANKS: [&str; 2] = [
+    "1:110: the rank `1` is repeatedly used\n",
+    "1:125: the rank `2` is repeatedly used\n",
+];
+
+/// The line of a trait that is not supported, at an enum.
+const FOO: &str = "1:9: unsupported trait `Foo`, available traits:
+    Debug
+    Clone
+    Copy
+    PartialEq
+    Eq
+    PartialOrd
+    Ord
+    Hash
+    Default
+";
+
+/// The line of the trait alone at a field.
+const BARE: &str =
+    "1:34: you are using an incorrect format of the `Ord` attribute, which should be reformatted as follows:
+    #[educe(Ord = false)]
+    #[educe(Ord(ignore))]
+    #[educe(Ord(method(path_to_method)))]
+    #[educe(Ord(rank = integer))]
+";
+
+/// The line of a parameter of another name, of one of two orders.
+const ONE_ORDER: &str =
+    "1:46: you are using an incorrect format of the `PartialOrd` attribute, which should be reformatted as follows:
+    #[educe(PartialOrd = false)]
+    #[educe(PartialOrd(ignore))]
+    #[educe(PartialOrd(method(path_to_method)))]
+    #[educe(PartialOrd(rank = integer))]
+";
+
+static SEVERAL: [Example; 15] = [
+    (
+        "two types that are none",
+        "struct S { a: impl X, b: impl Y }",
+        Answer::Line("1:15: syntax error\n"),
+    ),
+    (
+        "two names given twice",
+        "#[educe(PartialEq)] struct S { a: u8, b: u8, a: u8, b: u8 }",
+        Answer::Line("1:46: the name `a` is defined more than once\n"),
+    ),
+    (
+        "three faults of a listing",
+        "#[educe(Foo, Ord, Ord)] #[educe] struct S { a: u8 }",
+        Answer::OneOf(&LISTED),
+    ),
+    (
+        "four faults of fields",
+        "#[educe(Ord)] struct S { #[educe(Ord(foo, rank = x), Hash)] a: u8, #[educe(Foo)] b: u8 }",
+        Answer::OneOf(&SAID),
+    ),
+    (
+        "a field whose rank is not read has none",
+        "#[educe(Ord)] struct S { #[educe(Ord)] a: u8, #[educe(Ord(rank = -9223372036854775808))] b: u8 }",
+        Answer::Line(BARE),
+    ),
+    (
+        "a fault of one order, where the other one is right",
+        "#[educe(PartialOrd, Ord)] struct S { #[educe(PartialOrd(foo), Ord(rank = 1))] a: u8 }",
+        Answer::Line(ONE_ORDER),
+    ),
+    (
+        "a rank used again in both orders",
+        "#[educe(PartialOrd, Ord)] struct S { #[educe(PartialOrd(rank = 1), Ord(rank = 2))] a: u8, #[educe(PartialOrd(rank = 1), Ord(rank = 2))] b: u8 }",
+        Answer::OneOf(&RANKS),
+    ),
+    (
+        "the text comes first",
+        "#[educe(Ord, Ord)] struct S<T> { #[educe(Ord)] a: u8, a: impl X }",
+        Answer::Line("1:58: syntax error\n"),
+    ),
+    (
+        "then the names",
+        "#[educe(Ord, Ord)] struct S<T> { #[educe(Ord)] a: u8, a: u8 }",
+        Answer::Line("1:55: the name `a` is defined more than once\n"),
+    ),
+    (
+        "then what the type lists",
+        "#[educe(Ord, Ord)] struct S<T> { #[educe(Ord)] a: u8, b: u8 }",
+        Answer::Line("1:14: the trait `Ord` is used repeatedly\n"),
+    ),
+    (
+        "then the form",
+        "#[educe(Ord)] struct S<T> { #[educe(Ord)] a: u8, b: u8 }",
+        Answer::Line(NOT_BUILT),
+    ),
+    (
+        "then the attributes",
+        "#[educe(Ord)] struct S { #[educe(Ord)] a: u8, b: u8 }",
+        Answer::Line(BARE),
+    ),
+    (
+        "and then nothing",
+        "#[educe(Ord)] struct S { a: u8, b: u8 }",
+        Answer::Expanded,
+    ),
+    (
+        "a trait that is not supported, of an enum",
+        "#[educe(Foo)] enum E { A }",
+        Answer::Line(FOO),
+    ),
+    (
+        "a trait twice, of a struct with parameters",
+        "#[educe(Clone, Clone)] struct S<T>(T);",
+        Answer::Line("1:16: the trait `Clone` is used repeatedly\n"),
+    ),
+];
+
+static NOT_BUILT_YET: [Example; 23] = [
+    (
+        "an enum",
+        "#[educe(PartialEq)] enum E { A, B }",
+        Answer::Line(NOT_BUILT),
+    ),
+    (
+        "a type parameter",
+        "#[educe(PartialEq)] struct S<T> { a: T }",
+        Answer::Line(NOT_BUILT),
+    ),
+    (
+        "a lifetime parameter",
+        "#[educe(PartialEq)] struct S<'a> { a: &'a u8 }",
+        Answer::Line(NOT_BUILT),
+    ),
+    (
+        "a predicate",
+        "#[educe(PartialEq)] struct S where u8: Copy { a: u8 }",
+        Answer::Line(NOT_BUILT),
+    ),
+    (
+        "a packed struct",
+        "#[educe(PartialEq)] #[repr(packed)] struct S { a: u8 }",
+        Answer::Line(NOT_BUILT),
+    ),
+    (
+        "a struct packed by two",
+        "#[repr(C, packed(2))] #[educe(PartialEq)] struct S { a: u8 }",
+        Answer::Line(NOT_BUILT),
+    ),
+    (
+        "another trait",
+        "#[educe(Debug)] struct S { a: u8 }",
+        Answer::Line(NOT_BUILT),
+    ),
+    (
+        "another trait beside one that is built",
+        "#[educe(PartialEq)] #[educe(Eq)] struct S { a: u8 }",
+        Answer::Line(NOT_BUILT),
+    ),
+    (
+        "a method",
+        "#[educe(PartialEq)] struct S { #[educe(PartialEq(method = a::b))] a: u8 }",
+        Answer::Line(NOT_BUILT),
+    ),
+    (
+        "a method of an order",
+        "#[educe(Ord)] struct S { #[educe(Ord(rank = 1, method(f)))] a: u8 }",
+        Answer::Line(NOT_BUILT),
+    ),
+    (
+        "a method that no trait reads",
+        "#[educe(PartialEq)] struct S { #[educe(Hash(method = f))] a: u8 }",
+        Answer::Line(NOT_BUILT),
+    ),
+    (
+        "the word of a method as a value",
+        "#[educe(PartialEq)] struct S { #[educe(PartialEq(ignore = method))] a: u8 }",
+        Answer::Line(NOT_BUILT),
+    ),
+    (
+        "the word of a method inside a list that is no list of metas",
+        "#[educe(PartialEq)] struct S { #[educe((method))] a: u8 }",
+        Answer::Line(NOT_BUILT),
+    ),
+    (
+        "bounds",
+        "#[educe(PartialEq(bound(*)))] struct S { a: u8 }",
+        Answer::Line(NOT_BUILT),
+    ),
+    (
+        "no bounds",
+        "#[educe(Ord(bound = false))] struct S { a: u8 }",
+        Answer::Line(NOT_BUILT),
+    ),
+    (
+        "bounds at a field",
+        "#[educe(Ord)] struct S { #[educe(Ord(bound = false))] a: u8 }",
+        Answer::Line(NOT_BUILT),
+    ),
+    (
+        "the second value's name as a field",
+        "#[educe(PartialEq)] struct S { other: u8 }",
+        Answer::Line(NOT_BUILT),
+    ),
+    (
+        "the second value's name behind `r#`",
+        "#[educe(PartialEq)] struct S { a: r#other }",
+        Answer::Line(NOT_BUILT),
+    ),
+    (
+        "the second value's name as a lifetime",
+        "#[educe(PartialEq)] struct S { a: &'other u8 }",
+        Answer::Line(NOT_BUILT),
+    ),
+    (
+        "the second value's name in documentation",
+        "#[educe(PartialEq)] /** the other one */ struct S { a: u8 }",
+        Answer::Line(NOT_BUILT),
+    ),
+    (
+        "the second value's name in a string",
+        "#[educe(PartialEq)] struct S { #[note = \"an other\"] a: u8 }",
+        Answer::Line(NOT_BUILT),
+    ),
+    (
+        "the second value's name as a rank",
+        "#[educe(Ord)] struct S { #[educe(Ord(rank = \"other\"))] a: u8 }",
+        Answer::Line(NOT_BUILT),
+    ),
+    (
+        "the second value's name in a lint attribute",
+        "#[allow(other)] #[educe(PartialEq)] struct S { a: u8 }",
+        Answer::Line(NOT_BUILT),
+    ),
+];
+
+#[test]
+fn one_of_several_causes_is_reported(rt: HostRuntime) -> Result<(), Fail> {
+    check_all(rt.alloc(), &SEVERAL)
+}
+
+#[test]
+fn what_is_not_built_yet_is_refused(rt: HostRuntime) -> Result<(), Fail> {
+    check_all(rt.alloc(), &NOT_BUILT_YET)
+}
