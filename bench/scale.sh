@@ -6,7 +6,7 @@
 # Makes inputs of 16, 32, 64 and 128 KiB of each shape, or of those that are named, runs the built program on each, and prints a
 # line for each: the bytes, the least seconds of five runs and the peak memory in MB, with valgrind also the
 # millions of instructions, and the ratios to the line before. A ratio of instructions above 2.2 is marked. Some
-# shapes are texts that are refused, once they have been read as tokens.
+# shapes are texts that are refused, once they have been read as tokens, or as definitions with attributes.
 set -eu
 program=${1:?usage: bench/scale.sh PROGRAM [SHAPE..]}
 shift
@@ -39,6 +39,10 @@ def ranked(traits):
     own = traits.split(",")[-1]
     return lambda size: filled(size, traits, lambda n: f"#[educe({own}(rank=-{n}))]f{n}:u8,")
 
+def settings(n):
+    """A field with settings for three traits."""
+    return f"#[educe(PartialEq(ignore=false),PartialOrd(rank={n}))]#[educe(Ord(ignore=false,rank=\"-{n}\"))]f{n}:u8,"
+
 def blanks(size):
     """A small struct behind blanks."""
     text = "#[educe(PartialEq)] struct S { a: u8 }"
@@ -52,6 +56,11 @@ def repeated(front, part, back):
     return make
 
 SMALL = "#[educe(PartialEq)] struct S { a: u8 }"
+THREE = "#[educe(PartialEq,PartialOrd,Ord)] struct S { a: u8 }"
+
+def at_a_field(front, part, back):
+    """A field whose attributes hold as many equal parts as fit."""
+    return repeated("#[educe(Ord)] struct S { " + front, part, back + " a: u8 }")
 
 def script_names(size):
     """Long names in another script."""
@@ -88,6 +97,22 @@ shapes = [
     ("ord", ranked("Ord")),
     ("partial_ord", ranked("PartialOrd")),
     ("all", ranked("PartialEq,PartialOrd,Ord")),
+    ("fallbacks", ranked("PartialOrd,Ord")),
+    ("settings", lambda size: filled(size, "PartialEq,PartialOrd,Ord", settings)),
+    ("equal_ranks", lambda size: filled(size, "Ord", lambda n: f"#[educe(Ord(rank=1))]f{n}:u8,")),
+    ("lints", repeated("", "#[expect(a, b::c)] ", THREE)),
+    ("lists", repeated("", "#[educe()] ", THREE)),
+    ("field_lists", at_a_field("", "#[educe()]", "#[educe(Ord(rank=1))]")),
+    ("repr", repeated("#[repr(C,", "align(8),", "C)]" + SMALL)),
+    ("type_list", repeated("#[educe(", "Ord(a = b),", "Ord)] struct S;")),
+    ("type_path", repeated("#[educe(a", "::a", ")] struct S;")),
+    ("params", at_a_field("#[educe(Ord(", "ignore,rank=1,", "))]")),
+    ("other_param", at_a_field("#[educe(Ord(a", "::a", "=1))]")),
+    ("value", at_a_field("#[educe(Ord(rank=f(", "1,", ")))]")),
+    ("zeros", at_a_field("#[educe(Ord(rank=\"", "0", "1\"))]")),
+    ("digits", at_a_field("#[educe(Ord(rank=\"", "9", "\"))]")),
+    ("last_word", at_a_field("#[educe(Ord(", "rank=1,", "method))]")),
+    ("last_fault", at_a_field("#[educe(Ord(", "rank=1,", ";))]")),
     ("long_names", long_names),
     ("blanks", blanks),
     ("small_tokens", repeated("", "a+1;'b\"\".", "")),
@@ -110,7 +135,7 @@ ratio() {
 }
 
 printf '%-12s %7s %8s %7s %10s %7s %9s\n' shape bytes seconds ratio 'Minstr' ratio 'peak MB'
-[ $# -gt 0 ] || set -- fields variants deep_type generics predicates chains attributes own ord partial_ord all long_names blanks small_tokens comment nested string raw_string brackets script
+[ $# -gt 0 ] || set -- fields variants deep_type generics predicates chains attributes own ord partial_ord all fallbacks settings equal_ranks lints lists field_lists repr type_list type_path params other_param value zeros digits last_word last_fault long_names blanks small_tokens comment nested string raw_string brackets script
 for name in "$@"; do
   seconds_before=0
   count_before=0
