@@ -2,8 +2,7 @@
 //! `educe`, Clone).
 
 use crate::examples::checks::cites;
-use educe_attrs::{TypeBuilder, clone};
-use educe_bound::Trait;
+use educe_attrs::{Trait, TypeBuilder, clone};
 use educe_syntax::{Attributes, DeriveInput, Shape};
 use educe_tokens::{EduceError, Kind, Span};
 use educe_vectors_checks::{check_at, definition};
