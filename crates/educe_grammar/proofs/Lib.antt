@@ -39,7 +39,9 @@ pub mod ScopeApart
 pub mod ReadsAgain
 pub mod Unions
 pub mod Refusals
+pub mod Each
 pub mod Repeats
+pub mod Inherited
 pub mod Placed
 pub mod Reported
 pub mod FewNames

@@ -8,6 +8,7 @@ use Rattle.std.proofs.lemmas.Slice.Eq.{bytes_eq-Decides}
 use Rattle.educe_tree.specs.declared.derive.DeriveInput.{DeriveInput}
 use Rattle.educe_tree.specs.Names.{unraw}
 use Rattle.educe_grammar.specs.Naming.{Named, scopes, AreApart, AreNamesApart, IsRepeated, IsRepeatedIn, IsEarliest, AreBehind, AreNotBefore}
+use Rattle.educe_grammar.proofs.Each.{all_append, all_more}
 use Rattle.educe_grammar.proofs.Repeated.{never_apart, one_repeated}
 
 -- ---- lists
@@ -16,16 +17,6 @@ use Rattle.educe_grammar.proofs.Repeated.{never_apart, one_repeated}
 pub all_with_last : {A : Type 0} (P : A → Type 0) (xs : List A) (x : A) → AllByRecursion P xs → P x → AllByRecursion P (xs ++ x ∷ [])
 all_with_last P [] x all last = (last, tt)
 all_with_last P (y ∷ ys) x all last = (all.0, all_with_last P ys x all.1 last)
-
--- what holds of each of two lists
-all_append : {A : Type 0} (P : A → Type 0) (xs ys : List A) → AllByRecursion P xs → AllByRecursion P ys → AllByRecursion P (xs ++ ys)
-all_append P [] ys all more = more
-all_append P (x ∷ xs) ys all more = (all.0, all_append P xs ys all.1 more)
-
--- what follows holds of each
-all_more : {A : Type 0} (P Q : A → Type 0) → ((x : A) → P x → Q x) → (xs : List A) → AllByRecursion P xs → AllByRecursion Q xs
-all_more P Q more [] all = tt
-all_more P Q more (x ∷ xs) all = (more x all.0, all_more P Q more xs all.1)
 
 -- ---- names of one list
 

@@ -22,3 +22,4 @@ pub mod Placed
 pub mod Few
 pub mod Alike
 pub mod Causes
+pub mod Within

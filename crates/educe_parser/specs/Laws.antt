@@ -1,4 +1,4 @@
--- The laws of parsing: of the rules that the calls read by, of definitions, of places and of types.
+-- The laws of parsing: of the rules that the calls read by, of definitions, of places, of parts and of types.
 use Rattle.std.specs.Prelude.{◌≡◌, ◌⊎◌, ◌↔◌, ℕ, List, [], true, Ok}
 use Rattle.std.specs.List.{AllByRecursion}
 use Rattle.std.proofs.Common.{sym, subst}
@@ -23,10 +23,11 @@ use Rattle.educe_grammar.specs.Refusal.{IsDefinition, IsRefusalOf}
 use Rattle.educe_grammar.specs.Rules.{Rule}
 use Rattle.educe_grammar.specs.Steps.{Tokens}
 use Rattle.educe_grammar.specs.Types.{any_type}
+use Rattle.educe_grammar.specs.Within.{PartLaws}
 use Rattle.educe_grammar.proofs.AlikeByTokens as alike
 use Rattle.educe_grammar.proofs.Decided as decided
 use Rattle.educe_grammar.proofs.Opening.{is_ready}
-use Rattle.educe_grammar.proofs.Placed.{definition_stands, metas_stand}
+use Rattle.educe_grammar.proofs.Placed.{definition_stands, shape_within, attrs_within, definition_tokens, metas_stand, metas_within, path_tokens}
 use Rattle.educe_grammar.proofs.ReadsAgain as again
 use Rattle.educe_grammar.proofs.Ready as ready
 use Rattle.educe_grammar.proofs.Refusals as refusals
@@ -129,6 +130,18 @@ start_has P tokens span each is = subst (λ (s : Span). P s.start) (sym is.is) (
 -- what holds where each token ends holds where a span ends
 pub end_has : (P : ℕ → Type 0) (tokens : Tokens) (span : Span) → AllByRecursion (λ (t : Token). P t.span.end) tokens → IsSpan tokens span → P span.end
 end_has P tokens span each is = subst (λ (s : Span). P s.end) (sym is.is) (place_has (λ s. P s.end) tokens is.last each is.last_stands)
+
+-- ---- parts
+
+-- the tokens of a part are tokens of the whole
+pub lawful_parts : PartLaws
+lawful_parts = record {
+  definition = shape_within;
+  attrs = attrs_within;
+  definition_tokens = definition_tokens;
+  metas = metas_within;
+  path = path_tokens;
+}
 
 -- ---- types
 

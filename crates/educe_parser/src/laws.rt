@@ -4,6 +4,7 @@ ghost use Rattle.educe_grammar.specs.Definitions as definitions;
 ghost use Rattle.educe_grammar.specs.Expressions as expressions;
 ghost use Rattle.educe_grammar.specs.Generics as generics;
 ghost use Rattle.educe_grammar.specs.Names as names;
+ghost use Rattle.educe_grammar.specs.Within.{PartLaws};
 ghost use Rattle.educe_parser.specs.Laws.{RuleLaws, DefinitionLaws, PlaceLaws, TypeLaw};
 
 /// Each list of tokens has one reading by a rule, or one cause why it has none; never both.
@@ -24,6 +25,11 @@ pub fn definition_laws()
 /// What is read stands where its tokens do.
 pub fn place_laws()
     ensures { PlaceLaws }
+{}
+
+/// The tokens of a part are tokens of the whole that it is read from.
+pub fn part_laws()
+    ensures { PartLaws }
 {}
 
 /// A type depends on the kinds and spellings of its tokens alone.

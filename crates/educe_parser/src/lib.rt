@@ -13,4 +13,4 @@ mod whole;
 pub use calls::{
     parse_derive_input, parse_expr, parse_ident, parse_metas, parse_path, parse_predicates,
 };
-pub use laws::{definition_laws, place_laws, rule_laws, type_laws};
+pub use laws::{definition_laws, part_laws, place_laws, rule_laws, type_laws};

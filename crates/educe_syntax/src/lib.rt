@@ -5,7 +5,7 @@
 pub use educe_grammar::Terminal;
 pub use educe_parser::{
     definition_laws, parse_derive_input, parse_expr, parse_ident, parse_metas, parse_path,
-    parse_predicates, place_laws, rule_laws, type_laws,
+    parse_predicates, part_laws, place_laws, rule_laws, type_laws,
 };
 pub use educe_tree::{
     AngleArg, AngleArgs, Args, AsWritten, Attribute, Attributes, ConstParam, DeriveInput,
