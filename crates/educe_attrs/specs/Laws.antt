@@ -5,12 +5,18 @@ use Rattle.educe_bound.specs.declared.traits.Trait.{Trait}
 use Rattle.educe_attrs_places.specs.Causes.{NoCause}
 use Rattle.educe_attrs_places.specs.Phases.{Handling, OfHandler, OfLast}
 use Rattle.educe_attrs_places.specs.Reports.{ReportLaws}
+use Rattle.educe_attrs_places.specs.SettingLaws.{SettingLaws}
 use Rattle.educe_attrs_places.proofs.Phased as phased
 use Rattle.educe_attrs_places.proofs.Reported as reported
+use Rattle.educe_attrs_places.proofs.Settled as settled
 
 -- errors of attributes have messages, and start at boundaries of tokens
 pub lawful_reports : ReportLaws
 lawful_reports = reported.lawful_reports
+
+-- where attributes have no cause, the settings are what they say; the text of a method is among their tokens, or it is that of a string among these
+pub lawful_settings : SettingLaws
+lawful_settings = settled.lawful_settings
 
 -- where no handler of a listed trait has a cause, and there is one, the last phase has none
 pub all_handled : (h : Handling) (listed : List Trait) (some : Trait) → Contains listed some

@@ -31,6 +31,8 @@ pub use Rattle.educe_attrs_places.specs.Lists
 pub use Rattle.educe_attrs_places.specs.Said
 pub use Rattle.educe_attrs_places.specs.Places
 pub use Rattle.educe_attrs_places.specs.Fields
+pub use Rattle.educe_attrs_places.specs.Methods
+pub use Rattle.educe_attrs_places.specs.SettingLaws
 pub use Rattle.educe_attrs_places.specs.Listing
 pub use Rattle.educe_attrs_places.specs.Phases
 -- Errors: their messages, and where they start.

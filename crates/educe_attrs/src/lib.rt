@@ -26,8 +26,8 @@ pub use educe_attrs_generated::{
     auto_adjust_expr, generated_impl_attributes, generated_lint_attributes, is_packed,
 };
 pub use educe_attrs_places::{
-    FieldSettings, field_settings, is_educe, place_settings, report_laws, settings_of_fields,
-    type_listing,
+    FieldSettings, field_settings, is_educe, place_settings, report_laws, setting_laws,
+    settings_of_fields, type_listing,
 };
 pub use educe_attrs_rows::{Equals, NameKind, Param, Rank, Row, Values, read_meta};
 pub use educe_attrs_values::{

@@ -1,12 +1,12 @@
 -- The settings of a trait at a field, as they are read.
-use Rattle.std.proofs.Common.{◌≡◌, List, [], refl, sym, subst, ◌∙◌, ap, Option, Some, None, Result, Ok, Err, ◌⊎◌, inl, inr}
+use Rattle.std.proofs.Common.{◌≡◌, List, refl, sym, subst, ◌∙◌, ap, Option, Some, None, Result, Ok, Err, inl, inr}
 use Rattle.std.specs.Prelude.{IfOk, IfErr}
 use Rattle.std.specs.Result.{result_unwrap_or}
 use Rattle.educe_tokens.specs.declared.error.EduceError.{EduceError}
 use Rattle.educe_bound.specs.declared.traits.Trait.{Trait}
 use Rattle.educe_syntax.specs.Attribute.{Attribute}
 use Rattle.educe_syntax.specs.Meta.{Meta}
-use Rattle.educe_attrs_values.specs.Chains.{Gives, and_then, map_ok}
+use Rattle.educe_attrs_values.specs.Chains.{Gives, and_then}
 use Rattle.educe_attrs_values.specs.declared.stop.Stop.{Stop}
 use Rattle.educe_attrs_values.specs.declared.stop.Stop.TheVariants.{Memory, Refused}
 use Rattle.educe_attrs_rows.specs.declared.row.Row.{Row}
@@ -15,9 +15,10 @@ use Rattle.educe_attrs_rows.specs.Settings.{no_values}
 use Rattle.educe_attrs_places.specs.declared.place.FieldSettings.{FieldSettings}
 use Rattle.educe_attrs_places.specs.Causes.{OfStop, NoCause}
 use Rattle.educe_attrs_places.specs.Lists.{AreMetas}
-use Rattle.educe_attrs_places.specs.Said.{listed_metas, read_one, IsUnsaid, IsSaidCause}
-use Rattle.educe_attrs_places.specs.Places.{fallback, own_settings, or_taken, read_other, or_other, read_among, read_field, field_settings, IsFieldSaid, IsFieldCause, OfField}
-use Rattle.educe_attrs_places.proofs.SaidLaws.{said_cause, said_uncaused, says_there, is_unsaid, not_unsaid, AreListed, metas_listed, said_listed, listed_cause, listed_uncaused}
+use Rattle.educe_attrs_places.specs.Said.{listed_metas, read_one, IsUnsaid, SaysThere, IsSaidCause}
+use Rattle.educe_attrs_places.specs.Places.{fallback, own_settings, taken, or_taken, read_other, or_other, read_among, read_field, field_settings, IsFieldSaid, IsFieldCause, OfField}
+use Rattle.educe_attrs_places.proofs.Decided.{IsDecided, field_decided}
+use Rattle.educe_attrs_places.proofs.SaidLaws.{said_cause, said_uncaused, says_there, is_unsaid, not_unsaid, said_read, AreListed, metas_listed, said_listed, listed_cause, listed_uncaused}
 use Rattle.educe_attrs_rows.proofs.Chained.{ok_one, err_one, chained, mapped, mapped_err}
 
 module _ (which : Trait) (row : Row) (listed : List Trait) (attributes : List Attribute) where
@@ -91,6 +92,45 @@ module _ (which : Trait) (row : Row) (listed : List Trait) (attributes : List At
         let r = chained (or_other which row listed found) (read_one which row found None) v h in
         said_as v r.0 r.1 r.2
 
+    -- ---- nothing else is said
+
+    own_only : (w : FieldSettings) (o : Option Values) → read_one which row found None ≡ Ok o → or_other which row listed found o ≡ Ok w → (v : Values) → SaysThere which row attributes v → own_settings v ≡ w
+    own_only w o read h v says = ok_one (sym (ap (or_other which row listed found) (said_read which row attributes found are o read v says)) ∙ h)
+
+    -- where the trait is not said, what is read is that of the other order
+    not_own : (w : FieldSettings) (o : Option Values) → read_one which row found None ≡ Ok o → or_other which row listed found o ≡ Ok w → IsUnsaid which attributes
+        → read_other which row found (fallback which listed) ≡ Ok w
+    not_own w None read h unsaid = h
+    not_own w (Some v) read h unsaid = absurd (not_unsaid which row attributes found are v read unsaid)
+
+    other_only : (w : FieldSettings) (other : Trait) → read_other which row found (Some other) ≡ Ok w → (v : Values) → SaysThere other row attributes v → taken which v ≡ w
+    other_only w other h v says =
+        let r = mapped (or_taken which) (read_one other row found None) w h in
+        ap (or_taken which) (sym (said_read other row attributes found are r.0 r.1 v says)) ∙ r.2
+
+    none_taken : (other : Trait) (o : Option Values) → read_one other row found None ≡ Ok o → IsUnsaid other attributes → or_taken which o ≡ own_settings no_values
+    none_taken other None read unsaid = refl
+    none_taken other (Some v) read unsaid = absurd (not_unsaid other row attributes found are v read unsaid)
+
+    none_only : (w : FieldSettings) (o : Option Trait) → fallback which listed ≡ o → read_other which row found o ≡ Ok w → ((other : Trait) → fallback which listed ≡ Some other → IsUnsaid other attributes)
+        → own_settings no_values ≡ w
+    none_only w None is h unsaid = ok_one h
+    none_only w (Some other) is h unsaid =
+        let r = mapped (or_taken which) (read_one other row found None) w h in
+        sym (none_taken other r.0 r.1 (unsaid other is)) ∙ r.2
+
+    among_only : (w : FieldSettings) → read_among which row listed found ≡ Ok w → (v : FieldSettings) → IsFieldSaid which row listed attributes v → v ≡ w
+    among_only w h v is = by_said v is
+      where
+        r : (o : Option Values) × (read_one which row found None ≡ Ok o) × (or_other which row listed found o ≡ Ok w)
+        r = chained (or_other which row listed found) (read_one which row found None) w h
+
+        by_said : (v : FieldSettings) → IsFieldSaid which row listed attributes v → v ≡ w
+        by_said _ (IsFieldSaid.own_said v says) = own_only w r.0 r.1 r.2 v says
+        by_said _ (IsFieldSaid.other_said other v other_is unsaid says) =
+            other_only w other (ap (read_other which row found) (sym other_is) ∙ not_own w r.0 r.1 r.2 unsaid) v says
+        by_said _ (IsFieldSaid.none_said unsaid others) = none_only w (fallback which listed) refl (not_own w r.0 r.1 r.2 unsaid) others
+
   -- ---- the whole place
 
   field_by : (e : EduceError) (r : Result (List Meta) Stop) → listed_metas listed attributes ≡ r → and_then (read_among which row listed) r ≡ Err (Refused e) → OfField which row listed attributes e
@@ -126,6 +166,32 @@ module _ (which : Trait) (row : Row) (listed : List Trait) (attributes : List At
   pub field_is : (v : FieldSettings) → read_field which row listed attributes ≡ Ok v → v ≡ field_settings which row listed attributes
   unfolding field_settings
   field_is v h = sym (ap (λ r. result_unwrap_or r (own_settings no_values)) h)
+
+  -- ---- the settings
+
+  read_by : NoCause (OfField which row listed attributes) → (r : Result FieldSettings Stop) → read_field which row listed attributes ≡ r → IsDecided r
+      → read_field which row listed attributes ≡ Ok (field_settings which row listed attributes)
+  read_by none (Ok v) is decided = is ∙ ap Ok (field_is v is)
+  read_by none (Err Memory) is decided = absurd decided
+  read_by none (Err (Refused e)) is decided = absurd (none.none_stands e (field_cause e is))
+
+  -- where no cause stands, they are read
+  settings_read : NoCause (OfField which row listed attributes) → read_field which row listed attributes ≡ Ok (field_settings which row listed attributes)
+  settings_read none = read_by none (read_field which row listed attributes) refl (field_decided listed which row attributes)
+
+  -- so they are what the metas say
+  pub settings_said : NoCause (OfField which row listed attributes) → IsFieldSaid which row listed attributes (field_settings which row listed attributes)
+  settings_said none = field_said (field_settings which row listed attributes) (settings_read none)
+
+  only_read : (w : FieldSettings) → read_field which row listed attributes ≡ Ok w → (v : FieldSettings) → IsFieldSaid which row listed attributes v → v ≡ w
+  unfolding read_field
+  only_read w h v is =
+      let metas = chained (read_among which row listed) (listed_metas listed attributes) w h in
+      among_only metas.0 (metas_listed listed attributes metas.0 metas.1) w metas.2 v is
+
+  -- and nothing else is
+  pub settings_only : NoCause (OfField which row listed attributes) → (v : FieldSettings) → IsFieldSaid which row listed attributes v → v ≡ field_settings which row listed attributes
+  settings_only none v is = only_read (field_settings which row listed attributes) (settings_read none) v is
 
   -- ---- the answer of a function that reads it
 

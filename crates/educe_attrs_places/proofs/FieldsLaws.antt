@@ -1,14 +1,17 @@
--- One of several fields is refused.
-use Rattle.std.proofs.Common.{◌≡◌, ℕ, zero, suc, ◌<◌, List, [], ◌∷◌, length, get_or, refl, sym, ap, arith}
+-- What is said at several fields, and that one of them is refused.
+use Rattle.std.proofs.Common.{◌≡◌, ℕ, zero, suc, ◌<◌, ◌≤◌, List, [], ◌∷◌, ◌++◌, length, get_or, drop, map, sym, subst, ◌∙◌, ap, append-nil, arith}
+use Rattle.std.proofs.lemmas.List.{drop_all}
 use Rattle.educe_bound.specs.declared.traits.Trait.{Trait}
 use Rattle.educe_syntax.specs.Field.{Field}
 use Rattle.educe_attrs_values.specs.declared.stop.Stop.{Stop}
 use Rattle.educe_attrs_values.specs.declared.stop.Stop.TheVariants.{Memory, Refused}
 use Rattle.educe_attrs_rows.specs.declared.row.Row.{Row}
 use Rattle.educe_attrs_rows.specs.Among.{IsAmong}
+use Rattle.educe_attrs_places.specs.declared.place.FieldSettings.{FieldSettings}
 use Rattle.educe_attrs_places.specs.Causes.{OfStop}
-use Rattle.educe_attrs_places.specs.Fields.{OfFields}
+use Rattle.educe_attrs_places.specs.Fields.{settings_at, AreFieldsSaid, OfFields, HaveNoCauses}
 use Rattle.educe_attrs_places.specs.Places.{OfField}
+use Rattle.educe_attrs_places.proofs.FieldLaws.{settings_said}
 use Rattle.educe_attrs_rows.proofs.Among.{among_more}
 
 -- the item at an index
@@ -21,3 +24,18 @@ pub cause_among : (which : Trait) (row : Row) (listed : List Trait) (fields : Li
     → OfStop (OfFields which row listed fields) s
 cause_among which row listed fields field among Memory cause = tt
 cause_among which row listed fields field among (Refused e) cause = (field, among, cause)
+
+-- where none is refused, the settings are what the attributes say
+pub fields_said : (which : Trait) (row : Row) (listed : List Trait) (fields : List Field) → HaveNoCauses which row listed fields
+    → AreFieldsSaid which row listed fields (map (settings_at which row listed) fields)
+fields_said which row listed [] none = tt
+fields_said which row listed (field ∷ fields) none = (settings_said which row listed field.attrs none.0, fields_said which row listed fields none.1)
+
+-- behind the last field, those that were read are
+pub all_said : (which : Trait) (row : Row) (listed : List Trait) (fields : List Field) (all : List FieldSettings) (i : ℕ) → length fields ≤ i
+    → all ++ map (settings_at which row listed) (drop i fields) ≡ map (settings_at which row listed) fields
+    → (HaveNoCauses which row listed (drop i fields) → HaveNoCauses which row listed fields) → AreFieldsSaid which row listed fields all
+all_said which row listed fields all i behind said uncaused =
+    let ended : drop i fields ≡ [] = drop_all i fields behind in
+    let whole : all ≡ map (settings_at which row listed) fields = sym (ap (λ more. all ++ map (settings_at which row listed) more) ended ∙ append-nil all) ∙ said in
+    subst (AreFieldsSaid which row listed fields) (sym whole) (fields_said which row listed fields (uncaused (subst (HaveNoCauses which row listed) (sym ended) tt)))

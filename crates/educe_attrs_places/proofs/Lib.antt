@@ -1,6 +1,8 @@
 pub mod Texts
 pub mod ListLaws
 pub mod NamedLaws
+pub mod Decided
+pub mod SaysOne
 pub mod SaidLaws
 pub mod PlaceLaws
 pub mod FieldLaws
@@ -8,3 +10,6 @@ pub mod FieldsLaws
 pub mod ListingLaws
 pub mod Phased
 pub mod Reported
+pub mod Strings
+pub mod Methods
+pub mod Settled

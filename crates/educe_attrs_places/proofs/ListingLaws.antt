@@ -1,7 +1,7 @@
 -- The traits that a type lists, and why its attributes are refused, as they are read.
 use Rattle.std.proofs.Common.{◌≡◌, ◌≢◌, ℕ, List, [], ◌∷◌, ◌++◌, refl, sym, subst, ◌∙◌, ap, append_assoc, append-nil, Bool, true, false, ◌||◌, Option, Some, None, Result, Ok, Err, ◌⊎◌, inl, inr}
 use Rattle.std.specs.Prelude.{if◌then◌else◌, IfOk, IfErr}
-use Rattle.std.specs.List.{filter_map, list_any, IsDistinct}
+use Rattle.std.specs.List.{filter_map, IsDistinct}
 use Rattle.std.specs.Result.{result_unwrap_or}
 use Rattle.std.proofs.lemmas.Bool.{false≢true}
 use Rattle.std.proofs.lemmas.List.Folds.{list_any-append}
@@ -10,8 +10,6 @@ use Rattle.std.proofs.lemmas.Cmp.{nat_eq_equiv}
 use Rattle.std.specs.Cmp.{IsEquivalence}
 use Rattle.educe_tokens.specs.declared.error.EduceError.{EduceError}
 use Rattle.educe_tokens.specs.declared.error.Kind.TheVariants.{UnsupportedTrait, ReuseATrait}
-use Rattle.educe_tokens.specs.declared.span.Span.{Span}
-use Rattle.educe_tokens.specs.declared.written.Written.{Written}
 use Rattle.educe_bound.specs.declared.traits.Trait.{Trait}
 use Rattle.educe_bound.specs.Named.{trait_named}
 use Rattle.educe_bound.specs.Traits.{is_listed, place, same_trait}
@@ -29,7 +27,7 @@ use Rattle.educe_attrs_values.specs.Refusals.{at_name}
 use Rattle.educe_attrs_places.specs.Causes.{OfStop, NoCause}
 use Rattle.educe_attrs_places.specs.Lists.{is_educe, all_metas, AreMetas}
 use Rattle.educe_attrs_places.specs.Named.{trait_of, is_trait, is_of, IsReused}
-use Rattle.educe_attrs_places.specs.Listing.{format_incorrect, not_set_up, checked_other, checked_list, checked_lists, with_trait, with_named, with_listed, traits_of, if_set_up, read_listing, listed_traits, IsListing, IsBareEduce, IsListingCause, IsNotSetUp, OfListing}
+use Rattle.educe_attrs_places.specs.Listing.{format_incorrect, checked_other, checked_list, checked_lists, with_trait, with_named, with_listed, traits_of, if_set_up, read_listing, listed_traits, IsListing, IsBareEduce, IsListingCause, IsNotSetUp, OfListing}
 use Rattle.educe_attrs_places.proofs.ListLaws.{metas_one, all_are, lists_cause, lists_uncaused, name_met, name_in}
 use Rattle.educe_bound.proofs.Apart.{same_is}
 use Rattle.educe_attrs_rows.proofs.Among.{among_none, among_first, among_more, among_cases}

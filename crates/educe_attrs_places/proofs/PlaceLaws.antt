@@ -1,5 +1,5 @@
 -- The settings of a trait at a type or a variant, as they are read.
-use Rattle.std.proofs.Common.{◌≡◌, List, [], refl, sym, subst, ◌∙◌, ap, Option, Some, None, Result, Ok, Err, ◌⊎◌, inl, inr}
+use Rattle.std.proofs.Common.{◌≡◌, List, refl, sym, subst, ◌∙◌, ap, Option, Some, None, Result, Ok, Err, inl, inr}
 use Rattle.std.specs.Prelude.{IfOk, IfErr}
 use Rattle.std.specs.Result.{result_unwrap_or}
 use Rattle.educe_tokens.specs.declared.error.EduceError.{EduceError}
@@ -16,7 +16,8 @@ use Rattle.educe_attrs_places.specs.Causes.{OfStop, NoCause}
 use Rattle.educe_attrs_places.specs.Lists.{AreMetas}
 use Rattle.educe_attrs_places.specs.Said.{listed_metas, read_one}
 use Rattle.educe_attrs_places.specs.Places.{or_nothing, read_place, place_settings, IsSaid, OfPlace}
-use Rattle.educe_attrs_places.proofs.SaidLaws.{said_cause, said_uncaused, says_there, is_unsaid, metas_listed, said_listed, listed_cause, listed_uncaused}
+use Rattle.educe_attrs_places.proofs.Decided.{IsDecided, place_decided}
+use Rattle.educe_attrs_places.proofs.SaidLaws.{said_cause, said_uncaused, says_there, is_unsaid, not_unsaid, said_read, metas_listed, said_listed, listed_cause, listed_uncaused}
 use Rattle.educe_attrs_rows.proofs.Chained.{err_one, chained, mapped, mapped_err}
 
 module _ (which : Trait) (row : Row) (listed : List Trait) (attributes : List Attribute) where
@@ -66,6 +67,39 @@ module _ (which : Trait) (row : Row) (listed : List Trait) (attributes : List At
   pub place_is : (v : Values) → read_place which row listed attributes ≡ Ok v → v ≡ place_settings which row listed attributes
   unfolding place_settings
   place_is v h = sym (ap (λ r. result_unwrap_or r no_values) h)
+
+  -- ---- the settings
+
+  read_by : NoCause (OfPlace which row listed attributes) → (r : Result Values Stop) → read_place which row listed attributes ≡ r → IsDecided r
+      → read_place which row listed attributes ≡ Ok (place_settings which row listed attributes)
+  read_by none (Ok v) is decided = is ∙ ap Ok (place_is v is)
+  read_by none (Err Memory) is decided = absurd decided
+  read_by none (Err (Refused e)) is decided = absurd (none.none_stands e (place_cause e is))
+
+  -- where no cause stands, they are read
+  settings_read : NoCause (OfPlace which row listed attributes) → read_place which row listed attributes ≡ Ok (place_settings which row listed attributes)
+  settings_read none = read_by none (read_place which row listed attributes) refl (place_decided listed which row attributes)
+
+  -- so they are what the metas say
+  pub settings_said : NoCause (OfPlace which row listed attributes) → IsSaid which row attributes (place_settings which row listed attributes)
+  settings_said none = place_said (place_settings which row listed attributes) (settings_read none)
+
+  one_said : (found : List Meta) → AreMetas attributes found → (o : Option Values) → read_one which row found None ≡ Ok o → (v : Values) → IsSaid which row attributes v → v ≡ or_nothing o
+  one_said found are o h v (IsSaid.by_meta _ says) = ap or_nothing (sym (said_read which row attributes found are o h v says))
+  one_said found are None h _ (IsSaid.by_none unsaid) = refl
+  one_said found are (Some w) h _ (IsSaid.by_none unsaid) = absurd (not_unsaid which row attributes found are w h unsaid)
+
+  only_read : (w : Values) → read_place which row listed attributes ≡ Ok w → (v : Values) → IsSaid which row attributes v → v ≡ w
+  unfolding read_place
+  only_read w h v is =
+      let metas = chained of_metas (listed_metas listed attributes) w h in
+      let l = metas_listed listed attributes metas.0 metas.1 in
+      let said = mapped or_nothing (read_one which row metas.0 None) w metas.2 in
+      one_said metas.0 l.are said.0 said.1 v is ∙ said.2
+
+  -- and nothing else is
+  pub settings_only : NoCause (OfPlace which row listed attributes) → (v : Values) → IsSaid which row attributes v → v ≡ place_settings which row listed attributes
+  settings_only none v is = only_read (place_settings which row listed attributes) (settings_read none) v is
 
   -- ---- the answer of a function that reads it
 

@@ -1,5 +1,5 @@
 -- The errors of a place's attributes have messages, and start at boundaries of tokens; so do the ranks of fields.
-use Rattle.std.proofs.Common.{◌≡◌, ℕ, List, [], ◌∷◌, ◌++◌, Option, Some, Result, Ok, Err, refl, sym, subst, inl, inr}
+use Rattle.std.proofs.Common.{◌≡◌, ℕ, List, ◌∷◌, ◌++◌, Some, Result, Ok, Err, refl, sym, subst, inl, inr}
 use Rattle.std.specs.Prelude.{IfSome}
 use Rattle.std.specs.Result.{result_unwrap_or}
 use Rattle.educe_tokens.specs.declared.error.EduceError.{EduceError}
@@ -24,7 +24,7 @@ use Rattle.educe_attrs_rows.specs.Settings.{no_values}
 use Rattle.educe_attrs_rows.proofs.Among.{among_all}
 use Rattle.educe_attrs_rows.proofs.Reported.{own_message, own_placed, rank_placed}
 use Rattle.educe_attrs_places.specs.declared.place.FieldSettings.{FieldSettings}
-use Rattle.educe_attrs_places.specs.Listing.{not_set_up, IsBareEduce, IsListingCause, OfListing}
+use Rattle.educe_attrs_places.specs.Listing.{IsBareEduce, IsListingCause, OfListing}
 use Rattle.educe_attrs_places.specs.Lists.{IsEduce, AreOwn, AreMetas, IsNameIn, IsListCause}
 use Rattle.educe_attrs_places.specs.Named.{IsReused}
 use Rattle.educe_attrs_places.specs.Places.{own_settings, taken, read_field, field_settings, IsFieldSaid, IsFieldCause}

@@ -9,7 +9,7 @@ use Rattle.educe_bound.specs.Traits.{is_listed}
 use Rattle.educe_syntax.specs.Attribute.{Attribute}
 use Rattle.educe_syntax.specs.Meta.{Meta}
 use Rattle.educe_syntax.specs.MetaPath.{MetaPath}
-use Rattle.educe_attrs_values.specs.Chains.{and_then, map_ok}
+use Rattle.educe_attrs_values.specs.Chains.{and_then}
 use Rattle.educe_attrs_values.specs.declared.stop.Stop.{Stop}
 use Rattle.educe_attrs_values.specs.declared.stop.Stop.TheVariants.{Memory, Refused}
 use Rattle.educe_attrs_values.specs.Refusals.{at_name}
@@ -24,8 +24,9 @@ use Rattle.educe_attrs_places.specs.Said.{if_listed, listed_metas, refused_again
 use Rattle.educe_attrs_places.proofs.ListLaws.{metas_one, all_are, lists_cause}
 use Rattle.educe_attrs_places.proofs.NamedLaws.{each_listed, names_cause, no_place_cause}
 use Rattle.educe_attrs_rows.proofs.MetaLaws.{meta_says, meta_cause, meta_excludes}
-use Rattle.educe_attrs_rows.proofs.Among.{among_none, among_first, among_more}
+use Rattle.educe_attrs_rows.proofs.Among.{among_first, among_more}
 use Rattle.educe_attrs_rows.proofs.Chained.{ok_one, err_one, chained, mapped, mapped_err, refused_one}
+use Rattle.educe_attrs_places.proofs.SaysOne.{says_one}
 
 module _ (which : Trait) (row : Row) where
   -- ---- one meta
@@ -214,6 +215,14 @@ module _ (which : Trait) (row : Row) where
   -- where it is said, it is not unsaid
   pub not_unsaid : (attributes : List Attribute) (found : List Meta) → AreMetas attributes found → (v : Values) → read_one which row found None ≡ Ok (Some v) → IsUnsaid which attributes → ⊥
   not_unsaid attributes found are v h none = let s = some_said found None v refl h in none found are s.meta s.among s.of
+
+  -- what a meta of the trait says there is read
+  pub said_read : (attributes : List Attribute) (found : List Meta) → AreMetas attributes found → (o : Option Values) → read_one which row found None ≡ Ok o → (v : Values) → SaysThere which row attributes v → o ≡ Some v
+  said_read attributes found are o h v s =
+      let among = subst (IsAmong s.meta) (metas_one attributes s.found found s.are are) s.among in
+      let p = passes_among s.meta found None o among h in
+      let read = step_of s.meta p.here p.next p.step s.of in
+      stays among.back read.1 p.next o read.2 p.back_read ∙ ap Some (says_one row s.meta read.1 v (meta_says row s.meta read.1 read.3) s.says)
 
 -- ---- the metas of a place, each of a listed trait
 

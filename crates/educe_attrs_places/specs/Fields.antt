@@ -1,17 +1,21 @@
 -- The settings of a trait at several fields.
 use Rattle.std.specs.Prelude.{List}
-use Rattle.std.specs.List.{AllByRecursion}
+use Rattle.std.specs.List.{AllByRecursion, AllZip}
 use Rattle.educe_bound.specs.declared.traits.Trait.{Trait}
 use Rattle.educe_syntax.specs.Field.{Field}
 use Rattle.educe_attrs_rows.specs.declared.row.Row.{Row}
 use Rattle.educe_attrs_rows.specs.Among.{IsAmong}
 use Rattle.educe_attrs_places.specs.declared.place.FieldSettings.{FieldSettings}
 use Rattle.educe_attrs_places.specs.Causes.{Cause, NoCause}
-use Rattle.educe_attrs_places.specs.Places.{field_settings, OfField}
+use Rattle.educe_attrs_places.specs.Places.{field_settings, IsFieldSaid, OfField}
 
 -- those of one field
 abbrev pub settings_at : Trait → Row → List Trait → Field → FieldSettings
 settings_at which row listed field = field_settings which row listed field.attrs
+
+-- each is what the attributes of its field say
+abbrev pub AreFieldsSaid : Trait → Row → List Trait → List Field → List FieldSettings → Type 0
+AreFieldsSaid which row listed fields all = AllZip (λ (field : Field) settings. IsFieldSaid which row listed field.attrs settings) fields all
 
 -- one of the fields is refused for this
 abbrev pub OfFields : Trait → Row → List Trait → List Field → Cause

@@ -7,3 +7,5 @@ pub mod Fields
 pub mod Listing
 pub mod Phases
 pub mod Reports
+pub mod Methods
+pub mod SettingLaws

@@ -1,5 +1,5 @@
 -- The settings of a trait at a place, and why its attributes are refused.
-use Rattle.std.specs.Prelude.{◌≡◌, Bool, true, false, ◌&&◌, if◌then◌else◌, is_some, List, Option, Some, None, Result, Ok, ◌⊎◌}
+use Rattle.std.specs.Prelude.{◌≡◌, true, false, ◌&&◌, if◌then◌else◌, is_some, List, Option, Some, None, Result, Ok, ◌⊎◌}
 use Rattle.std.specs.Result.{result_unwrap_or}
 use Rattle.educe_tokens.specs.declared.error.EduceError.{EduceError}
 use Rattle.educe_bound.specs.declared.traits.Trait.{Trait}

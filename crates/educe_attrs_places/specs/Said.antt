@@ -17,7 +17,6 @@ use Rattle.educe_attrs_rows.specs.declared.values.Values.{Values}
 use Rattle.educe_attrs_rows.specs.Among.{IsAmong}
 use Rattle.educe_attrs_rows.specs.Causes.{IsOwnCause, Says}
 use Rattle.educe_attrs_rows.specs.Program.{read_meta}
-use Rattle.educe_attrs_rows.specs.Settings.{no_values}
 use Rattle.educe_attrs_values.specs.Words.{path_of}
 use Rattle.educe_attrs_places.specs.Lists.{all_metas, AreMetas, IsNameIn, IsListCause}
 use Rattle.educe_attrs_places.specs.Named.{is_of, all_checked, IsReused}

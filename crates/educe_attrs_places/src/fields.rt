@@ -21,6 +21,7 @@ pub fn settings_of_fields(
     fields: &[Field],
 ) -> Result<Seq<FieldSettings>, Stop>
     ensures settings { IfOk result (λ all. all ≡ map (spec.settings_at which row.now listed.now) fields.now) }
+    ensures said { IfOk result (λ all. spec.AreFieldsSaid which row.now listed.now fields.now all) }
     ensures cause { IfErr result (λ s. OfStop (spec.OfFields which row.now listed.now fields.now) s) }
     ensures uncaused { IfOk result (λ _. spec.HaveNoCauses which row.now listed.now fields.now) }
 {

@@ -12,7 +12,7 @@ mod place;
 mod said;
 
 pub use fields::settings_of_fields;
-pub use laws::report_laws;
+pub use laws::{report_laws, setting_laws};
 pub use listing::type_listing;
 pub use lists::is_educe;
 pub use place::{FieldSettings, field_settings, place_settings};

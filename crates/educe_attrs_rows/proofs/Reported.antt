@@ -1,10 +1,11 @@
 -- The errors of attributes have messages, and start at boundaries of tokens; so do the ranks that attributes give.
 use Rattle.std.proofs.Common.{◌≡◌, List, [], ◌∷◌, ◌++◌, Option, Some, None, refl, sym, subst, arith, encode_utf8_all}
-use Rattle.std.specs.Prelude.{IfSome}
+use Rattle.std.specs.Prelude.{Bool, not, IfSome}
 use Rattle.std.proofs.lemmas.Option.{same_Some}
 use Rattle.educe_tokens.specs.declared.error.EduceError.{EduceError}
 use Rattle.educe_tokens.specs.declared.token.Token.{Token}
 use Rattle.educe_tokens.specs.Message.{HasWords}
+use Rattle.educe_syntax.specs.Expr.{Expr}
 use Rattle.educe_syntax.specs.Laws.{lawful_metas}
 use Rattle.educe_syntax.specs.Meta.{Meta}
 use Rattle.educe_syntax.specs.Meta.TheVariants as said
@@ -58,22 +59,33 @@ pub cause_words : (row : Row) (meta : Meta) (e : EduceError) → IsCause row met
 cause_words row meta e (IsCause.own cause) = (own_message row meta e cause).words
 cause_words row meta e IsCause.memory = refl
 
--- ---- ranks
+-- ---- values behind `=`
 
--- what stands behind `=` leaves the rank
-abbrev LeavesRank : Behind → Type 0
-LeavesRank b = (v : ValueOf b.kind) (values : Values) → (b.says v values).rank ≡ values.rank
+-- A value behind `=` may set the name, the expression and whether the field is ignored: this part of the values is none of these.
+pub record IsOther {X : Type 0} (part : Values → X) : Type 0 where
+  pub name : (values : Values) (x : Option IdentOrBool) → part (record values { name = x }) ≡ part values
+  pub ignore : (values : Values) (b : Option Bool) → part (record values { ignore = b }) ≡ part values
+  pub expression : (values : Values) (x : Option Expr) → part (record values { expression = x }) ≡ part values
 
-shown_leaves : (v : IdentOrBool) (values : Values) → (with_shown_or_kept v values).rank ≡ values.rank
-shown_leaves (shown.Ident ident) values = refl
-shown_leaves (shown.Bool kept) values = refl
+module _ {X : Type 0} (part : Values → X) (other : IsOther part) where
+  abbrev Leaves : Behind → Type 0
+  Leaves b = (v : ValueOf b.kind) (values : Values) → part (b.says v values) ≡ part values
 
-behind_leaves : (q : Equals) (b : Behind) → behind q ≡ Some b → LeavesRank b
-behind_leaves equals.Nothing b is = absurd (cc)
-behind_leaves equals.Truth b is = subst LeavesRank (same_Some kept b is) (λ v values. refl)
-behind_leaves equals.Ident b is = subst LeavesRank (same_Some shown_name b is) (λ v values. refl)
-behind_leaves equals.Name b is = subst LeavesRank (same_Some shown_or_kept b is) shown_leaves
-behind_leaves equals.Expr b is = subst LeavesRank (same_Some default_value b is) (λ v values. refl)
+  shown_leaves : (v : IdentOrBool) (values : Values) → part (with_shown_or_kept v values) ≡ part values
+  shown_leaves (shown.Ident ident) values = other.name values (Some (shown.Ident ident))
+  shown_leaves (shown.Bool b) values = other.ignore values (Some (not b))
+
+  -- so what stands behind `=` leaves it
+  pub behind_leaves : (q : Equals) (b : Behind) → behind q ≡ Some b → Leaves b
+  behind_leaves equals.Nothing b is = absurd (cc)
+  behind_leaves equals.Truth b is = subst Leaves (same_Some kept b is) (λ v values. other.ignore values (Some (not v)))
+  behind_leaves equals.Ident b is = subst Leaves (same_Some shown_name b is) (λ v values. other.name values (Some (shown.Ident v)))
+  behind_leaves equals.Name b is = subst Leaves (same_Some shown_or_kept b is) shown_leaves
+  behind_leaves equals.Expr b is = subst Leaves (same_Some default_value b is) (λ v values. other.expression values (Some v))
+
+-- the rank is such a part
+rank_other : IsOther (λ (values : Values). values.rank)
+rank_other = record { name = λ values x. refl; ignore = λ values b. refl; expression = λ values x. refl }
 
 -- ---- places
 
@@ -123,6 +135,6 @@ module _ (tokens : List Token) where
   -- so does the rank that a meta gives
   pub rank_placed : (row : Row) (meta : Meta) → IsMetaPlaced tokens meta → (values : Values) → Says row meta values → RankPlaced values.rank
   rank_placed row _ placed _ (Says.bare path flag) = tt
-  rank_placed row _ placed _ (Says.equals path x place b v is holds) = subst RankPlaced (sym (behind_leaves row.equals b is v (values_at place))) tt
+  rank_placed row _ placed _ (Says.equals path x place b v is holds) = subst RankPlaced (sym (behind_leaves (λ (values : Values). values.rank) rank_other row.equals b is v (values_at place))) tt
   rank_placed row _ placed _ (Says.params path group place found values whole given span_is) =
       given_placed row found (metas_within tokens group.tokens placed.1 found whole) values.rank (given.gives Rank)
