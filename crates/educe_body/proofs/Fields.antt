@@ -1,13 +1,11 @@
 -- The value of a field by its key, where the keys differ.
-use Rattle.std.proofs.Common.{◌≡◌, ◌≢◌, ℕ, Bool, true, false, List, [], ◌∷◌, length, refl, ap, ◌∙◌, arith}
+use Rattle.std.proofs.Common.{◌≡◌, ◌≢◌, ℕ, Bool, true, false, List, [], ◌∷◌, Some, length, refl, ap, ◌∙◌, arith}
 use Rattle.std.specs.Prelude.{if◌then◌else◌}
 use Rattle.std.specs.Bool.{Decides}
 use Rattle.std.specs.List.{AllByRecursion}
 use Rattle.std.specs.Str.{bytes_eq}
 use Rattle.std.proofs.lemmas.Slice.Eq.{bytes_eq-Decides}
 use Rattle.educe_body.specs.declared.value.FieldValue.{FieldValue}
-use Rattle.educe_body.specs.declared.evaluator.Flow.TheVariants.{Gives}
-use Rattle.educe_body.specs.declared.evaluator.Thing.TheVariants.{Part}
 use Rattle.educe_body.specs.Keys.{AreDifferent}
 use Rattle.educe_body.specs.Meaning.{part_of}
 use Rattle.educe_body.specs.Laws.{KeysGive}
@@ -31,12 +29,12 @@ bytes_eq-differ text other differs = false_from_decides (bytes_eq text other) (b
 -- past a field of another key
 pub part_of-past : (k : List ℕ) (keys : List (List ℕ)) (y : FieldValue) (values : List FieldValue) (key : List ℕ) → k ≢ key → part_of (k ∷ keys) (y ∷ values) key ≡ part_of keys values key
 part_of-past k keys y values key differs =
-    ap (λ (b : Bool). if b then Gives (Part y) else part_of keys values key) (bytes_eq-differ k key differs)
+    ap (λ (b : Bool). if b then Some y else part_of keys values key) (bytes_eq-differ k key differs)
 
 -- the first field, by its key
-pub part_of-first : (k : List ℕ) (keys : List (List ℕ)) (y : FieldValue) (values : List FieldValue) → part_of (k ∷ keys) (y ∷ values) k ≡ Gives (Part y)
+pub part_of-first : (k : List ℕ) (keys : List (List ℕ)) (y : FieldValue) (values : List FieldValue) → part_of (k ∷ keys) (y ∷ values) k ≡ Some y
 part_of-first k keys y values =
-    ap (λ (b : Bool). if b then Gives (Part y) else part_of keys values k) (bytes_eq-same k)
+    ap (λ (b : Bool). if b then Some y else part_of keys values k) (bytes_eq-same k)
 
 -- ---- all fields
 

@@ -4,12 +4,12 @@ use Rattle.std.specs.Str.{chars, bytes_eq}
 use Rattle.std.proofs.lemmas.Bool.{cond-true, cond-false}
 use Rattle.std.proofs.lemmas.Bool.Decides.{same_from_decides}
 use Rattle.std.proofs.lemmas.Slice.Eq.{bytes_eq-Decides}
-use Rattle.educe_tokens.specs.Lexes.{Lexeme}
 use Rattle.educe_tokens.specs.declared.word.Word.{Word}
 use Rattle.educe_tree.specs.TokenLaws.{ascii_chars}
 use Rattle.educe_body.specs.declared.comparison.Comparison.{Comparison}
 use Rattle.educe_body.specs.declared.comparison.Comparison.TheVariants.{PartialEq, PartialOrd, Ord}
 use Rattle.educe_body.specs.declared.body.Function.{Function}
+use Rattle.educe_body.specs.Printouts.{Printout}
 use Rattle.educe_body.specs.Tokens.{eq_head, partial_cmp_head, cmp_head, other_head, function_head}
 
 -- the name of the function of a trait
@@ -19,7 +19,7 @@ own_name PartialOrd = codes "partial_cmp"
 own_name Ord = codes "cmp"
 
 -- the head of the function of a trait
-abbrev pub own_head : Comparison → List Word → List Lexeme
+abbrev pub own_head : Comparison → List Word → Printout
 own_head PartialEq params = eq_head params
 own_head PartialOrd params = partial_cmp_head params
 own_head Ord params = cmp_head params

@@ -1,13 +1,27 @@
 -- The laws of bodies hold.
-use Rattle.educe_body.specs.Laws.{KeyLaws, FormLaws}
+use Rattle.educe_body.specs.Laws.{KeyLaws, ScopeLaws, FormLaws}
 use Rattle.educe_body.proofs.Apart.{keys_of-differ}
 use Rattle.educe_body.proofs.Fields.{KeysGive-part_of}
-use Rattle.educe_body.proofs.Rows.{form_value-Call, form_value-IfReturn, form_value-MatchOrdering}
+use Rattle.educe_body.proofs.Hiding.{callee_in-own, callee_in-built_in, callee_in-printed, callee_in-made}
+use Rattle.educe_body.proofs.Rows.{form_value-Call, form_value-two, form_value-Not, form_value-SomeOf, form_value-IfReturn, form_value-Return, form_value-MatchOrdering, form_value-Block}
 
 -- keys have them
 pub lawful_keys : KeyLaws
 lawful_keys = record { differ = keys_of-differ; select = KeysGive-part_of }
 
+-- names in scope have them
+pub lawful_scopes : ScopeLaws
+lawful_scopes = record { own = callee_in-own; called = callee_in-built_in; printed = callee_in-printed; made = callee_in-made }
+
 -- forms have them
 pub lawful_forms : FormLaws
-lawful_forms = record { call = form_value-Call; test = form_value-IfReturn; matches = form_value-MatchOrdering }
+lawful_forms = record {
+  call = form_value-Call;
+  call_two = form_value-two;
+  negation = form_value-Not;
+  in_some = form_value-SomeOf;
+  test = form_value-IfReturn;
+  returned = form_value-Return;
+  matches = form_value-MatchOrdering;
+  block = form_value-Block;
+}

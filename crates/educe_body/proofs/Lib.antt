@@ -8,4 +8,5 @@ pub mod Fields
 pub mod Indices
 pub mod Apart
 pub mod MadePaths
+pub mod Hiding
 pub mod Lawful

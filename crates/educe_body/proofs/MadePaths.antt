@@ -1,9 +1,8 @@
 -- A path that the program makes is the reading of its tokens.
 use mathlib.Core.HLevel.{is_prop→PathP}
-use Rattle.std.proofs.Common.{◌≡◌, ℕ, ◌&&◌, Bool, true, false, not, IsTrue, List, [], ◌∷◌, ◌++◌, map, Option, Some, None, refl, sym, ap, subst, ◌∙◌, inl, inr}
+use Rattle.std.proofs.Common.{◌≡◌, ℕ, ◌&&◌, Bool, true, false, not, IsTrue, List, [], ◌∷◌, map, None, refl, sym, ap, subst, ◌∙◌, inl, inr}
 use Rattle.std.specs.List.{list_all}
 use Rattle.std.proofs.lemmas.Bool.{and_parts}
-use Rattle.educe_tokens.specs.TokenKind.{TokenKind}
 use Rattle.educe_tokens.specs.TokenKind.TheVariants as kind
 use Rattle.educe_tokens.specs.Pieces.{spells}
 use Rattle.educe_tokens.specs.declared.span.Span.{Span}
@@ -21,16 +20,16 @@ use Rattle.educe_tree.specs.declared.path.Path.{Path, out-Path, roll-Path, roll-
 use Rattle.educe_tree.specs.declared.path.Segment.{Segment, out-Segment, roll-Segment, roll-out-Segment}
 use Rattle.educe_grammar.specs.declared.terminal.Terminal.TheVariants as terminal
 use Rattle.educe_grammar.specs.Ahead.{begins_pair, is_joint, is_sign}
-use Rattle.educe_grammar.specs.Expressions.{expr_segment, local_expr_path, any_expr_path, expr_path, segment_with}
+use Rattle.educe_grammar.specs.Expressions.{expr_segment, local_expr_path, any_expr_path, expr_path}
 use Rattle.educe_grammar.specs.Names.{segment_name, segment_name_of}
 use Rattle.educe_grammar.specs.Parsed.{depth_limit, IsWhole}
 use Rattle.educe_grammar.specs.Reading.{Parses, Linked}
-use Rattle.educe_grammar.specs.Reads.{Reads, parts}
+use Rattle.educe_grammar.specs.Reads.{Reads}
 use Rattle.educe_grammar.specs.Terminals.{accepts, set_of, token_in, word_in, segment_words}
 use Rattle.educe_grammar.specs.Types.{segment_of, path_of, are_scope}
 use Rattle.educe_grammar.proofs.Steps.{IsTrue-prop}
-use Rattle.educe_body.specs.declared.answers.Callee.{Callee}
-use Rattle.educe_body.specs.declared.answers.Callee.TheVariants.{Ne, Cmp, PartialCmp}
+use Rattle.educe_body.specs.declared.callee.BuiltIn.{BuiltIn}
+use Rattle.educe_body.specs.declared.callee.BuiltIn.TheVariants.{Ne, Cmp, PartialCmp}
 use Rattle.educe_body.specs.BuiltIn.{path_lexemes, path_names, said_by, name_alone, IsMade, IsBuiltIn}
 
 -- ---- the tokens of paths of names
@@ -159,7 +158,7 @@ made_reads : (name : List ℕ) (names : List (List ℕ)) (path : ExprPath) → a
 made_reads name names path known made = reads_from depth_limit path.written.tokens name names path refl made.held made.nowhere made.unqualified made.leading made.segments known
 
 -- so is the path of each function that is built in
-pub built_in_reads : (callee : Callee) (path : ExprPath) → IsMade (path_lexemes callee) (path_names callee) path → IsBuiltIn callee path
+pub built_in_reads : (which : BuiltIn) (path : ExprPath) → IsMade (path_lexemes which) (path_names which) path → IsBuiltIn which path
 unfolding quoted is_keyword
 built_in_reads Ne path made = record { made = made; reads = made_reads _ _ path refl made }
 built_in_reads Cmp path made = record { made = made; reads = made_reads _ _ path refl made }

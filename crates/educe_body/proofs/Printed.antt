@@ -13,10 +13,11 @@ use Rattle.educe_tokens.specs.Lexes.{Lexeme}
 use Rattle.educe_tokens.specs.Quote.{quoted}
 use Rattle.educe_tokens.specs.WrittenLexemes.{written_lexemes}
 use Rattle.educe_tree.specs.declared.expr.ExprPath.{ExprPath}
-use Rattle.educe_body.specs.declared.form.Form.{Form, Call, Call', IfReturn, Return, SomeOf, MatchOrdering, Block, Block', Row_of-Form, end_of-Form, more_of-Form, items-the_row-Form, items_hidden-the_row-Form-0}
+use Rattle.educe_body.specs.declared.form.Form.{Form, Call, Call', Not, IfReturn, Return, SomeOf, MatchOrdering, Block, Block', Row_of-Form, end_of-Form, more_of-Form, items-the_row-Form, items_hidden-the_row-Form-0}
 use Rattle.educe_body.specs.declared.form.Form.TheBlock.{hidden-the_row-Form-1}
 use Rattle.educe_body.specs.Printing.{comma_before, separated}
-use Rattle.educe_body.specs.Tokens.{in_round, in_curly, in_some, step_arms, form_lexemes, row_lexemes, argument_lexemes, behind_comma}
+use Rattle.educe_body.specs.Printouts.{each, in_curly}
+use Rattle.educe_body.specs.Tokens.{in_some, step_arms, form_printout, form_lexemes, in_a_row, arguments, behind_comma}
 
 -- the forms that a call or a block holds
 abbrev row_of : Form → (n : Count) × Row_of-Form n
@@ -25,52 +26,54 @@ row_of (Block' shape row) = (_, row)
 row_of _ = (_, end_of-Form)
 
 -- the tokens of the forms of a row, behind one another
-row_lexemes-items : (n : _) (row : Row_of-Form n) → row_lexemes row ≡ flat_map form_lexemes (items-the_row-Form n row)
-row_lexemes-items n end_of-Form = refl
-row_lexemes-items n (more_of-Form x rest) = ap (λ found. form_lexemes x ++ found) (row_lexemes-items _ rest)
+in_a_row-items : (n : _) (row : Row_of-Form n) → (in_a_row row).tokens ≡ flat_map form_lexemes (items-the_row-Form n row)
+in_a_row-items n end_of-Form = refl
+in_a_row-items n (more_of-Form x rest) = ap (λ found. form_lexemes x ++ found) (in_a_row-items _ rest)
 
 -- the tokens of the forms of a row, a comma before each
-behind_comma-items : (n : _) (row : Row_of-Form n) → behind_comma row ≡ flat_map (λ found. quoted (codes ",") ++ found) (map form_lexemes (items-the_row-Form n row))
+behind_comma-items : (n : _) (row : Row_of-Form n) → (behind_comma row).tokens ≡ flat_map (λ found. quoted (codes ",") ++ found) (map form_lexemes (items-the_row-Form n row))
 behind_comma-items n end_of-Form = refl
 behind_comma-items n (more_of-Form x rest) = ap (λ found. (quoted (codes ",") ++ form_lexemes x) ++ found) (behind_comma-items _ rest)
 
 -- the tokens of the forms of a row, with commas between
-argument_lexemes-items : (n : _) (row : Row_of-Form n) → argument_lexemes row ≡ separated (map form_lexemes (items-the_row-Form n row))
-argument_lexemes-items n end_of-Form = refl
-argument_lexemes-items n (more_of-Form x rest) = ap (λ found. form_lexemes x ++ found) (behind_comma-items _ rest)
+arguments-items : (n : _) (row : Row_of-Form n) → (arguments row).tokens ≡ separated (map form_lexemes (items-the_row-Form n row))
+arguments-items n end_of-Form = refl
+arguments-items n (more_of-Form x rest) = ap (λ found. form_lexemes x ++ found) (behind_comma-items _ rest)
 
 -- a call, by the tokens of its arguments
-pub form_lexemes-Call : (path : ExprPath) (arguments : List Form) → form_lexemes (Call path arguments) ≡ written_lexemes path.written ++ in_round (separated (map form_lexemes arguments))
-form_lexemes-Call path arguments =
-    let row = row_of (Call path arguments) in
-    ap (λ found. written_lexemes path.written ++ in_round found)
-    (argument_lexemes-items row.0 row.1 ∙ ap (λ forms. separated (map form_lexemes forms)) (items_hidden-the_row-Form-0 arguments))
+pub form_lexemes-Call : (path : ExprPath) (args : List Form) → form_lexemes (Call path args) ≡ written_lexemes path.written ++ (quoted (codes "(") ++ separated (map form_lexemes args) ++ quoted (codes ")"))
+form_lexemes-Call path args =
+    let row = row_of (Call path args) in
+    ap (λ found. written_lexemes path.written ++ (quoted (codes "(") ++ found ++ quoted (codes ")")))
+    (arguments-items row.0 row.1 ∙ ap (λ forms. separated (map form_lexemes forms)) (items_hidden-the_row-Form-0 args))
 
--- a test, by the tokens of what it holds
+-- a block, by its forms
+pub form_lexemes-Block : (forms : List Form) → form_lexemes (Block forms) ≡ (in_curly (each form_printout forms)).tokens
+form_lexemes-Block forms =
+    let row = row_of (Block forms) in
+    ap (λ found. quoted (codes "{") ++ found ++ quoted (codes "}")) (in_a_row-items row.0 row.1 ∙ ap (flat_map form_lexemes) (items_hidden-the_row-Form-0 forms))
+
+-- forms with one form in a box, by what that is printed as
+pub form_lexemes-SomeOf : (inner : Form) → form_lexemes (SomeOf inner) ≡ (in_some (form_printout inner)).tokens
+unfolding hidden-the_row-Form-1 hidden
+form_lexemes-SomeOf inner = refl
+
+pub form_lexemes-Not : (inner : Form) → form_lexemes (Not inner) ≡ quoted (codes "!") ++ form_lexemes inner
+unfolding hidden-the_row-Form-1 hidden
+form_lexemes-Not inner = refl
+
 pub form_lexemes-IfReturn : (test : Form) → form_lexemes (IfReturn test) ≡ quoted (codes "if") ++ form_lexemes test ++ quoted (codes "{ return false ; }")
 unfolding hidden-the_row-Form-1 hidden
-form_lexemes-IfReturn test = ap (λ found. quoted (codes "if") ++ found ++ quoted (codes "{ return false ; }")) (append-nil (form_lexemes test))
+form_lexemes-IfReturn test = refl
 
 pub form_lexemes-Return : (inner : Form) → form_lexemes (Return inner) ≡ quoted (codes "return") ++ form_lexemes inner ++ quoted (codes ";")
 unfolding hidden-the_row-Form-1 hidden
-form_lexemes-Return inner = ap (λ found. quoted (codes "return") ++ found ++ quoted (codes ";")) (append-nil (form_lexemes inner))
+form_lexemes-Return inner = refl
 
--- what stands in `Some`, by its tokens
-pub form_lexemes-SomeOf : (inner : Form) → form_lexemes (SomeOf inner) ≡ in_some (form_lexemes inner)
-unfolding hidden-the_row-Form-1 hidden
-form_lexemes-SomeOf inner = ap in_some (append-nil (form_lexemes inner))
-
--- a match on an order, by the tokens of what is matched
 pub form_lexemes-MatchOrdering : (matched : Form) (partial : Bool) (greater less : Ordering) → form_lexemes (MatchOrdering matched partial greater less)
-    ≡ quoted (codes "match") ++ form_lexemes matched ++ in_curly (step_arms partial greater less)
+    ≡ quoted (codes "match") ++ form_lexemes matched ++ (in_curly (step_arms partial greater less)).tokens
 unfolding hidden-the_row-Form-1 hidden
-form_lexemes-MatchOrdering matched partial greater less = ap (λ found. quoted (codes "match") ++ found ++ in_curly (step_arms partial greater less)) (append-nil (form_lexemes matched))
-
--- a block, by the tokens of its forms
-pub form_lexemes-Block : (forms : List Form) → form_lexemes (Block forms) ≡ in_curly (flat_map form_lexemes forms)
-form_lexemes-Block forms =
-    let row = row_of (Block forms) in
-    ap in_curly (row_lexemes-items row.0 row.1 ∙ ap (flat_map form_lexemes) (items_hidden-the_row-Form-0 forms))
+form_lexemes-MatchOrdering matched partial greater less = refl
 
 -- behind the first, there is a comma
 comma_before-suc : (i : ℕ) → comma_before (suc i) ≡ quoted (codes ",")

@@ -1,5 +1,5 @@
 -- The steps of the evaluator's loops.
-use Rattle.std.proofs.Common.{Bor, chars, ◌≡◌, ℕ, zero, suc, ◌+◌, ◌<◌, ◌≤◌, ◌&&◌, Bool, true, false, List, [], ◌∷◌, ◌++◌, map, drop, get_or, length, refl, ap, arith, sym, ◌∙◌}
+use Rattle.std.proofs.Common.{Bor, chars, ◌≡◌, ℕ, zero, suc, ◌+◌, ◌<◌, ◌≤◌, ◌&&◌, Bool, true, false, List, [], ◌∷◌, ◌++◌, None, map, drop, get_or, length, refl, ap, arith, sym, ◌∙◌}
 use Rattle.std.specs.Prelude.{codes, slice_index_or}
 use Rattle.std.specs.Cmp.Lexicographic.{pointwise}
 use Rattle.std.specs.Str.{bytes_eq}
@@ -9,13 +9,12 @@ use Rattle.educe_tokens.specs.declared.token.Token.{Token}
 use Rattle.educe_tokens.specs.declared.word.Word.{Word}
 use Rattle.educe_tree.specs.declared.data.Field.{Field}
 use Rattle.educe_body.specs.declared.value.FieldValue.{FieldValue}
-use Rattle.educe_body.specs.declared.evaluator.Flow.TheVariants.{Stuck}
-use Rattle.educe_body.specs.declared.evaluator.Referent.{Referent}
-use Rattle.educe_body.specs.declared.evaluator.Referent.TheVariants.{This, Other}
-use Rattle.educe_body.specs.declared.evaluator.Binding.{Binding}
+use Rattle.educe_body.specs.declared.environment.Referent.{Referent}
+use Rattle.educe_body.specs.declared.environment.Referent.TheVariants.{This, Other}
+use Rattle.educe_body.specs.declared.environment.Binding.{Binding}
 use Rattle.educe_body.specs.Callees.{path_of, spellings, segment_is}
 use Rattle.educe_body.specs.Keys.{key_of, keys_from}
-use Rattle.educe_body.specs.Meaning.{part_of, bindings_of}
+use Rattle.educe_body.specs.Meaning.{part_of, bindings_of, start}
 
 and-false : (b : Bool) → (b && false) ≡ false
 and-false true = refl
@@ -65,7 +64,7 @@ path_of-step tokens words i a b c long inside x y z =
     (is_path-step tokens (chars (get_or words i none).now) (map (λ word. chars word.now) (drop (i + 1) words)) a b c long x y z)
 
 -- no value has a key
-pub part_of-nil : (keys : List (List ℕ)) (key : List ℕ) → part_of keys [] key ≡ Stuck
+pub part_of-nil : (keys : List (List ℕ)) (key : List ℕ) → part_of keys [] key ≡ None
 part_of-nil [] key = refl
 part_of-nil (k ∷ keys) key = refl
 

@@ -4,7 +4,7 @@ use Rattle.std.specs.Prelude.{if◌then◌else◌}
 use Rattle.std.specs.Cmp.Lexicographic.{pointwise}
 use Rattle.std.specs.Str.{bytes_eq}
 use Rattle.std.proofs.lemmas.Bool.Decides.{nat_tests}
-use Rattle.educe_body.specs.declared.answers.Callee.{Callee}
+use Rattle.educe_body.specs.declared.callee.BuiltIn.{BuiltIn}
 use Rattle.educe_body.specs.Callees.{first_named, path_of}
 use Rattle.std.specs.Char.{is_ascii}
 use Rattle.std.specs.List.{list_all}
@@ -14,7 +14,7 @@ abbrev pub words_ascii : List (Bor (List ℕ)) → Bool
 words_ascii [] = true
 words_ascii (word ∷ words) = list_all is_ascii word.now && words_ascii words
 
-abbrev pub table_ascii : List (List (Bor (List ℕ)) × Callee) → Bool
+abbrev pub table_ascii : List (List (Bor (List ℕ)) × BuiltIn) → Bool
 table_ascii [] = true
 table_ascii (known ∷ more) = words_ascii known.0 && table_ascii more
 
@@ -23,7 +23,7 @@ abbrev pub texts : List (Bor (List ℕ)) → List (List ℕ)
 texts words = map (λ word. word.now) words
 
 -- the function of the first path of the table, whose words are taken as they stand
-abbrev pub first_with : List (List (Bor (List ℕ)) × Callee) → List (List ℕ) → Option Callee
+abbrev pub first_with : List (List (Bor (List ℕ)) × BuiltIn) → List (List ℕ) → Option BuiltIn
 first_with [] path = None
 first_with (known ∷ more) path = if pointwise bytes_eq path (path_of (texts known.0)) then Some known.1 else first_with more path
 
@@ -35,11 +35,11 @@ map_chars-texts (word ∷ words) ascii =
     ap (λ (text : List ℕ). text ∷ map (λ word. chars word.now) words) here ∙ ap (λ (more : List (List ℕ)). word.now ∷ more) rest
 
 -- the characters of ASCII words are their bytes; at a literal table the premise is `refl`
-pub first_named-ascii : (known : List (List (Bor (List ℕ)) × Callee)) (path : List (List ℕ)) → table_ascii known ≡ true → first_named known path ≡ first_with known path
+pub first_named-ascii : (known : List (List (Bor (List ℕ)) × BuiltIn)) (path : List (List ℕ)) → table_ascii known ≡ true → first_named known path ≡ first_with known path
 unfolding first_named
 first_named-ascii [] path ascii = refl
 first_named-ascii (known ∷ more) path ascii =
     let here = map_chars-texts known.0 (grind (arith, nat_tests)) in
     let rest = first_named-ascii more path (grind (arith, nat_tests)) in
     ap (λ (words : List (List ℕ)). if pointwise bytes_eq path (path_of words) then Some known.1 else first_named more path) here
-    ∙ ap (λ (other : Option Callee). if pointwise bytes_eq path (path_of (texts known.0)) then Some known.1 else other) rest
+    ∙ ap (λ (other : Option BuiltIn). if pointwise bytes_eq path (path_of (texts known.0)) then Some known.1 else other) rest

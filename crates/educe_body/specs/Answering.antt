@@ -1,9 +1,10 @@
 -- What a call answers.
 use Rattle.std.specs.Prelude.{Bool, true, false, not, ◌&&◌, ◌==◌, List, [], ◌∷◌, Option, Some, None, if◌then◌else◌}
+use Rattle.std.specs.Str.{bytes_eq}
 use Rattle.std.specs.Ordering.{int_eq, int_cmp}
 use Rattle.educe_body.specs.declared.value.FieldValue.{FieldValue}
-use Rattle.educe_body.specs.declared.answers.Callee.{Callee}
-use Rattle.educe_body.specs.declared.answers.Callee.TheVariants.{Ne, Cmp, PartialCmp}
+use Rattle.educe_body.specs.declared.callee.Callee.{Callee}
+use Rattle.educe_body.specs.declared.callee.Callee.TheVariants.{Ne, Cmp, PartialCmp, Written}
 use Rattle.educe_body.specs.declared.answers.Answer.{Answer}
 use Rattle.educe_body.specs.declared.answers.Answer.TheVariants.{Truth, Order, PartialOrder}
 use Rattle.educe_body.specs.declared.answers.Row.{Row}
@@ -18,10 +19,12 @@ same_argument (Some x) (Some y) = same_value x y
 same_argument None (Some y) = false
 same_argument (Some x) None = false
 
+-- the same function that is built in, or functions that are written as one text
 abbrev pub same_callee : Callee → Callee → Bool
-same_callee Ne callee = elim callee [ Ne ↦ true | Cmp ↦ false | PartialCmp ↦ false ]
-same_callee Cmp callee = elim callee [ Ne ↦ false | Cmp ↦ true | PartialCmp ↦ false ]
-same_callee PartialCmp callee = elim callee [ Ne ↦ false | Cmp ↦ false | PartialCmp ↦ true ]
+same_callee Ne callee = elim callee [ Ne ↦ true | Cmp ↦ false | PartialCmp ↦ false | Written text ↦ false ]
+same_callee Cmp callee = elim callee [ Ne ↦ false | Cmp ↦ true | PartialCmp ↦ false | Written text ↦ false ]
+same_callee PartialCmp callee = elim callee [ Ne ↦ false | Cmp ↦ false | PartialCmp ↦ true | Written text ↦ false ]
+same_callee (Written own) callee = elim callee [ Ne ↦ false | Cmp ↦ false | PartialCmp ↦ false | Written text ↦ bytes_eq own text ]
 
 abbrev pub row_fits : Row → Callee → Option FieldValue → Option FieldValue → Bool
 row_fits row callee x y = same_callee row.callee callee && same_argument row.first x && same_argument row.second y
@@ -31,10 +34,12 @@ abbrev pub first_row : List Row → Callee → Option FieldValue → Option Fiel
 first_row [] callee x y = None
 first_row (row ∷ rows) callee x y = if row_fits row callee x y then Some row.answer else first_row rows callee x y
 
+-- the comparison of two numbers; a function that is written answers by rows alone
 abbrev pub compared_numbers : Callee → FieldValue → FieldValue → Option Answer
 compared_numbers Ne x y = Some (Truth (not (int_eq x.number y.number)))
 compared_numbers Cmp x y = Some (Order (int_cmp x.number y.number))
 compared_numbers PartialCmp x y = Some (PartialOrder (Some (int_cmp x.number y.number)))
+compared_numbers (Written text) x y = None
 
 -- the comparison of the numbers of two values of one type
 abbrev pub by_number_answer : Callee → Option FieldValue → Option FieldValue → Option Answer

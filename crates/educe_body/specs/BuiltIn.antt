@@ -12,17 +12,17 @@ use Rattle.educe_tree.specs.declared.path.Path.{out-Path}
 use Rattle.educe_tree.specs.declared.path.Segment.{Segment, out-Segment}
 use Rattle.educe_grammar.specs.Expressions.{expr_path}
 use Rattle.educe_grammar.specs.Parsed.{IsWhole}
-use Rattle.educe_body.specs.declared.answers.Callee.{Callee}
-use Rattle.educe_body.specs.declared.answers.Callee.TheVariants.{Ne, Cmp, PartialCmp}
+use Rattle.educe_body.specs.declared.callee.BuiltIn.{BuiltIn}
+use Rattle.educe_body.specs.declared.callee.BuiltIn.TheVariants.{Ne, Cmp, PartialCmp}
 
 -- the tokens of the path
-abbrev pub path_lexemes : Callee → List Lexeme
+abbrev pub path_lexemes : BuiltIn → List Lexeme
 path_lexemes Ne = quoted (codes ":: core :: cmp :: PartialEq :: ne")
 path_lexemes Cmp = quoted (codes ":: core :: cmp :: Ord :: cmp")
 path_lexemes PartialCmp = quoted (codes ":: core :: cmp :: PartialOrd :: partial_cmp")
 
 -- its names, the first one first
-abbrev pub path_names : Callee → List (List ℕ)
+abbrev pub path_names : BuiltIn → List (List ℕ)
 path_names Ne = codes "core" ∷ codes "cmp" ∷ codes "PartialEq" ∷ codes "ne" ∷ []
 path_names Cmp = codes "core" ∷ codes "cmp" ∷ codes "Ord" ∷ codes "cmp" ∷ []
 path_names PartialCmp = codes "core" ∷ codes "cmp" ∷ codes "PartialOrd" ∷ codes "partial_cmp" ∷ []
@@ -45,6 +45,6 @@ pub record IsMade (found : List Lexeme) (names : List (List ℕ)) (path : ExprPa
   pub segments : map said_by (out-Path path.path).segments ≡ map name_alone names
 
 -- the path by which generated code calls the function: it is made so, and it is the reading of its tokens
-pub record IsBuiltIn (callee : Callee) (path : ExprPath) : Type 0 where
-  pub made : IsMade (path_lexemes callee) (path_names callee) path
+pub record IsBuiltIn (which : BuiltIn) (path : ExprPath) : Type 0 where
+  pub made : IsMade (path_lexemes which) (path_names which) path
   pub reads : IsWhole expr_path path.written.tokens path

@@ -4,9 +4,13 @@ use Rattle.std.specs.Borrow.{Bor}
 use Rattle.std.specs.Str.{bytes_eq}
 use Rattle.std.specs.Cmp.Lexicographic.{pointwise}
 use Rattle.educe_tokens.specs.declared.token.Token.{Token}
+use Rattle.educe_tokens.specs.Text.{text_of}
+use Rattle.educe_tokens.specs.WrittenLexemes.{written_lexemes}
 use Rattle.educe_tree.specs.declared.expr.ExprPath.{ExprPath}
-use Rattle.educe_body.specs.declared.answers.Callee.{Callee}
-use Rattle.educe_body.specs.declared.answers.Callee.TheVariants.{Ne, Cmp, PartialCmp}
+use Rattle.educe_body.specs.declared.callee.BuiltIn.{BuiltIn}
+use Rattle.educe_body.specs.declared.callee.BuiltIn.TheVariants.{Ne, Cmp, PartialCmp}
+use Rattle.educe_body.specs.declared.callee.Callee.{Callee}
+use Rattle.educe_body.specs.declared.callee.Callee.TheVariants.{Ne as CalleeNe, Cmp as CalleeCmp, PartialCmp as CalleePartialCmp, Written}
 
 -- the spellings of tokens; where they agree the tokens are the same (`AreSameTokens`), since a spelling decides the kind
 abbrev pub spellings : List Token → List (List ℕ)
@@ -30,22 +34,42 @@ abbrev pub partial_cmp_path : List (List ℕ)
 partial_cmp_path = path_of (codes "core" ∷ codes "cmp" ∷ codes "PartialOrd" ∷ codes "partial_cmp" ∷ [])
 
 -- the function that a path of these spellings names, if it is built in
-unfoldable pub callee_named : List (List ℕ) → Option Callee
-callee_named path =
+unfoldable pub built_in_named : List (List ℕ) → Option BuiltIn
+built_in_named path =
     if pointwise bytes_eq path ne_path then Some Ne
     else if pointwise bytes_eq path cmp_path then Some Cmp
     else if pointwise bytes_eq path partial_cmp_path then Some PartialCmp
     else None
 
-abbrev pub callee_of : ExprPath → Option Callee
-callee_of path = callee_named (spellings path.written.tokens)
+-- the function that a path names, if it is built in
+abbrev pub built_in : ExprPath → Option BuiltIn
+built_in path = built_in_named (spellings path.written.tokens)
+
+-- a function that is built in, as what is called
+abbrev pub as_callee : BuiltIn → Callee
+as_callee Ne = CalleeNe
+as_callee Cmp = CalleeCmp
+as_callee PartialCmp = CalleePartialCmp
+
+-- the text of a path
+abbrev pub text_of_path : ExprPath → List ℕ
+text_of_path path = text_of (written_lexemes path.written)
+
+-- a function that is built in, or else that of the path's text
+abbrev pub callee_or_text : ExprPath → Option BuiltIn → Callee
+callee_or_text path None = Written (text_of_path path)
+callee_or_text path (Some which) = as_callee which
+
+-- what a path names: a function that is built in, or that of its text
+abbrev pub callee_of : ExprPath → Callee
+callee_of path = callee_or_text path (built_in path)
 
 -- the tokens are spelled `::` and the word
 abbrev pub segment_is : Token → Token → Token → List ℕ → Bool
 segment_is first second name word = bytes_eq first.spelling (codes ":") && bytes_eq second.spelling (codes ":") && bytes_eq name.spelling word
 
 -- the function of the first path of a table that has these spellings
-unfoldable pub first_named : List (List (Bor (List ℕ)) × Callee) → List (List ℕ) → Option Callee
+unfoldable pub first_named : List (List (Bor (List ℕ)) × BuiltIn) → List (List ℕ) → Option BuiltIn
 first_named [] path = None
 first_named (known ∷ more) path =
     if pointwise bytes_eq path (path_of (map (λ word. chars word.now) known.0)) then Some known.1 else first_named more path

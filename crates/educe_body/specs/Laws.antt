@@ -1,24 +1,32 @@
--- What holds of bodies with no call: of the keys of fields, and of the values of forms that hold forms.
-use Rattle.std.specs.Prelude.{◌≡◌, ◌≤◌, ◌^◌, ℕ, Bool, List, [], ◌∷◌, length, map}
+-- What holds of bodies with no call: of the keys of fields, of what paths call, and of the values of forms that hold forms.
+use Rattle.std.specs.Prelude.{◌≡◌, ◌≤◌, ◌^◌, ℕ, Bool, List, [], ◌∷◌, Option, Some, length}
+use Rattle.std.specs.List.{AllByRecursion}
 use Rattle.std.specs.declared.cmp.Ordering.{Ordering}
+use Rattle.educe_tokens.specs.declared.token.Token.{Token}
+use Rattle.educe_tokens.specs.WrittenLexemes.{written_lexemes}
 use Rattle.educe_tree.specs.declared.derive.DeriveInput.{DeriveInput}
 use Rattle.educe_tree.specs.declared.expr.ExprPath.{ExprPath}
 use Rattle.educe_grammar.specs.Naming.{AreNamesApart}
-use Rattle.educe_body.specs.declared.form.Form.{Form, Call, IfReturn, MatchOrdering}
+use Rattle.educe_body.specs.declared.form.Form.{Form, Call, Not, IfReturn, Return, SomeOf, MatchOrdering, Block}
 use Rattle.educe_body.specs.declared.value.FieldValue.{FieldValue}
-use Rattle.educe_body.specs.declared.evaluator.Binding.{Binding}
-use Rattle.educe_body.specs.declared.evaluator.Flow.{Flow}
-use Rattle.educe_body.specs.declared.evaluator.Flow.TheVariants.{Gives}
-use Rattle.educe_body.specs.declared.evaluator.Thing.TheVariants.{Part}
+use Rattle.educe_body.specs.declared.callee.BuiltIn.{BuiltIn}
+use Rattle.educe_body.specs.declared.environment.Binding.{Binding}
+use Rattle.educe_body.specs.declared.environment.Env.{Env}
+use Rattle.educe_body.specs.declared.flow.Thing.{Thing}
+use Rattle.educe_body.specs.declared.flow.Thing.TheVariants.{Nothing}
+use Rattle.educe_body.specs.declared.flow.Flow.TheVariants.{Gives, Returns}
+use Rattle.educe_body.specs.BuiltIn.{path_lexemes, IsBuiltIn}
+use Rattle.educe_body.specs.Callees.{built_in, as_callee, callee_of}
 use Rattle.educe_body.specs.Keys.{AreDifferent, fields_of, keys_of}
-use Rattle.educe_body.specs.Meaning.{Scene, form_value, part_of, call_value, if_return, match_ordering}
+use Rattle.educe_body.specs.Scoping.{callee_in, IsApart, AreOwnNames}
+use Rattle.educe_body.specs.Meaning.{Scene, form_value, list_value, args_list, part_of, call_value, go_on, leave, opposite, some_of, unless_true, arm_of}
 
 -- by this look-up the keys give the values, one for each
-abbrev pub KeysGive : (List ℕ → Flow) → List (List ℕ) → List FieldValue → Type 0
+abbrev pub KeysGive : (List ℕ → Option FieldValue) → List (List ℕ) → List FieldValue → Type 0
 KeysGive look [] [] = Unit {0}
 KeysGive look [] (x ∷ values) = ⊥
 KeysGive look (k ∷ keys) [] = ⊥
-KeysGive look (k ∷ keys) (x ∷ values) = (look k ≡ Gives (Part x)) × KeysGive look keys values
+KeysGive look (k ∷ keys) (x ∷ values) = (look k ≡ Some x) × KeysGive look keys values
 
 -- Keys of fields.
 pub record KeyLaws : Type 0 where
@@ -27,13 +35,35 @@ pub record KeyLaws : Type 0 where
   -- keys that differ select the values at their places
   pub select : (keys : List (List ℕ)) (values : List FieldValue) → AreDifferent keys → length keys ≡ length values → KeysGive (part_of keys values) keys values
 
+-- What paths call where names are in scope.
+pub record ScopeLaws : Type 0 where
+  -- where no name in scope is a word of the input, `self` aside, and each identifier of the path is one, the path calls what it names
+  pub own : (input : List Token) (names : List Binding) (path : ExprPath) → AllByRecursion (IsApart input) names → AreOwnNames input path.written.tokens
+      → callee_in names path ≡ Some (callee_of path)
+  -- a path that names a function that is built in calls it, whatever names are in scope
+  pub called : (names : List Binding) (path : ExprPath) (which : BuiltIn) → built_in path ≡ Some which → callee_in names path ≡ Some (as_callee which)
+  -- so does one that is printed as generated code writes it
+  pub printed : (names : List Binding) (path : ExprPath) (which : BuiltIn) → written_lexemes path.written ≡ path_lexemes which → callee_in names path ≡ Some (as_callee which)
+  -- so does the path that is made for it
+  pub made : (names : List Binding) (path : ExprPath) (which : BuiltIn) → IsBuiltIn which path → callee_in names path ≡ Some (as_callee which)
+
 -- Forms that hold forms.
 pub record FormLaws : Type 0 where
-  -- the value of a call, by the values of its arguments
-  pub call : (scene : Scene) (names : List Binding) (path : ExprPath) (arguments : List Form)
-      → form_value scene names (Call path arguments) ≡ call_value scene path (map (form_value scene names) arguments)
-  -- of a test, by the value of what it holds
-  pub test : (scene : Scene) (names : List Binding) (held : Form) → form_value scene names (IfReturn held) ≡ if_return (form_value scene names held)
+  -- the value of a call, by the values of its arguments, each where the one before left the names
+  pub call : (scene : Scene) (env : Env) (path : ExprPath) (arguments : List Form) → form_value scene env (Call path arguments) ≡ args_list scene env arguments (call_value scene env.names path)
+  -- of two arguments that leave the names as they are
+  pub call_two : (scene : Scene) (env : Env) (path : ExprPath) (x y : Form) (a b : Thing) → form_value scene env x ≡ Gives env a → form_value scene env y ≡ Gives env b
+      → form_value scene env (Call path (x ∷ y ∷ [])) ≡ call_value scene env.names path env (a ∷ b ∷ [])
+  -- of the opposite, by the value of what it holds
+  pub negation : (scene : Scene) (env : Env) (held : Form) → form_value scene env (Not held) ≡ go_on (form_value scene env held) opposite
+  -- of an order in `Some`
+  pub in_some : (scene : Scene) (env : Env) (held : Form) → form_value scene env (SomeOf held) ≡ go_on (form_value scene env held) some_of
+  -- of a test
+  pub test : (scene : Scene) (env : Env) (held : Form) → form_value scene env (IfReturn held) ≡ go_on (form_value scene env held) unless_true
+  -- of a return
+  pub returned : (scene : Scene) (env : Env) (held : Form) → form_value scene env (Return held) ≡ go_on (form_value scene env held) Returns
   -- of a match, by the value of what is matched
-  pub matches : (scene : Scene) (names : List Binding) (matched : Form) (partial : Bool) (greater less : Ordering)
-      → form_value scene names (MatchOrdering matched partial greater less) ≡ match_ordering partial greater less (form_value scene names matched)
+  pub matches : (scene : Scene) (env : Env) (matched : Form) (partial : Bool) (greater less : Ordering)
+      → form_value scene env (MatchOrdering matched partial greater less) ≡ go_on (form_value scene env matched) (arm_of partial greater less)
+  -- of a block, by the values of its forms in order
+  pub block : (scene : Scene) (env : Env) (forms : List Form) → form_value scene env (Block forms) ≡ leave env.names (list_value scene env Nothing forms)

@@ -1,11 +1,12 @@
 pub mod Answering
 pub mod Callees
+pub mod Scoping
 pub mod Keys
 pub mod Meaning
 pub mod Tokens
 pub mod BuiltIn
 pub mod Printing
-pub mod TokenLaws
+pub mod Printouts
 pub mod Laws
 pub mod NameLaws
 -- The words of an input, and names that are none of them.

@@ -1,21 +1,12 @@
 //! The table that says what calls answer.
-ghost use Rattle.std.specs.Prelude.{◌≡◌};
+ghost use Rattle.std.specs.Prelude.{◌≡◌, IfOk};
 ghost use Rattle.educe_body.specs.Answering.{answer_of, row_fits, by_number_answer};
 
+use crate::callee::Callee;
 use crate::value::FieldValue;
 use educe_tokens::Seq;
+use std::alloc::{AllocError, Global};
 use std::cmp::Ordering;
-
-/// What is called.
-#[derive(Clone, Copy, Debug, PartialEq, Eq)]
-pub enum Callee {
-    /// `PartialEq::ne`
-    Ne,
-    /// `Ord::cmp`
-    Cmp,
-    /// `PartialOrd::partial_cmp`
-    PartialCmp,
-}
 
 /// What a call answers.
 #[derive(Clone, Copy, Debug, PartialEq, Eq)]
@@ -26,7 +17,7 @@ pub enum Answer {
 }
 
 /// What a call of these arguments answers.
-#[derive(Clone, Copy, Debug, PartialEq, Eq)]
+#[derive(Drop)]
 pub struct Row {
     pub callee: Callee,
     pub first: Option<FieldValue>,
@@ -34,10 +25,26 @@ pub struct Row {
     pub answer: Answer,
 }
 
+impl Row {
+    /// The same row.
+    pub fn duplicate(&self, alloc: Global) -> Result<Row, AllocError>
+        ensures { IfOk result (λ row. row ≡ self.now) }
+    {
+        let callee = self.callee.duplicate(alloc)?;
+        Ok(Row {
+            callee,
+            first: self.first,
+            second: self.second,
+            answer: self.answer,
+        })
+    }
+}
+
 /// Rows in their order.
 pub type Rows = Seq<Row>;
 
-/// A table of answers. Where no row fits, `by_number` has the numbers of two values of one type compared.
+/// A table of answers. Where no row fits, `by_number` has the numbers of two values of one type
+/// compared, by a function that is built in.
 #[derive(Drop)]
 pub struct Answers {
     pub rows: Rows,
@@ -71,7 +78,7 @@ impl Answers {
 fn fits(row: &Row, callee: &Callee, first: Option<FieldValue>, second: Option<FieldValue>) -> bool
     ensures { result ≡ row_fits row.now callee.now first second }
 {
-    row.callee == *callee && row.first == first && row.second == second
+    row.callee.is(callee) && row.first == first && row.second == second
 }
 
 fn by_number(
@@ -90,6 +97,7 @@ fn by_number(
                 Callee::Ne => Some(Answer::Truth(x.number != y.number)),
                 Callee::Cmp => Some(Answer::Order(x.number.cmp(&y.number))),
                 Callee::PartialCmp => Some(Answer::PartialOrder(Some(x.number.cmp(&y.number)))),
+                Callee::Written(_) => None,
             }
         }
         _ => None,

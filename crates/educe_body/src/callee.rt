@@ -1,44 +1,119 @@
 //! Which functions paths name.
-ghost use Rattle.std.specs.Prelude.{◌≡◌, map, chars, codes};
+ghost use Rattle.std.specs.Prelude.{◌≡◌, IfOk, map, chars, codes};
 ghost use Rattle.std.specs.Str.{bytes_eq};
 ghost use Rattle.std.specs.Cmp.Lexicographic.{pointwise};
 ghost use Rattle.educe_tokens.specs.Same.{AreSameTokens};
 ghost use Rattle.educe_tree.specs.declared.expr.ExprPath.{ExprPath};
-ghost use Rattle.educe_body.specs.Callees.{callee_of, first_named, path_of, segment_is, spellings};
+ghost use Rattle.educe_body.specs.Answering.{same_callee};
+ghost use Rattle.educe_body.specs.Callees.{built_in, as_callee, text_of_path, first_named, path_of, segment_is, spellings};
 
-use crate::answers::Callee;
 use crate::text::is_text;
-use educe_tokens::Token;
-use educe_tree::ExprPath;
+use educe_tokens::{Spelling, Token};
+use educe_tree::{ExprPath, text_of_tree};
+use std::alloc::{AllocError, Global};
+
+/// A function of the core library that generated code calls.
+#[derive(Clone, Copy, Debug, PartialEq, Eq)]
+pub enum BuiltIn {
+    /// `PartialEq::ne`
+    Ne,
+    /// `Ord::cmp`
+    Cmp,
+    /// `PartialOrd::partial_cmp`
+    PartialCmp,
+}
+
+/// What is called.
+#[derive(Drop)]
+pub enum Callee {
+    /// `PartialEq::ne`
+    Ne,
+    /// `Ord::cmp`
+    Cmp,
+    /// `PartialOrd::partial_cmp`
+    PartialCmp,
+    /// The function that a user's path of this text names: its tokens with one space between any
+    /// two, but none behind a joint punct, as in `a :: b`.
+    Written(Spelling),
+}
 
 /// The built-in functions, each behind the words of its path, as in `::core::cmp::PartialEq::ne`.
-const BUILT_IN: [([&str; 4], Callee); 3] = [
-    (["core", "cmp", "PartialEq", "ne"], Callee::Ne),
-    (["core", "cmp", "Ord", "cmp"], Callee::Cmp),
+const BUILT_IN: [([&str; 4], BuiltIn); 3] = [
+    (["core", "cmp", "PartialEq", "ne"], BuiltIn::Ne),
+    (["core", "cmp", "Ord", "cmp"], BuiltIn::Cmp),
     (
         ["core", "cmp", "PartialOrd", "partial_cmp"],
-        Callee::PartialCmp,
+        BuiltIn::PartialCmp,
     ),
 ];
 
-/// The built-in function that a path names: the path has its tokens, jointness and spans aside.
-pub fn callee_of(path: &ExprPath) -> Option<Callee>
-    ensures named { result ≡ callee_of path.now }
+impl BuiltIn {
+    /// The function as what is called.
+    pub fn callee(self) -> Callee
+        ensures { result ≡ as_callee self }
+    {
+        match self {
+            BuiltIn::Ne => Callee::Ne,
+            BuiltIn::Cmp => Callee::Cmp,
+            BuiltIn::PartialCmp => Callee::PartialCmp,
+        }
+    }
+}
+
+impl Callee {
+    /// The same callee.
+    pub fn duplicate(&self, alloc: Global) -> Result<Callee, AllocError>
+        ensures { IfOk result (λ callee. callee ≡ self.now) }
+    {
+        match self {
+            Callee::Ne => Ok(Callee::Ne),
+            Callee::Cmp => Ok(Callee::Cmp),
+            Callee::PartialCmp => Ok(Callee::PartialCmp),
+            Callee::Written(text) => Ok(Callee::Written(text.duplicate(alloc)?)),
+        }
+    }
+
+    /// Whether both are one callee.
+    pub fn is(&self, other: &Callee) -> bool
+        ensures { result ≡ same_callee self.now other.now }
+    {
+        match (self, other) {
+            (Callee::Ne, Callee::Ne) => true,
+            (Callee::Cmp, Callee::Cmp) => true,
+            (Callee::PartialCmp, Callee::PartialCmp) => true,
+            (Callee::Written(own), Callee::Written(text)) => is_text(own, text.as_str()),
+            _ => false,
+        }
+    }
+}
+
+/// The function that a path names, if it is built in: the path has its tokens, jointness and spans
+/// aside.
+pub fn built_in(path: &ExprPath) -> Option<BuiltIn>
+    ensures named { result ≡ built_in path.now }
     // A path of the same tokens names the same function.
     ensures same { (other : ExprPath) → AreSameTokens path.now.written.tokens other.written.tokens →
-        callee_of other ≡ result }
+        built_in other ≡ result }
 {
     named(path.written.tokens().as_slice(), &BUILT_IN)
 }
 
+/// The text of a path.
+pub(crate) fn text_of_path(alloc: Global, path: &ExprPath) -> Result<Spelling, AllocError>
+    ensures { IfOk result (λ text. text ≡ text_of_path path.now) }
+{
+    let text = text_of_tree(alloc, path)?;
+    Spelling::from_str(alloc, &text)
+}
+
 /// The function of the first path that is spelled as the tokens.
 #[tactic(auto, unfolding(crate::specs::Callees::first_named))]
-fn named(tokens: &[Token], known: &[([&str; 4], Callee)]) -> Option<Callee>
+fn named(tokens: &[Token], known: &[([&str; 4], BuiltIn)]) -> Option<BuiltIn>
     ensures { result ≡ first_named known.now (spellings tokens.now) }
 {
-    for (words, callee) in known {
+    for (words, which) in known {
         if is_spelled(tokens, words) {
-            return Some(*callee);
+            return Some(*which);
         }
     }
     None

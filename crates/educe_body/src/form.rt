@@ -23,6 +23,8 @@ pub enum Form {
     Reference(Ident, Word),
     /// The path of a function, which calls of the same function share, and its arguments.
     Call(Shared<ExprPath>, Forms),
+    /// `!x`
+    Not(Boxed<Form>),
     /// `::core::option::Option::Some(x)`
     SomeOf(Boxed<Form>),
     /// `if x { return false; }`

@@ -4,8 +4,8 @@ ghost use Rattle.std.specs.List.{flat_map};
 ghost use Rattle.educe_tokens.specs.Appends.{Appends, HasPrefix};
 ghost use Rattle.educe_tokens.proofs.Printable.{well_formed_from, ends_apart_from, lexes_back_from};
 ghost use Rattle.educe_body.specs.Printing.{comma_before, separated};
-ghost use Rattle.educe_body.specs.Tokens.{in_curly, in_some, known_lexemes, form_lexemes};
-ghost use Rattle.educe_body.specs.TokenLaws.{known_printable, form_printable};
+ghost use Rattle.educe_body.specs.Printouts.{Prints, each, in_curly};
+ghost use Rattle.educe_body.specs.Tokens.{in_some, known_printout, form_printout, form_lexemes};
 
 use crate::form::{Form, Forms, Known};
 use crate::print_orders::{push_arm_block, push_order, push_some_order};
@@ -14,13 +14,13 @@ use educe_tree::{ExprPath, Ident, ToTokens};
 use std::alloc::{AllocError, Global};
 
 impl ToTokens for Known {
-    ghost lexemes_of = { known_lexemes };
+    ghost lexemes_of = { λ known. (known_printout known).tokens };
 
-    ghost well_formed = { λ known. well_formed_from (known_printable known) };
+    ghost well_formed = { λ known. well_formed_from (known_printout known).printable };
 
-    ghost ends_apart = { λ known. ends_apart_from (known_printable known) };
+    ghost ends_apart = { λ known. ends_apart_from (known_printout known).printable };
 
-    ghost lexes_back = { λ known. lexes_back_from (known_printable known) };
+    ghost lexes_back = { λ known. lexes_back_from (known_printout known).printable };
 
     fn to_tokens(&self, alloc: Global, tokens: &mut TokenStream) -> Result<(), AllocError> {
         match self {
@@ -40,11 +40,11 @@ impl ToTokens for Known {
 impl ToTokens for Form {
     ghost lexemes_of = { form_lexemes };
 
-    ghost well_formed = { λ form. well_formed_from (form_printable form) };
+    ghost well_formed = { λ form. well_formed_from (form_printout form).printable };
 
-    ghost ends_apart = { λ form. ends_apart_from (form_printable form) };
+    ghost ends_apart = { λ form. ends_apart_from (form_printout form).printable };
 
-    ghost lexes_back = { λ form. lexes_back_from (form_printable form) };
+    ghost lexes_back = { λ form. lexes_back_from (form_printout form).printable };
 
     #[cycle(print)]
     fn to_tokens(&self, alloc: Global, tokens: &mut TokenStream) -> Result<(), AllocError> {
@@ -53,6 +53,10 @@ impl ToTokens for Form {
             Form::Known(known) => known.to_tokens(alloc, tokens),
             Form::Reference(base, field) => push_reference(alloc, tokens, base, field),
             Form::Call(path, arguments) => push_call(alloc, tokens, path.get(), arguments),
+            Form::Not(inner) => {
+                quote(alloc, tokens, "!")?;
+                inner.get().to_tokens(alloc, tokens)
+            }
             Form::SomeOf(inner) => push_some(alloc, tokens, inner.get()),
             Form::IfReturn(test) => {
                 quote(alloc, tokens, "if")?;
@@ -82,7 +86,7 @@ fn push_reference(
     field: &Word,
 ) -> Result<(), AllocError>
     ensures ok { let form = Form.Reference base.now field.now in
-        OnOk result (Appends (form_lexemes form) tokens.old tokens.new) }
+        OnOk result (Prints (form_printout form) tokens.old tokens.new) }
     ensures prefix { HasPrefix tokens.old tokens.new }
 {
     quote(alloc, tokens, "&")?;
@@ -100,7 +104,7 @@ fn push_call(
     arguments: &Forms,
 ) -> Result<(), AllocError>
     ensures ok { let form = Form.Call path.now arguments.now in
-        OnOk result (Appends (form_lexemes form) tokens.old tokens.new) }
+        OnOk result (Prints (form_printout form) tokens.old tokens.new) }
     ensures prefix { HasPrefix tokens.old tokens.new }
 {
     path.to_tokens(alloc, tokens)?;
@@ -112,7 +116,7 @@ fn push_call(
 /// Appends a form in `Some`.
 #[cycle(print)]
 fn push_some(alloc: Global, tokens: &mut TokenStream, inner: &Form) -> Result<(), AllocError>
-    ensures ok { OnOk result (Appends (in_some (form_lexemes inner.now)) tokens.old tokens.new) }
+    ensures ok { OnOk result (Prints (in_some (form_printout inner.now)) tokens.old tokens.new) }
     ensures prefix { HasPrefix tokens.old tokens.new }
 {
     quote(alloc, tokens, ":: core :: option :: Option :: Some")?;
@@ -158,8 +162,8 @@ pub(crate) fn push_block(
     tokens: &mut TokenStream,
     forms: &Forms,
 ) -> Result<(), AllocError>
-    ensures ok { let found = in_curly (flat_map form_lexemes forms.now) in
-        OnOk result (Appends found tokens.old tokens.new) }
+    ensures ok { let found = in_curly (each form_printout forms.now) in
+        OnOk result (Prints found tokens.old tokens.new) }
     ensures prefix { HasPrefix tokens.old tokens.new }
 {
     quote(alloc, tokens, "{")?;

@@ -1,12 +1,10 @@
 //! The tokens of functions and items.
 ghost use Rattle.std.specs.Prelude.{◌++◌, IsTrue, OnOk, codes};
-ghost use Rattle.std.specs.List.{flat_map};
-ghost use Rattle.educe_tokens.specs.WrittenLexemes.{written_lexemes};
 ghost use Rattle.educe_tokens.specs.Quote.{is_template, quoted};
 ghost use Rattle.educe_tokens.specs.Appends.{Appends, HasPrefix};
 ghost use Rattle.educe_tokens.proofs.Printable.{well_formed_from, ends_apart_from, lexes_back_from};
-ghost use Rattle.educe_body.specs.Tokens.{in_round, name_lexemes, eq_head, partial_cmp_head, cmp_head, other_head, function_head, function_lexemes, trait_path, impl_lexemes, item_lexemes};
-ghost use Rattle.educe_body.specs.TokenLaws.{impl_printable, item_printable};
+ghost use Rattle.educe_body.specs.Printouts.{Prints, each};
+ghost use Rattle.educe_body.specs.Tokens.{first_name, eq_head, partial_cmp_head, cmp_head, other_head, function_head, function_printout, trait_path, impl_head, impl_printout, item_printout, item_lexemes};
 
 use crate::body::{Function, Functions, ImplItem, Item, Names};
 use crate::comparison::Comparison;
@@ -23,7 +21,7 @@ impl Function {
         tokens: &mut TokenStream,
         which: Comparison,
     ) -> Result<(), AllocError>
-        ensures ok { OnOk result (Appends (function_lexemes which self.now) tokens.old tokens.new) }
+        ensures ok { OnOk result (Prints (function_printout which self.now) tokens.old tokens.new) }
         ensures prefix { HasPrefix tokens.old tokens.new }
     {
         self.push_head(alloc, tokens, which)?;
@@ -37,7 +35,7 @@ impl Function {
         tokens: &mut TokenStream,
         which: Comparison,
     ) -> Result<(), AllocError>
-        ensures ok { OnOk result (Appends (function_head which self.now) tokens.old tokens.new) }
+        ensures ok { OnOk result (Prints (function_head which self.now) tokens.old tokens.new) }
         ensures prefix { HasPrefix tokens.old tokens.new }
     {
         match which {
@@ -68,7 +66,7 @@ impl Function {
 
 /// Appends the head of `eq`.
 fn push_eq_head(alloc: Global, tokens: &mut TokenStream, params: &Names) -> Result<(), AllocError>
-    ensures ok { OnOk result (Appends (eq_head params.now) tokens.old tokens.new) }
+    ensures ok { OnOk result (Prints (eq_head params.now) tokens.old tokens.new) }
     ensures prefix { HasPrefix tokens.old tokens.new }
 {
     quote(alloc, tokens, "fn eq")?;
@@ -82,7 +80,7 @@ fn push_partial_cmp_head(
     tokens: &mut TokenStream,
     params: &Names,
 ) -> Result<(), AllocError>
-    ensures ok { OnOk result (Appends (partial_cmp_head params.now) tokens.old tokens.new) }
+    ensures ok { OnOk result (Prints (partial_cmp_head params.now) tokens.old tokens.new) }
     ensures prefix { HasPrefix tokens.old tokens.new }
 {
     quote(alloc, tokens, "fn partial_cmp")?;
@@ -96,7 +94,7 @@ fn push_partial_cmp_head(
 
 /// Appends the head of `cmp`.
 fn push_cmp_head(alloc: Global, tokens: &mut TokenStream, params: &Names) -> Result<(), AllocError>
-    ensures ok { OnOk result (Appends (cmp_head params.now) tokens.old tokens.new) }
+    ensures ok { OnOk result (Prints (cmp_head params.now) tokens.old tokens.new) }
     ensures prefix { HasPrefix tokens.old tokens.new }
 {
     quote(alloc, tokens, "fn cmp")?;
@@ -112,9 +110,9 @@ fn push_parameters(
     other: &str,
 ) -> Result<(), AllocError>
     requires { IsTrue (is_template other.now) }
-    ensures ok { let name = name_lexemes params.now in
-        let inside = quoted (codes "& self ,") ++ name ++ quoted other.now in
-        OnOk result (Appends (in_round inside) tokens.old tokens.new) }
+    ensures ok { let inside = quoted (codes "& self ,") ++ (first_name params.now).tokens ++ quoted other.now in
+        let found = quoted (codes "(") ++ inside ++ quoted (codes ")") in
+        OnOk result (Appends found tokens.old tokens.new) }
     ensures prefix { HasPrefix tokens.old tokens.new }
 {
     quote(alloc, tokens, "(")?;
@@ -126,7 +124,7 @@ fn push_parameters(
 
 /// Appends the head of a function that the trait does not have.
 fn push_other_head(alloc: Global, tokens: &mut TokenStream, name: &Word) -> Result<(), AllocError>
-    ensures ok { OnOk result (Appends (other_head name.now) tokens.old tokens.new) }
+    ensures ok { OnOk result (Prints (other_head name.now) tokens.old tokens.new) }
     ensures prefix { HasPrefix tokens.old tokens.new }
 {
     quote(alloc, tokens, "fn")?;
@@ -136,7 +134,7 @@ fn push_other_head(alloc: Global, tokens: &mut TokenStream, name: &Word) -> Resu
 
 /// Appends the first name, if there is one.
 fn push_first(alloc: Global, tokens: &mut TokenStream, names: &Names) -> Result<(), AllocError>
-    ensures ok { OnOk result (Appends (name_lexemes names.now) tokens.old tokens.new) }
+    ensures ok { OnOk result (Prints (first_name names.now) tokens.old tokens.new) }
     ensures prefix { HasPrefix tokens.old tokens.new }
 {
     match names.get(0) {
@@ -147,7 +145,7 @@ fn push_first(alloc: Global, tokens: &mut TokenStream, names: &Names) -> Result<
 
 /// Appends the path of a trait.
 fn push_trait(alloc: Global, tokens: &mut TokenStream, which: Comparison) -> Result<(), AllocError>
-    ensures ok { OnOk result (Appends (trait_path which) tokens.old tokens.new) }
+    ensures ok { OnOk result (Prints (trait_path which) tokens.old tokens.new) }
     ensures prefix { HasPrefix tokens.old tokens.new }
 {
     match which {
@@ -164,8 +162,8 @@ fn push_functions(
     which: Comparison,
     functions: &Functions,
 ) -> Result<(), AllocError>
-    ensures ok { let found = flat_map (function_lexemes which) functions.now in
-        OnOk result (Appends found tokens.old tokens.new) }
+    ensures ok { let found = each (function_printout which) functions.now in
+        OnOk result (Prints found tokens.old tokens.new) }
     ensures prefix { HasPrefix tokens.old tokens.new }
 {
     for function in functions.as_slice() {
@@ -175,13 +173,13 @@ fn push_functions(
 }
 
 impl ToTokens for ImplItem {
-    ghost lexemes_of = { impl_lexemes };
+    ghost lexemes_of = { λ item. (impl_printout item).tokens };
 
-    ghost well_formed = { λ item. well_formed_from (impl_printable item) };
+    ghost well_formed = { λ item. well_formed_from (impl_printout item).printable };
 
-    ghost ends_apart = { λ item. ends_apart_from (impl_printable item) };
+    ghost ends_apart = { λ item. ends_apart_from (impl_printout item).printable };
 
-    ghost lexes_back = { λ item. lexes_back_from (impl_printable item) };
+    ghost lexes_back = { λ item. lexes_back_from (impl_printout item).printable };
 
     fn to_tokens(&self, alloc: Global, tokens: &mut TokenStream) -> Result<(), AllocError> {
         self.push_head(alloc, tokens)?;
@@ -195,10 +193,7 @@ impl ToTokens for ImplItem {
 impl ImplItem {
     /// Appends what stands before the name of the type.
     fn push_head(&self, alloc: Global, tokens: &mut TokenStream) -> Result<(), AllocError>
-        ensures ok { let attributes = written_lexemes self.now.attributes in
-            let path = trait_path self.now.which in
-            let head = attributes ++ quoted (codes "impl") ++ path ++ quoted (codes "for") in
-            OnOk result (Appends head tokens.old tokens.new) }
+        ensures ok { OnOk result (Prints (impl_head self.now) tokens.old tokens.new) }
         ensures prefix { HasPrefix tokens.old tokens.new }
     {
         append_written(alloc, tokens, &self.attributes)?;
@@ -211,11 +206,11 @@ impl ImplItem {
 impl ToTokens for Item {
     ghost lexemes_of = { item_lexemes };
 
-    ghost well_formed = { λ item. well_formed_from (item_printable item) };
+    ghost well_formed = { λ item. well_formed_from (item_printout item).printable };
 
-    ghost ends_apart = { λ item. ends_apart_from (item_printable item) };
+    ghost ends_apart = { λ item. ends_apart_from (item_printout item).printable };
 
-    ghost lexes_back = { λ item. lexes_back_from (item_printable item) };
+    ghost lexes_back = { λ item. lexes_back_from (item_printout item).printable };
 
     fn to_tokens(&self, alloc: Global, tokens: &mut TokenStream) -> Result<(), AllocError> {
         match self {

@@ -1,7 +1,8 @@
 //! The tokens of orders, and of the arms that match on them.
 ghost use Rattle.std.specs.Prelude.{OnOk};
-ghost use Rattle.educe_tokens.specs.Appends.{Appends, HasPrefix};
-ghost use Rattle.educe_body.specs.Tokens.{in_curly, in_some, order_lexemes, answer_lexemes, returning_arm, none_arm, step_arms};
+ghost use Rattle.educe_tokens.specs.Appends.{HasPrefix};
+ghost use Rattle.educe_body.specs.Printouts.{Prints, in_curly};
+ghost use Rattle.educe_body.specs.Tokens.{order_printout, in_some, answer_printout, returning_arm, none_arm, step_arms};
 
 use educe_tokens::{TokenStream, quote};
 use std::alloc::{AllocError, Global};
@@ -13,7 +14,7 @@ pub(crate) fn push_order(
     tokens: &mut TokenStream,
     order: Ordering,
 ) -> Result<(), AllocError>
-    ensures ok { OnOk result (Appends (order_lexemes order) tokens.old tokens.new) }
+    ensures ok { OnOk result (Prints (order_printout order) tokens.old tokens.new) }
     ensures prefix { HasPrefix tokens.old tokens.new }
 {
     match order {
@@ -29,7 +30,7 @@ pub(crate) fn push_some_order(
     tokens: &mut TokenStream,
     order: Ordering,
 ) -> Result<(), AllocError>
-    ensures ok { OnOk result (Appends (in_some (order_lexemes order)) tokens.old tokens.new) }
+    ensures ok { OnOk result (Prints (in_some (order_printout order)) tokens.old tokens.new) }
     ensures prefix { HasPrefix tokens.old tokens.new }
 {
     quote(alloc, tokens, ":: core :: option :: Option :: Some")?;
@@ -45,7 +46,7 @@ fn push_answer(
     partial: bool,
     order: Ordering,
 ) -> Result<(), AllocError>
-    ensures ok { OnOk result (Appends (answer_lexemes partial order) tokens.old tokens.new) }
+    ensures ok { OnOk result (Prints (answer_printout partial order) tokens.old tokens.new) }
     ensures prefix { HasPrefix tokens.old tokens.new }
 {
     if partial {
@@ -63,7 +64,7 @@ fn push_returning_arm(
     pattern: Ordering,
     order: Ordering,
 ) -> Result<(), AllocError>
-    ensures ok { OnOk result (Appends (returning_arm partial pattern order) tokens.old tokens.new) }
+    ensures ok { OnOk result (Prints (returning_arm partial pattern order) tokens.old tokens.new) }
     ensures prefix { HasPrefix tokens.old tokens.new }
 {
     push_answer(alloc, tokens, partial, pattern)?;
@@ -74,7 +75,7 @@ fn push_returning_arm(
 
 /// Appends the arm for no order, which only a partial order has.
 fn push_none_arm(alloc: Global, tokens: &mut TokenStream, partial: bool) -> Result<(), AllocError>
-    ensures ok { OnOk result (Appends (none_arm partial) tokens.old tokens.new) }
+    ensures ok { OnOk result (Prints (none_arm partial) tokens.old tokens.new) }
     ensures prefix { HasPrefix tokens.old tokens.new }
 {
     if partial {
@@ -96,7 +97,7 @@ fn push_arms(
     greater: Ordering,
     less: Ordering,
 ) -> Result<(), AllocError>
-    ensures ok { OnOk result (Appends (step_arms partial greater less) tokens.old tokens.new) }
+    ensures ok { OnOk result (Prints (step_arms partial greater less) tokens.old tokens.new) }
     ensures prefix { HasPrefix tokens.old tokens.new }
 {
     push_answer(alloc, tokens, partial, Ordering::Equal)?;
@@ -115,7 +116,7 @@ pub(crate) fn push_arm_block(
     less: Ordering,
 ) -> Result<(), AllocError>
     ensures ok { let found = in_curly (step_arms partial greater less) in
-        OnOk result (Appends found tokens.old tokens.new) }
+        OnOk result (Prints found tokens.old tokens.new) }
     ensures prefix { HasPrefix tokens.old tokens.new }
 {
     quote(alloc, tokens, "{")?;

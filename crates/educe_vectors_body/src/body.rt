@@ -1,10 +1,13 @@
-//! Of `educe_body`: that words are found, names are chosen, fields are read and items are spelled,
-//! and that the words of the contracts mean what they are to mean.
+//! Of `educe_body`: that words are found, names are chosen, fields are read, functions are called and
+//! items are spelled, and that the words of the contracts mean what they are to mean.
 
-use educe_body::{Callee, Form, Forms, Shared, built_in_path};
+use crate::values::scope;
+use educe_body::{BuiltIn, Form, Forms, Scope, Shared, Value, built_in_path};
+use educe_syntax::DeriveInput;
 use educe_tokens::{Seq, pair};
 use std::alloc::{AllocError, Global};
 
+mod calls;
 mod fields;
 mod names;
 mod speller;
@@ -32,10 +35,15 @@ fn list_of_two<T: Drop>(
 /// The call of a function that is built in.
 fn call(
     alloc: Global,
-    callee: Callee,
+    which: BuiltIn,
     arguments: Result<Forms, AllocError>,
 ) -> Result<Form, AllocError> {
-    let path = Shared::new(alloc, built_in_path(alloc, &callee)?)?;
+    let path = Shared::new(alloc, built_in_path(alloc, which)?)?;
     let (path, arguments) = pair(path, arguments)?;
     Ok(Form::Call(path, arguments))
+}
+
+/// A definition with a value of `self` alone.
+fn scope_of<'a>(ast: &'a DeriveInput, this: &'a Value) -> Scope<'a> {
+    scope(ast, this, None)
 }

@@ -39,7 +39,7 @@ pub fn table(alloc: Global, rows: &[Row]) -> Result<Answers, AllocError>
 {
     let mut found = Seq::new(alloc);
     for row in rows {
-        found.push(*row)?;
+        found.push(row.duplicate(alloc)?)?;
     }
     Ok(Answers {
         rows: found,

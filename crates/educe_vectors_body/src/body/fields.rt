@@ -1,8 +1,8 @@
 //! Keys of fields, and bodies that read fields by them.
 
-use crate::body::{call, list, list_of_two};
-use crate::values::{scope, table, value};
-use educe_body::{Body, Callee, Form, Outcome, Scope, Value, eval, key_word};
+use crate::body::{call, list, list_of_two, scope_of};
+use crate::values::{table, value};
+use educe_body::{Body, BuiltIn, Form, Outcome, eval, key_word};
 use educe_syntax::{DeriveInput, Field, Ident, Shape};
 use educe_tokens::{Seq, Word};
 use educe_vectors_checks::{check_at, definition};
@@ -61,14 +61,9 @@ fn read(alloc: Global, key: Word) -> Result<Form, AllocError> {
 /// The comparison of two fields of `self` by these keys.
 fn compared(alloc: Global, first: Word, second: Word) -> Result<Body, AllocError> {
     let arguments = list_of_two(alloc, read(alloc, first), read(alloc, second));
-    let block = list(alloc, call(alloc, Callee::Cmp, arguments))?;
+    let block = list(alloc, call(alloc, BuiltIn::Cmp, arguments))?;
     let params = Seq::new(alloc);
     Ok(Body { params, block })
-}
-
-/// A definition with a value of `self` alone.
-fn scope_of<'a>(ast: &'a DeriveInput, this: &'a Value) -> Scope<'a> {
-    scope(ast, this, None)
 }
 
 /// What a body without parameters gives over the values 5 and 7.

@@ -4,7 +4,7 @@ ghost use Rattle.educe_tokens.specs.Quote.{is_ascii_name};
 
 use crate::body::{call, list, list_of_two};
 use educe_body::{
-    Body, Callee, Comparison, Form, Forms, Function, ImplItem, Item, Items, Known, built_in_path,
+    Body, BuiltIn, Comparison, Form, Forms, Function, ImplItem, Item, Items, Known, built_in_path,
     spell,
 };
 use educe_syntax::Ident;
@@ -32,19 +32,19 @@ fn local(alloc: Global, name: &str) -> Result<Form, AllocError>
 /// Where the fields `a` are not equal, `false` is returned.
 fn compared_field(alloc: Global) -> Result<Form, AllocError> {
     let fields = list_of_two(alloc, field(alloc, "self"), field(alloc, "other"));
-    let test = Boxed::new(alloc, call(alloc, Callee::Ne, fields)?)?;
+    let test = Boxed::new(alloc, call(alloc, BuiltIn::Ne, fields)?)?;
     Ok(Form::IfReturn(test))
 }
 
 /// The call of a function that is built in on `self` and `other`, on the heap.
-fn compared(alloc: Global, callee: Callee) -> Result<Boxed<Form>, AllocError> {
+fn compared(alloc: Global, which: BuiltIn) -> Result<Boxed<Form>, AllocError> {
     let names = list_of_two(alloc, local(alloc, "self"), local(alloc, "other"));
-    Boxed::new(alloc, call(alloc, callee, names)?)
+    Boxed::new(alloc, call(alloc, which, names)?)
 }
 
 /// Where the call finds no order but Equal, its answer is returned.
-fn step(alloc: Global, callee: Callee, partial: bool) -> Result<Form, AllocError> {
-    let matched = compared(alloc, callee)?;
+fn step(alloc: Global, which: BuiltIn, partial: bool) -> Result<Form, AllocError> {
+    let matched = compared(alloc, which)?;
     Ok(Form::MatchOrdering(matched, partial, Ordering::Greater, Ordering::Less))
 }
 
@@ -52,7 +52,7 @@ fn step(alloc: Global, callee: Callee, partial: bool) -> Result<Form, AllocError
 fn prints_forms_as_trees(rt: HostRuntime) -> Result<(), Fail> {
     let alloc = rt.alloc();
     check_text(
-        printed(alloc, built_in_path(alloc, &Callee::Ne)?)?,
+        printed(alloc, built_in_path(alloc, BuiltIn::Ne)?)?,
         ":: core :: cmp :: PartialEq :: ne",
     )?;
     check_text(
@@ -127,7 +127,7 @@ fn spells_an_implementation(rt: HostRuntime) -> Result<(), Fail> {
 fn spells_a_step_of_cmp(rt: HostRuntime) -> Result<(), Fail> {
     let alloc = rt.alloc();
     let end = Ok(Form::Known(Known::Order(Ordering::Equal)));
-    let block = list_of_two(alloc, step(alloc, Callee::Cmp, false), end);
+    let block = list_of_two(alloc, step(alloc, BuiltIn::Cmp, false), end);
     check_text(
         spelled(alloc, Comparison::Ord, "cmp", block)?,
         "# [ automatically_derived ] impl :: core :: cmp :: Ord for S { fn cmp ( & self , other : & Self ) -> :: core :: cmp :: Ordering { match :: core :: cmp :: Ord :: cmp ( self , other ) { :: core :: cmp :: Ordering :: Equal => ( ) , :: core :: cmp :: Ordering :: Greater => return :: core :: cmp :: Ordering :: Greater , :: core :: cmp :: Ordering :: Less => return :: core :: cmp :: Ordering :: Less , } :: core :: cmp :: Ordering :: Equal } }\n",
@@ -136,7 +136,7 @@ fn spells_a_step_of_cmp(rt: HostRuntime) -> Result<(), Fail> {
 
 /// The order in `Some`.
 fn some_order(alloc: Global) -> Result<Form, AllocError> {
-    Ok(Form::SomeOf(compared(alloc, Callee::Cmp)?))
+    Ok(Form::SomeOf(compared(alloc, BuiltIn::Cmp)?))
 }
 
 #[test]
@@ -144,7 +144,7 @@ fn spells_a_step_of_partial_cmp(rt: HostRuntime) -> Result<(), Fail> {
     let alloc = rt.alloc();
     let block = list_of_two(
         alloc,
-        step(alloc, Callee::PartialCmp, true),
+        step(alloc, BuiltIn::PartialCmp, true),
         some_order(alloc),
     );
     check_text(

@@ -1,9 +1,14 @@
-use Rattle.std.proofs.Common.{◌≡◌, drop}
-use Rattle.educe_body.specs.Meaning.{scene, list_value}
-use Rattle.educe_body.specs.declared.evaluator.Thing.TheVariants.{Nothing}
+use Rattle.std.proofs.Common.{◌≡◌, ◌++◌, drop}
+use Rattle.educe_body.specs.Meaning.{scene, list_value, args_list, call_named}
+use Rattle.educe_body.specs.declared.flow.Thing.TheVariants.{Nothing}
 use Rattle.educe_body.proofs.evaluator.+run.Given as goal
 
 abbrev pub invariant-run_block-loop-form : goal.invariant-run_block-loop-form
 invariant-run_block-loop-form l =
-    list_value (scene l.scope l.answers) l.names l.last (drop l.form-index l.form-items)
-    ≡ list_value (scene l.scope l.answers) l.names Nothing l.forms
+    list_value (scene l.scope l.answers) l.env l.last (drop l.form-index l.form-items)
+    ≡ list_value (scene l.scope l.answers) l.fn.env Nothing l.forms
+
+abbrev pub invariant-run_call-loop-argument : goal.invariant-run_call-loop-argument
+invariant-run_call-loop-argument l =
+    args_list (scene l.scope l.answers) l.env (drop l.argument-index l.argument-items) (λ env more. call_named l.answers l.callee env (l.things ++ more))
+    ≡ args_list (scene l.scope l.answers) l.fn.env l.arguments (call_named l.answers l.callee)

@@ -1,9 +1,14 @@
 use Rattle.std.proofs.Common.{sym, ap, ◌∙◌}
 use Rattle.std.proofs.lemmas.Result.{on_ok_weaker}
 use Rattle.educe_tokens.proofs.Appending.{Appends-append, Appends-same}
-use Rattle.educe_body.specs.Tokens.{in_some, form_lexemes}
-use Rattle.educe_body.proofs.Printed.{form_lexemes-Call, form_lexemes-IfReturn, form_lexemes-Return, form_lexemes-SomeOf, form_lexemes-MatchOrdering, form_lexemes-Block}
+use Rattle.educe_body.specs.Tokens.{in_some, form_printout, form_lexemes}
+use Rattle.educe_body.proofs.Printed.{form_lexemes-Call, form_lexemes-Not, form_lexemes-IfReturn, form_lexemes-Return, form_lexemes-SomeOf, form_lexemes-MatchOrdering, form_lexemes-Block}
 use Rattle.educe_body.proofs.print.+print.Goals as goal
+
+pub FormToTokens::to_tokens-returns-in_ok-quote-in-Not-clause-ok : goal.FormToTokens::to_tokens-returns-in_ok-quote-in-Not-clause-ok
+FormToTokens::to_tokens-returns-in_ok-quote-in-Not-clause-ok t c =
+    let same = sym (ap form_lexemes c.in-Not.is ∙ form_lexemes-Not _) in
+    on_ok_weaker _ (λ back. Appends-same same (Appends-append c.in_ok-quote-in-Not.ensures.ok (Appends-same (ap form_lexemes c.get-in-Not.ensures) back))) c.to_tokens-in-Not.ensures.ok
 
 pub FormToTokens::to_tokens-returns-in_ok-to_tokens-in-IfReturn-clause-ok :
     goal.FormToTokens::to_tokens-returns-in_ok-to_tokens-in-IfReturn-clause-ok
@@ -11,7 +16,7 @@ FormToTokens::to_tokens-returns-in_ok-to_tokens-in-IfReturn-clause-ok t c =
     let test = Appends-same (ap form_lexemes c.get-in-IfReturn.ensures) c.in_ok-to_tokens-in-IfReturn.ensures.ok in
     let front = Appends-append c.in_ok-quote-in-IfReturn.ensures.ok test in
     let same = sym (ap form_lexemes c.in-IfReturn.is ∙ form_lexemes-IfReturn _) in
-    on_ok_weaker _ (λ back. Appends-same same (Appends-append front back)) c.quote-in-IfReturn.ensures.ok
+    on_ok_weaker _ (λ back. Appends-same same (Appends-append front back)) c.quote-in-IfReturn-2.ensures.ok
 
 pub FormToTokens::to_tokens-returns-in_ok-to_tokens-in-Return-clause-ok :
     goal.FormToTokens::to_tokens-returns-in_ok-to_tokens-in-Return-clause-ok
@@ -24,7 +29,7 @@ FormToTokens::to_tokens-returns-in_ok-to_tokens-in-Return-clause-ok t c =
 pub FormToTokens::to_tokens-returns-in-SomeOf-clause-ok :
     goal.FormToTokens::to_tokens-returns-in-SomeOf-clause-ok
 FormToTokens::to_tokens-returns-in-SomeOf-clause-ok t c =
-    let same = ap in_some (ap form_lexemes c.get-in-SomeOf.ensures) ∙ sym (ap form_lexemes c.in-SomeOf.is ∙ form_lexemes-SomeOf _) in
+    let same = ap (λ form. (in_some (form_printout form)).tokens) c.get-in-SomeOf.ensures ∙ sym (ap form_lexemes c.in-SomeOf.is ∙ form_lexemes-SomeOf _) in
     on_ok_weaker _ (λ found. Appends-same same found) c.push_some.ensures.ok
 
 pub FormToTokens::to_tokens-returns-in_ok-to_tokens-in-MatchOrdering-clause-ok :

@@ -4,5 +4,5 @@ use Rattle.educe_body.proofs.print.push_reference.Goals as goal
 
 pub returns-clause-ok : goal.returns-clause-ok
 returns-clause-ok c =
-    let base = Appends-append c.in_ok-to_tokens.ensures.ok c.in_ok-quote-2.ensures.ok in
-    on_ok_weaker _ (λ field. Appends-append (Appends-append c.in_ok-quote.ensures.ok base) field) c.push_word.ensures.ok
+    let base = Appends-append c.in_ok-quote.ensures.ok c.in_ok-to_tokens.ensures.ok in
+    on_ok_weaker _ (λ field. Appends-append (Appends-append base c.in_ok-quote-2.ensures.ok) field) c.push_word.ensures.ok

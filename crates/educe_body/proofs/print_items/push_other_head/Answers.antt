@@ -4,4 +4,4 @@ use Rattle.educe_body.proofs.print_items.push_other_head.Goals as goal
 
 pub returns-clause-ok : goal.returns-clause-ok
 returns-clause-ok c =
-    on_ok_weaker _ (λ back. Appends-append c.in_ok-quote.ensures.ok (Appends-append c.in_ok-push_word.ensures.ok back)) c.quote-2.ensures.ok
+    on_ok_weaker _ (λ back. Appends-append (Appends-append c.in_ok-quote.ensures.ok c.in_ok-push_word.ensures.ok) back) c.quote-2.ensures.ok

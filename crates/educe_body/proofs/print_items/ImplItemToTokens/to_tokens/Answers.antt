@@ -5,5 +5,5 @@ use Rattle.educe_body.proofs.print_items.ImplItemToTokens.to_tokens.Goals as goa
 pub returns-clause-ok : goal.returns-clause-ok
 returns-clause-ok c =
     let front = Appends-append c.in_ok-quote.ensures.ok c.in_ok-push_functions.ensures.ok in
-    on_ok_weaker _ (λ back. Appends-append c.in_ok-push_head.ensures.ok (Appends-append c.in_ok-to_tokens.ensures.ok (Appends-append front back)))
+    on_ok_weaker _ (λ back. Appends-append (Appends-append c.in_ok-push_head.ensures.ok c.in_ok-to_tokens.ensures.ok) (Appends-append front back))
     c.quote-2.ensures.ok

@@ -4,7 +4,7 @@ ghost use Rattle.educe_tokens.specs.Quote.{is_ascii_name, is_template, quoted};
 ghost use Rattle.educe_tokens.specs.Text.{is_written};
 ghost use Rattle.educe_body.specs.BuiltIn.{said_by, name_alone, IsMade, IsBuiltIn};
 
-use crate::answers::Callee;
+use crate::callee::BuiltIn;
 use educe_tokens::{Seq, Written};
 use educe_tree::{Args, ExprPath, Ident, Path, Segment, Segments};
 use std::alloc::{AllocError, Global};
@@ -64,11 +64,11 @@ fn comparison_path(
 
 /// The path by which generated code calls a function that is built in.
 #[tactic(auto, unfolding(educe_tokens::specs::Quote::quoted))]
-pub fn built_in_path(alloc: Global, callee: &Callee) -> Result<ExprPath, AllocError>
-    ensures { IfOk result (IsBuiltIn callee.now) }
+pub fn built_in_path(alloc: Global, which: BuiltIn) -> Result<ExprPath, AllocError>
+    ensures { IfOk result (IsBuiltIn which) }
 {
-    match callee {
-        Callee::Ne => {
+    match which {
+        BuiltIn::Ne => {
             comparison_path(
                 alloc,
                 "PartialEq",
@@ -76,8 +76,8 @@ pub fn built_in_path(alloc: Global, callee: &Callee) -> Result<ExprPath, AllocEr
                 ":: core :: cmp :: PartialEq :: ne",
             )
         }
-        Callee::Cmp => comparison_path(alloc, "Ord", "cmp", ":: core :: cmp :: Ord :: cmp"),
-        Callee::PartialCmp => comparison_path(
+        BuiltIn::Cmp => comparison_path(alloc, "Ord", "cmp", ":: core :: cmp :: Ord :: cmp"),
+        BuiltIn::PartialCmp => comparison_path(
             alloc,
             "PartialOrd",
             "partial_cmp",

@@ -2,9 +2,9 @@ use Rattle.std.proofs.Common.{◌≡◌, ◌∙◌, ℕ, List, [], ◌∷◌, ma
 use Rattle.educe_tokens.specs.declared.token.Token.{Token}
 use Rattle.educe_tokens.specs.Lexes.{Lexeme}
 use Rattle.educe_tokens.specs.Same.{AreSameTokens, lexemes_aside}
-use Rattle.educe_body.specs.Callees.{callee_named, callee_of, spellings}
+use Rattle.educe_body.specs.Callees.{built_in_named, spellings}
 use Rattle.educe_body.proofs.Tables.{first_named-ascii}
-use Rattle.educe_body.proofs.callee.callee_of.Goals as goal
+use Rattle.educe_body.proofs.callee.built_in.Goals as goal
 
 -- the spellings of tokens are those of what they are, jointness and spans aside
 spellings_aside : (tokens : List Token) → map (λ (x : Lexeme). x.spelling) (lexemes_aside tokens) ≡ spellings tokens
@@ -16,13 +16,13 @@ same_spelled : (ts us : List Token) → AreSameTokens ts us → spellings ts ≡
 same_spelled ts us same = sym (spellings_aside ts) ∙ ap (map (λ (x : Lexeme). x.spelling)) same ∙ spellings_aside us
 
 named_is : goal.returns-clause-named
-unfolding callee_named
+unfolding built_in_named
 named_is c =
     c.named.ensures ∙ first_named-ascii _ _ refl
-    ∙ ap (λ (tokens : List Token). callee_named (spellings tokens)) (c.as_slice.ensures ∙ c.tokens.ensures)
+    ∙ ap (λ (tokens : List Token). built_in_named (spellings tokens)) (c.as_slice.ensures ∙ c.tokens.ensures)
 
 pub returns-clause-named : goal.returns-clause-named
 returns-clause-named = named_is
 
 pub returns-clause-same : goal.returns-clause-same
-returns-clause-same c = λ other same. ap callee_named (sym (same_spelled c.args.path.now.written.tokens other.written.tokens same)) ∙ sym (named_is c)
+returns-clause-same c = λ other same. ap built_in_named (sym (same_spelled c.args.path.now.written.tokens other.written.tokens same)) ∙ sym (named_is c)

@@ -4,7 +4,7 @@ use Rattle.educe_tree.specs.declared.data.Field.{Field}
 use Rattle.educe_body.specs.Keys.{key_of, keys_from}
 use Rattle.educe_body.specs.Meaning.{part_of}
 use Rattle.educe_body.proofs.Steps.{part_of-drop}
-use Rattle.educe_body.proofs.evaluator.part.Goals as goal
+use Rattle.educe_body.proofs.reading.part.Goals as goal
 
 pub loop-i-preserved : goal.loop-i-preserved
 loop-i-preserved c =

@@ -1,8 +1,8 @@
 use Rattle.std.proofs.lemmas.Result.{IfOk-weaker}
-use Rattle.educe_body.specs.declared.answers.Callee.TheVariants.{Ne, Cmp, PartialCmp}
+use Rattle.educe_body.specs.declared.callee.BuiltIn.TheVariants.{Ne, Cmp, PartialCmp}
 use Rattle.educe_body.specs.BuiltIn.{path_lexemes, path_names, IsMade, IsBuiltIn}
 use Rattle.educe_body.proofs.MadePaths.{built_in_reads}
-use Rattle.educe_body.proofs.built_in.built_in_path.Goals as goal
+use Rattle.educe_body.proofs.built_in_paths.built_in_path.Goals as goal
 
 pub returns-in-Ne : goal.returns-in-Ne
 returns-in-Ne c =

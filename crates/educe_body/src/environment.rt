@@ -1,0 +1,117 @@
+//! What a body is evaluated over: values, and names that stand for them.
+ghost use Rattle.std.specs.Prelude.{◌≡◌, [], ◌∷◌, ◌++◌, length, take, OnOk, IfOk};
+ghost use Rattle.educe_body.specs.Meaning.{start};
+
+use crate::body::Names;
+use crate::value::Value;
+use educe_tokens::Spelling;
+use educe_tree::DeriveInput;
+use std::alloc::{AllocError, Global};
+use std::marker::Model;
+
+/// What a body is evaluated over: the definition, and the values of `self` and of the parameter.
+#[derive(Drop)]
+pub struct Scope<'a> {
+    pub ast: &'a DeriveInput,
+    pub this: Option<&'a Value>,
+    pub other: Option<&'a Value>,
+}
+
+/// What a name stands for.
+#[derive(Clone, Copy)]
+pub enum Referent {
+    /// The value of `self`.
+    This,
+    /// The value of the parameter.
+    Other,
+}
+
+/// A name and what it stands for.
+#[derive(Drop)]
+pub struct Binding {
+    pub name: Spelling,
+    pub referent: Referent,
+}
+
+/// Bindings, the innermost last. A contract sees them as a list.
+#[derive(Drop)]
+pub struct Bindings {
+    items: Vec<Binding>,
+}
+
+impl Model for Bindings {
+    ghost use Rattle.std.specs.Prelude.{List};
+    ghost use Rattle.educe_body.specs.declared.environment.Binding.{Binding};
+
+    ghost Value = { List Binding };
+
+    ghost view = { λ names. names.items.items };
+}
+
+impl Bindings {
+    /// No binding. It takes no memory.
+    pub fn new(alloc: Global) -> Bindings
+        ensures { result ≡ [] }
+    {
+        Bindings {
+            items: Vec::new(alloc),
+        }
+    }
+
+    /// How many there are.
+    pub fn len(&self) -> usize
+        ensures { result ≡ length self.now }
+    {
+        self.items.len()
+    }
+
+    /// The bindings, lent.
+    pub fn as_slice(&self) -> &[Binding]
+        ensures { result.now ≡ self.now }
+    {
+        self.items.as_slice()
+    }
+
+    /// Adds the innermost binding.
+    pub fn push(&mut self, binding: Binding) -> Result<(), AllocError>
+        ensures { OnOk result (self.new ≡ self.old ++ binding ∷ []) }
+    {
+        self.items.push(binding)?;
+        Ok(())
+    }
+
+    /// Keeps the first so many.
+    pub fn truncate(&mut self, count: usize)
+        ensures { self.new ≡ take count self.old }
+    {
+        self.items.truncate(count);
+    }
+}
+
+/// What changes as forms are evaluated: the names in scope.
+#[derive(Drop)]
+pub struct Env {
+    pub names: Bindings,
+}
+
+impl Env {
+    /// The names that are in scope as a body begins: `self`, and the first parameter where there is
+    /// one.
+    pub fn new(alloc: Global, params: &Names) -> Result<Env, AllocError>
+        ensures { IfOk result (λ env. env ≡ start params.now) }
+    {
+        let mut names = Bindings::new(alloc);
+        names.push(Binding {
+            name: Spelling::from_str(alloc, "self")?,
+            referent: Referent::This,
+        })?;
+        let Some(param) = params.get(0) else {
+            return Ok(Env { names });
+        };
+        names.push(Binding {
+            name: param.text.duplicate(alloc)?,
+            referent: Referent::Other,
+        })?;
+        Ok(Env { names })
+    }
+}

@@ -1,0 +1,90 @@
+//! What names stand for, and the fields of values.
+ghost use Rattle.std.specs.Prelude.{◌≡◌};
+ghost use Rattle.std.specs.Option.{option_copied};
+ghost use Rattle.educe_body.specs.Keys.{keys_from};
+ghost use Rattle.educe_body.specs.Meaning.{scene, look_up, reference_value, local_value, field_of, part_of, whole_value};
+
+use crate::environment::{Binding, Referent, Scope};
+use crate::keys::{has_key, index_of};
+use crate::text::is_text;
+use crate::value::{FieldValue, Value};
+use educe_tokens::Spelling;
+use educe_tree::{Field, Shape};
+
+/// What a name stands for: the innermost binding, which is the last, counts.
+pub(crate) fn find(names: &[Binding], name: &Spelling) -> Option<Referent>
+    ensures { result ≡ look_up names.now name.now }
+{
+    let mut found = None;
+    for binding in names {
+        if is_text(&binding.name, name.as_str()) {
+            found = Some(binding.referent);
+        }
+    }
+    found
+}
+
+/// The value that a name stands for, as a table is shown it.
+pub(crate) fn local(scope: &Scope, found: Option<Referent>) -> Option<FieldValue>
+    ensures { (answers : _) → result ≡ local_value (scene scope.now answers) found }
+{
+    match found {
+        None => None,
+        Some(Referent::This) => whole(scope.this),
+        Some(Referent::Other) => whole(scope.other),
+    }
+}
+
+/// A whole value, as a table is shown it.
+fn whole(value: Option<&Value>) -> Option<FieldValue>
+    ensures { result ≡ whole_value (option_copied value.entry) }
+{
+    match value {
+        None => None,
+        Some(value) => Some(FieldValue {
+            ty: u32::MAX,
+            number: value.variant as i128,
+        }),
+    }
+}
+
+/// The field of the value that a base stands for.
+pub(crate) fn reference(scope: &Scope, base: Option<Referent>, key: &Spelling) -> Option<FieldValue>
+    ensures { (answers : _) → result ≡ reference_value (scene scope.now answers) base key.now }
+{
+    match base {
+        None => None,
+        Some(Referent::This) => field(scope, scope.this, key),
+        Some(Referent::Other) => field(scope, scope.other, key),
+    }
+}
+
+/// The value of a field of a value, where there is one: an enum has none, since bodies for enums
+/// are not built yet.
+fn field(scope: &Scope, value: Option<&Value>, key: &Spelling) -> Option<FieldValue>
+    ensures { (answers : _) → result ≡ field_of (scene scope.now answers) (option_copied value.entry) key.now }
+{
+    let Some(value) = value else {
+        return None;
+    };
+    match &scope.ast.shape {
+        Shape::Struct(shape) => part(shape.fields.as_slice(), value.fields.as_slice(), key),
+        Shape::Enum(_) => None,
+    }
+}
+
+/// The value at the place of the first field of that key.
+fn part(fields: &[Field], values: &[FieldValue], key: &Spelling) -> Option<FieldValue>
+    ensures { result ≡ part_of (keys_from 0 fields.now) values.now key.now }
+{
+    let index = index_of(key);
+    for (i, field) in fields.iter().enumerate() {
+        if has_key(i, field, key, index) {
+            if i < values.len() {
+                return Some(values[i]);
+            }
+            return None;
+        }
+    }
+    None
+}
