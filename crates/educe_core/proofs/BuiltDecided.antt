@@ -1,7 +1,7 @@
 -- A definition that is not of another form than the one that is built so far is of that form.
 use Rattle.std.proofs.Common.{◌≡◌, Bool, true, false, List, [], ◌∷◌, refl, IsTrue}
 use Rattle.educe_syntax.specs.DeriveInput.{DeriveInput}
-use Rattle.educe_core.specs.Built.{IsBuilt}
+use Rattle.educe_laws.specs.Built.{IsBuilt}
 
 -- it can't be that it doesn't hold
 abbrev NotNot : Type 0 → Type 0
@@ -31,5 +31,4 @@ built_if d twice = record {
   traits = true_if _ (then_not (λ (built : IsBuilt d). built.traits) twice);
   plain = true_if _ (then_not (λ (built : IsBuilt d). built.plain) twice);
   fields_plain = true_if _ (then_not (λ (built : IsBuilt d). built.fields_plain) twice);
-  no_other = λ word. twice (λ built. built.no_other word);
 }

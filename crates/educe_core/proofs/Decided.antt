@@ -14,9 +14,9 @@ use Rattle.educe_syntax.specs.Refusal.{IsRefusalOf}
 use Rattle.educe_syntax.specs.Laws.{lawful_definitions}
 use Rattle.educe_syntax.specs.TokenLaws.{lawful_lexing}
 use Rattle.educe_attrs.specs.Causes.{Cause, NoCause}
-use Rattle.educe_core.specs.Handled.{IsListedCause}
+use Rattle.educe_laws.specs.Handled.{IsListedCause}
 use Rattle.educe_core.specs.Headline.{Defines, IsValid, IsHandlerCause, IsCause}
-use Rattle.educe_core.specs.Listed.{IsListingCause}
+use Rattle.educe_laws.specs.Listed.{IsListingCause}
 use Rattle.educe_core.proofs.BuiltDecided.{built_if}
 use Rattle.educe_core.proofs.Causes.{defined_by}
 use Rattle.educe_core.proofs.HandlerCauses.{listing_message, listed_message}

@@ -23,11 +23,11 @@ use Rattle.educe_attrs.specs.Rank.{Rank}
 use Rattle.educe_body.specs.declared.comparison.Comparison.{Comparison}
 use Rattle.educe_body.specs.declared.comparison.Comparison.TheVariants.{PartialEq, PartialOrd, Ord}
 use Rattle.educe_body.specs.Keys.{shape_fields, fields_of}
-use Rattle.educe_core.specs.Comparisons.{trait_of, type_row, field_row}
-use Rattle.educe_core.specs.Handled.{places, IsRankCause, IsComparisonCause, IsTraitCause, IsListsCause, IsListedCause}
+use Rattle.educe_laws.specs.Comparisons.{trait_of, type_row, field_row}
+use Rattle.educe_laws.specs.Handled.{places, IsRankCause, IsComparisonCause, IsTraitCause, IsListsCause, IsListedCause}
 use Rattle.educe_core.specs.Headline.{IsHandlerCause}
-use Rattle.educe_core.specs.Listed.{listed, IsListingCause}
-use Rattle.educe_core.specs.Settings.{settings_of, rank_span_of, Kept, is_kept, kept_at, kept_from, kept_fields}
+use Rattle.educe_laws.specs.Listed.{listed, IsListingCause}
+use Rattle.educe_laws.specs.Settings.{settings_of, rank_span_of, Kept, is_kept, kept_at, kept_from, kept_fields}
 use Rattle.educe_attrs.specs.Laws.{lawful_reports}
 use Rattle.educe_attrs.specs.Messages.{HasMessage, IsBoundary}
 

@@ -17,10 +17,11 @@ use Rattle.educe_body.specs.declared.body.Item.{Item}
 use Rattle.educe_body.specs.Tokens.{tokens_of, spelling}
 use Rattle.educe_attrs.specs.Causes.{NoCause}
 use Rattle.educe_attrs.specs.Listing.{IsListing}
-use Rattle.educe_core.specs.Blocks.{OneEach, EachEvaluates}
-use Rattle.educe_core.specs.Built.{IsBuilt}
-use Rattle.educe_core.specs.Handled.{IsListedCause}
-use Rattle.educe_core.specs.Listed.{listed, IsListingCause}
+use Rattle.educe_laws.specs.Blocks.{OneEach, EachEvaluates}
+use Rattle.educe_laws.specs.Built.{IsBuilt}
+use Rattle.educe_laws.specs.Handled.{IsListedCause}
+use Rattle.educe_laws.specs.Listed.{listed, IsListingCause}
+use Rattle.educe_laws.specs.Settings.{AreAllSaid}
 
 -- the definition that a text is, within the limits, whose names are apart
 pub record Defines (text : List ℕ) (definition : DeriveInput) : Type 0 where
@@ -63,15 +64,17 @@ pub data IsCause (source : List ℕ) : EduceError → Type 0 where
 abbrev pub IsAlone : List ℕ → EduceError → Type 0
 IsAlone source e = (other : EduceError) → other.kind ≢ Alloc → IsCause source other → other ≡ e
 
--- A source is expanded to these items, written as these bytes: the bytes are the spelling of the items,
--- which lexes to their tokens; the items hold one block for each listed trait of the definition, and
--- nothing else; and over each table and any two values that it covers, their functions evaluate to what
--- the traits mean.
+-- A source is expanded to these items, written as these bytes: the bytes are the spelling of the items, which lexes to their
+-- tokens; no cause of a listed trait stands, and the settings of each field are what its attributes say; the items hold one block for each listed trait of the
+-- definition, and nothing else; and over each table and any two values that it covers, their functions evaluate to what the
+-- traits mean.
 pub record IsExpansion (source : List ℕ) (items : List Item) (written : List ℕ) : Type 0 where
   pub definition : DeriveInput
   pub defines : Defines (chars source) definition
   pub built : IsBuilt definition
   pub lists : IsListing definition.attrs (listed definition)
+  pub uncaused : NoCause (IsListedCause definition)
+  pub said : AreAllSaid definition
   pub one_each : OneEach definition items
   pub evaluates : AllByRecursion (EachEvaluates definition) items
   pub bytes : written ≡ encode_utf8_all (spelling items)

@@ -1,17 +1,18 @@
-pub mod Comparisons
-pub mod Listed
-pub mod Ranks
-pub mod Settings
-pub mod Ranked
-pub mod Built
-pub mod Comparing
-pub mod Blocks
-pub mod Handled
 pub mod Headline
+pub mod Composed
 pub mod Expansion
 pub mod Run
-pub mod BodyLaws
 pub mod Laws
+-- what clauses say of the handlers and of their items
+pub use Rattle.educe_laws.specs.Comparisons
+pub use Rattle.educe_laws.specs.Listed
+pub use Rattle.educe_laws.specs.Ranks
+pub use Rattle.educe_laws.specs.Settings
+pub use Rattle.educe_laws.specs.Comparing
+pub use Rattle.educe_laws.specs.Blocks
+pub use Rattle.educe_laws.specs.Built
+pub use Rattle.educe_laws.specs.Handled
+pub use Rattle.educe_laws.specs.Handlers
 -- what clauses say of devices and of how a run ends, and the types that they name
 pub use Rattle.educe_core_devices.specs.Devices
 pub use Rattle.educe_core_devices.specs.Plan as Planned

@@ -2,17 +2,12 @@
 //! devices that it reads and writes.
 #![tactic(auto)]
 
-mod built;
-mod comparing;
-mod comparison;
+mod composition;
 mod expansion;
 mod handler;
 mod laws;
 mod program;
-mod ranked;
-mod ranks;
 mod refusing;
-mod settings;
 
 pub use educe_core_devices::{Failed, MemorySink, MemorySource, Sink, Source, Status, Stopped};
 pub use expansion::{Expansion, expand};

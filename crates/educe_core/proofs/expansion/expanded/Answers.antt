@@ -22,8 +22,11 @@ returns-in-Ok-spell-clause-done c = record {
   defines = c.in-Ok.ensures.defines;
   built = c.in-Ok-derive_input_handler.ensures.built;
   lists = c.in-Ok-derive_input_handler.ensures.lists;
+  uncaused = c.in-Ok-derive_input_handler.ensures.uncaused;
+  said = c.in-Ok-derive_input_handler.ensures.said;
   one_each = c.in-Ok-derive_input_handler.ensures.one_each;
-  evaluates = c.in-Ok-derive_input_handler.ensures.evaluates c.in-Ok.ensures.defines.names_apart;
+  evaluates = c.in-Ok-derive_input_handler.ensures.evaluates
+      (record { whole = c.in-Ok.ensures.defines.whole; apart = c.in-Ok.ensures.defines.names_apart });
   bytes = c.in-Ok-spell.ensures.spelled;
   lexes = c.in-Ok-spell.ensures.lexes;
 }

@@ -1,4 +1,4 @@
-use Rattle.educe_core.proofs.Handled.{error_caused}
+use Rattle.educe_core.proofs.Phased.{error_caused}
 use Rattle.educe_core.proofs.HandlerCauses.{handler_words}
 use Rattle.educe_core.proofs.handler.derive_input_handler.Goals as goal
 

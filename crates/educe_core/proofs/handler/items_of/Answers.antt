@@ -1,9 +1,10 @@
 use Rattle.std.proofs.Common.{◌∙◌, sym}
 use Rattle.std.proofs.lemmas.Bool.{true≢false}
-use Rattle.educe_core.specs.Handled.{IsListedCause}
+use Rattle.educe_laws.specs.Handled.{IsListedCause}
 use Rattle.educe_core.specs.Headline.{IsHandlerCause}
-use Rattle.educe_core.specs.Listed.{IsListingCause}
-use Rattle.educe_core.proofs.Handled.{stop_passed, stop_returned, form_refused}
+use Rattle.educe_laws.specs.Listed.{IsListingCause}
+use Rattle.educe_laws.proofs.Stops.{stop_passed, stop_returned}
+use Rattle.educe_core.proofs.Phased.{form_refused}
 use Rattle.educe_core.proofs.handler.items_of.Goals as goal
 
 pub returns-in_err-listed-clause-err : goal.returns-in_err-listed-clause-err

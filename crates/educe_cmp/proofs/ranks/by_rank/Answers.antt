@@ -1,0 +1,29 @@
+use Rattle.std.proofs.Common.{rules}
+use Rattle.educe_cmp.specs.declared.ranked.Ranked.{Ranked}
+use Rattle.educe_laws.specs.Ranks.{Rises}
+use Rattle.educe_cmp.proofs.Sorting.{Rises-from_sort, IsStableByKey-from_sort, IsSortedByKey-from_sort}
+use Rattle.educe_cmp.proofs.Repeats.{IsByRank-from_sort, RanksDiffer-from_sort, ReusesARank-from_sort}
+use Rattle.educe_cmp.proofs.ranks.by_rank.Goals as goal
+
+rises : (c : goal.In-None) → Rises (λ (f : Ranked). f.rank) c.sort_by_key.new.self.items
+rises c =
+    Rises-from_sort (λ (f : Ranked). f.rank) c.sort_by_key.new.self.items c.in_ok-sort_by_key.ensures.sorted (λ a r q k. search rules)
+    (rw c.deref.ensures.value at c.in-None.ensures.none)
+
+pub returns-in-Some-clause-err : goal.returns-in-Some-clause-err
+returns-in-Some-clause-err c =
+    let sorted = c.sort_by_key.new.self.items in
+    let later = c.index.result.now in
+    let stable = IsStableByKey-from_sort (λ (f : Ranked). f.rank) c.in_ok-sorted.sorted.items sorted c.in_ok-sort_by_key.ensures.stable (λ a r q k. search rules) in
+    let up = IsSortedByKey-from_sort (λ (f : Ranked). f.rank) sorted c.in_ok-sort_by_key.ensures.sorted (λ a r q k. search rules) in
+    let repeats = rw c.deref.ensures.value at c.in-Some.ensures.some in
+    let least = rw c.deref.ensures.value at c.in-Some.ensures.earliest in
+    let reuses = ReusesARank-from_sort c.args.which c.args.ast.now c.in_ok-sorted.sorted.items sorted c.in_ok-sorted.ensures
+    c.in_ok-sort_by_key.ensures.permutation c.in-Some.at later up stable repeats least c.index.ensures in
+    record { rank = later.rank; place = later.rank_span; orders = c.requires.orders; read = c.requires.read; reuses = reuses; is = c.reuse.ensures }
+
+pub returns-clause-sorted : goal.returns-clause-sorted
+returns-clause-sorted c = IsByRank-from_sort c.args.which c.args.ast.now c.in_ok-sorted.sorted.items c.sort_by_key.new.self.items c.in_ok-sorted.ensures c.in_ok-sort_by_key.ensures.permutation (rises c)
+
+pub returns-clause-apart : goal.returns-clause-apart
+returns-clause-apart c = RanksDiffer-from_sort c.args.which c.args.ast.now c.in_ok-sorted.sorted.items c.sort_by_key.new.self.items c.in_ok-sorted.ensures c.in_ok-sort_by_key.ensures.permutation (rises c)

@@ -1,0 +1,3 @@
+pub mod Ranked
+-- The laws of comparisons as terms.
+pub mod Laws

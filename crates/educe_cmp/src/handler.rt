@@ -1,0 +1,50 @@
+//! The trait that handlers implement.
+ghost use Rattle.std.specs.Prelude.{◌≡◌, Bool, IsTrue, OnOk, IfErr};
+ghost use Rattle.educe_tokens.specs.Prefix.{HasPrefix};
+ghost use Rattle.educe_syntax.specs.Shape.{Shape};
+ghost use Rattle.educe_syntax.specs.Refusal.{IsDefinition};
+ghost use Rattle.educe_bound.specs.declared.traits.Trait.{Trait};
+ghost use Rattle.educe_attrs.specs.Causes.{NoCause, OfStop};
+ghost use Rattle.educe_attrs.specs.Phases.{OfHandler};
+ghost use Rattle.educe_laws.specs.Handled.{handling};
+ghost use Rattle.educe_laws.specs.Handlers.{IsReady, AddsBlock, AddsMeaning, noted_by, traits_through};
+
+use crate::context::TraitHandlerContext;
+use educe_attrs::Stop;
+use educe_body::Items;
+use educe_bound::Trait;
+use educe_syntax::DeriveInput;
+use std::alloc::Global;
+
+/// The handler of a trait, or a part of one, which takes definitions of one shape. What implements it
+/// is a unit struct: what it does depends on the definition and on what is listed alone.
+pub trait TraitHandler {
+    /// The trait whose items are added.
+    const TRAIT: Trait;
+
+    ghost TRAIT: { Trait };
+
+    ghost takes: { Shape → Bool };
+
+    /// Adds the items of the trait behind those that are there, and notes in the context that the
+    /// trait is handled. Handlers of the listed traits are called in the fixed order. After an error
+    /// the items hold what they held, and the context may have a note more.
+    fn trait_meta_handler(
+        alloc: Global,
+        ast: &DeriveInput,
+        ctx: &mut TraitHandlerContext,
+        items: &mut Items,
+        traits: &[Trait],
+    ) -> Result<(), Stop>
+        requires ready { IsReady TRAIT ast.now traits.now ctx.old }
+        requires takes { IsTrue (takes ast.now.shape) }
+        ensures kept { HasPrefix items.old items.new }
+        ensures adds { OnOk result (AddsBlock TRAIT ast.now items.old items.new) }
+        // Its functions evaluate to what the trait means, where the definition is one that a text gives.
+        ensures means { IsDefinition ast.now.tokens ast.now → OnOk result (AddsMeaning ast.now items.old items.new) }
+        // The context is the one that the handler of the next trait asks for.
+        ensures notes { OnOk result (ctx.new ≡ noted_by traits.now (traits_through TRAIT)) }
+        // It refuses exactly where a cause stands, or memory fails.
+        ensures uncaused { OnOk result (NoCause (OfHandler (handling ast.now) TRAIT)) }
+        ensures err { IfErr result (λ s. OfStop (OfHandler (handling ast.now) TRAIT) s) };
+}

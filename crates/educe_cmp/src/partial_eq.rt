@@ -1,0 +1,58 @@
+//! The handler of `PartialEq`.
+use crate::context::TraitHandlerContext;
+use crate::handler::TraitHandler;
+use crate::handling::compare;
+use educe_attrs::Stop;
+use educe_body::{Comparison, Items};
+use educe_bound::Trait;
+use educe_syntax::DeriveInput;
+use std::alloc::Global;
+
+/// The handler of `PartialEq`. Each definition of the supported subset is a struct, so its part for structs
+/// takes each one that is ready.
+pub struct PartialEqHandler;
+
+impl TraitHandler for PartialEqHandler {
+    ghost use Rattle.std.specs.Prelude.{true};
+    ghost use Rattle.educe_bound.specs.declared.traits.Trait.TheVariants.{PartialEq};
+
+    const TRAIT: Trait = Trait::PartialEq;
+
+    ghost TRAIT = { PartialEq };
+
+    ghost takes = { λ _. true };
+
+    fn trait_meta_handler(
+        alloc: Global,
+        ast: &DeriveInput,
+        ctx: &mut TraitHandlerContext,
+        items: &mut Items,
+        traits: &[Trait],
+    ) -> Result<(), Stop> {
+        PartialEqStructHandler::trait_meta_handler(alloc, ast, ctx, items, traits)
+    }
+}
+
+/// The part of the handler of `PartialEq` that takes structs.
+pub struct PartialEqStructHandler;
+
+impl TraitHandler for PartialEqStructHandler {
+    ghost use Rattle.educe_bound.specs.declared.traits.Trait.TheVariants.{PartialEq};
+    ghost use Rattle.educe_laws.specs.Built.{is_struct};
+
+    const TRAIT: Trait = Trait::PartialEq;
+
+    ghost TRAIT = { PartialEq };
+
+    ghost takes = { is_struct };
+
+    fn trait_meta_handler(
+        alloc: Global,
+        ast: &DeriveInput,
+        ctx: &mut TraitHandlerContext,
+        items: &mut Items,
+        traits: &[Trait],
+    ) -> Result<(), Stop> {
+        compare(alloc, Comparison::PartialEq, ast, ctx, items, traits)
+    }
+}

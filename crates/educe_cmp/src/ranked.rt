@@ -1,0 +1,25 @@
+//! A field that takes part in a comparison.
+use educe_syntax::{ExprPath, Field};
+use educe_tokens::Span;
+
+/// How a field is compared.
+#[derive(Clone, Copy)]
+pub enum How<'a> {
+    /// By the trait's own function.
+    Plainly,
+    /// By a method.
+    ByMethod(&'a ExprPath),
+    /// By a method that `PartialOrd` takes from `Ord`, which returns an `Ordering`.
+    ByOrder(&'a ExprPath),
+}
+
+/// A field that takes part in a comparison, its place among all fields, counted from 0, its rank,
+/// where that stands, and how it is compared.
+#[derive(Clone, Copy)]
+pub struct Ranked<'a> {
+    pub field: &'a Field,
+    pub place: usize,
+    pub rank: i64,
+    pub rank_span: Span,
+    pub how: How<'a>,
+}

@@ -1,0 +1,113 @@
+//! The fields that take part in a comparison, and their ranks.
+ghost use Rattle.std.specs.Prelude.{◌≡◌, ◌+◌, ◌<◌, ◌⊎◌, length, map, Some, IsTrue, IfOk, IfErr, IfSome, IfNone};
+ghost use Rattle.educe_attrs.specs.Causes.{OfStop};
+ghost use Rattle.educe_attrs.specs.Fields.{HaveNoCauses};
+ghost use Rattle.educe_body.specs.Keys.{fields_of};
+ghost use Rattle.educe_laws.specs.Blocks.{IsByRank};
+ghost use Rattle.educe_laws.specs.Comparisons.{trait_of, is_order, field_row};
+ghost use Rattle.educe_laws.specs.Handled.{reuse_of, IsRankCause};
+ghost use Rattle.educe_laws.specs.Listed.{listed};
+ghost use Rattle.educe_cmp.specs.Ranked.{kept_of, IsNoLater};
+ghost use Rattle.educe_laws.specs.Ranks.{NeighboursDiffer, IsRepeatAt, IsEarliestRepeat};
+ghost use Rattle.educe_laws.specs.Settings as spec;
+ghost use Rattle.educe_cmp.specs.declared.ranked.Ranked.{Ranked};
+
+use crate::built::fields_of;
+use crate::ranked::Ranked;
+use crate::settings::{how_of, is_kept, rank_of, rank_span};
+use educe_attrs::{FieldSettings, Stop};
+use educe_body::Comparison;
+use educe_syntax::DeriveInput;
+use educe_tokens::{EduceError, Kind};
+use std::alloc::{AllocError, Global};
+
+/// The fields that take part in a comparison, in written order.
+pub fn kept_fields<'a>(
+    alloc: Global,
+    which: Comparison,
+    ast: &'a DeriveInput,
+    settings: &'a [FieldSettings],
+) -> Result<Vec<Ranked<'a>>, AllocError>
+    requires { settings.now ≡ map (spec.settings_of which ast.now) (fields_of ast.now) }
+    ensures { IfOk result (λ kept. map kept_of kept.items ≡ spec.kept_fields which ast.now) }
+{
+    let mut kept = Vec::new(alloc);
+    for (place, field) in fields_of(ast).iter().enumerate() {
+        let own = &settings[place];
+        if is_kept(own) {
+            kept.push(Ranked {
+                field,
+                place,
+                rank: rank_of(place, own),
+                rank_span: rank_span(own, field.span),
+                how: how_of(own),
+            })?;
+        }
+    }
+    Ok(kept)
+}
+
+/// Of two places, the one whose next field was written first.
+fn earlier(sorted: &[Ranked<'_>], found: Option<usize>, at: usize) -> usize
+    requires found { IfSome found (λ other. other + 1 < length sorted.now) }
+    requires at { at + 1 < length sorted.now }
+    ensures one { (result ≡ at) ⊎ (found ≡ Some result) }
+    ensures at { IsNoLater sorted.now result at }
+    ensures found { IfSome found (IsNoLater sorted.now result) }
+{
+    match found {
+        Some(other) if sorted[other + 1].place < sorted[at + 1].place => other,
+        _ => at,
+    }
+}
+
+/// A place where a field and the next one have one rank; of such places the one whose next field
+/// was written first.
+fn repeat_at(sorted: &[Ranked<'_>]) -> Option<usize>
+    ensures none { IfNone result (NeighboursDiffer (λ (f : Ranked). f.rank) sorted.now) }
+    ensures some { IfSome result (IsRepeatAt (λ (f : Ranked). f.rank) sorted.now) }
+    ensures earliest { IfSome result (IsEarliestRepeat (λ (f : Ranked). f.rank) (λ f. f.place) sorted.now) }
+{
+    let mut found = None;
+    for i in 1..sorted.len() {
+        if sorted[i - 1].rank == sorted[i].rank {
+            found = Some(earlier(sorted, found, i - 1));
+        }
+    }
+    found
+}
+
+/// The refusal of a field that has the rank of an earlier one.
+fn reuse(alloc: Global, later: &Ranked<'_>) -> EduceError
+    ensures { result ≡ reuse_of later.now.rank later.now.rank_span }
+{
+    EduceError::new(
+        alloc,
+        Kind::ReuseARank { rank: later.rank },
+        later.rank_span,
+    )
+}
+
+/// The fields that take part in an order, the one of least rank first. Refused where two of them
+/// have one rank; of such fields the one that is written first behind another counts.
+pub fn by_rank<'a>(
+    alloc: Global,
+    which: Comparison,
+    ast: &'a DeriveInput,
+    settings: &'a [FieldSettings],
+) -> Result<Vec<Ranked<'a>>, Stop>
+    requires settings { settings.now ≡ map (spec.settings_of which ast.now) (fields_of ast.now) }
+    requires orders { IsTrue (is_order which) }
+    requires read { HaveNoCauses (trait_of which) (field_row which) (listed ast.now) (fields_of ast.now) }
+    ensures sorted { IfOk result (λ sorted.
+        IsByRank (spec.kept_fields which ast.now) (map kept_of sorted.items)) }
+    ensures apart { IfOk result (λ _. spec.RanksDiffer which ast.now) }
+    ensures err { IfErr result (λ s. OfStop (IsRankCause which ast.now) s) }
+{
+    let mut sorted = kept_fields(alloc, which, ast, settings)?;
+    sorted.sort_by_key(|field| field.rank)?;
+    match repeat_at(&sorted) {
+        Some(at) => Err(Stop::Refused(reuse(alloc, &sorted[at + 1]))),
+        None => Ok(sorted),
+    }
+}

@@ -1,0 +1,153 @@
+-- One handler behind the other.
+use Rattle.std.proofs.Common.{◌≡◌, ◌≢◌, ◌∙◌, Bool, true, false, cond, List, [], ◌∷◌, ◌++◌, Result, Ok, Err, refl, sym, ap, subst, append_assoc, append-nil, arith}
+use Rattle.std.specs.Prelude.{IsTrue, Contains, OnOk, slice_index_or}
+use Rattle.std.specs.List.{filter, AllByRecursion}
+use Rattle.std.proofs.lemmas.Bool.{true≢false, false≢true, eq-eqb}
+use Rattle.std.proofs.lemmas.List.Elements.{filter-append, All-contains, All-from_recursion}
+use Rattle.std.proofs.lemmas.List.Folds.{list_any_at}
+use Rattle.std.proofs.lemmas.List.Sums.{AllPass-from_list_all}
+use Rattle.std.proofs.lemmas.Map.Views.{Contains-from_any}
+use Rattle.educe_tokens.specs.declared.error.EduceError.{EduceError}
+use Rattle.educe_syntax.specs.DeriveInput.{DeriveInput}
+use Rattle.educe_syntax.specs.Refusal.{IsDefinition}
+use Rattle.educe_bound.specs.declared.traits.Trait.{Trait}
+use Rattle.educe_bound.specs.Traits.{variants, place, same_trait, is_listed}
+use Rattle.educe_bound.proofs.Apart.{same_is}
+use Rattle.educe_attrs.specs.Causes.{NoCause}
+use Rattle.educe_attrs.specs.Laws.{all_handled, one_refused}
+use Rattle.educe_attrs.specs.Listing.{IsListing}
+use Rattle.educe_attrs.specs.Phases.{OfHandler}
+use Rattle.educe_attrs.specs.Stop.{Stop}
+use Rattle.educe_body.specs.declared.body.Item.{Item}
+use Rattle.educe_body.specs.declared.comparison.Comparison.{Comparison}
+use Rattle.educe_body.specs.declared.comparison.Comparison.TheVariants.{PartialEq, PartialOrd, Ord}
+use Rattle.educe_cmp.specs.Laws.{lawful_comparisons}
+use Rattle.educe_laws.specs.Blocks.{IsBlock, Blocks, OneEach, EachEvaluates}
+use Rattle.educe_laws.specs.Built.{built_traits, are_built}
+use Rattle.educe_laws.specs.Handled.{handling, IsListedCause}
+use Rattle.educe_laws.specs.Handlers.{AddsBlock, AddsMeaning, noted_by}
+use Rattle.educe_laws.specs.Listed.{listed, listed_in_order}
+use Rattle.educe_laws.specs.Settings.{AreAllSaid}
+use Rattle.educe_laws.proofs.Elements.{each_joined}
+use Rattle.educe_core.specs.Composed.{AreHandled}
+
+-- ---- the listed traits
+
+-- a listed trait stands in the list
+listed_stands : (traits : List Trait) (which : Trait) → is_listed traits which ≡ true → Contains traits which
+listed_stands traits which lists = Contains-from_any (λ a b same. (same_is a b).0 same) which traits lists
+
+-- a trait that stands in the list is listed
+standing_listed : (traits : List Trait) (which : Trait) → Contains traits which → is_listed traits which ≡ true
+standing_listed traits which found =
+    list_any_at (same_trait which) traits found.0 which found.1 (eq-eqb (place which) (place (slice_index_or traits found.0 which)) (ap place (sym found.2)))
+
+-- where the items of all are built, those of each are
+standing_built : (traits : List Trait) (which : Trait) → IsTrue (are_built traits) → Contains traits which → is_listed built_traits which ≡ true
+standing_built traits which built found =
+    All-contains (λ name. is_listed built_traits name ≡ true) traits which (AllPass-from_list_all (is_listed built_traits) traits built) found
+
+-- an element passes one test, and what is left of a list of them the other
+within_step : {X : Type 0} (p : X → Bool) (x : X) (rest passed : List X) (in_q in_p : Bool) → p x ≡ in_p → (in_p ≡ true → in_q ≡ true) → filter p rest ≡ passed
+    → filter p (cond in_q (x ∷ rest) rest) ≡ cond in_p (x ∷ passed) passed
+within_step p x rest passed true in_p is within same = λ i. cond (is i) (x ∷ same i) (same i)
+within_step p x rest passed false true is within same = absurd (false≢true (within refl))
+within_step p x rest passed false false is within same = same
+
+-- where what passes one test passes another, nothing more passes the first of what passes the other
+filter-within : {X : Type 0} (p q : X → Bool) (xs : List X) → ((x : X) → p x ≡ true → q x ≡ true) → filter p (filter q xs) ≡ filter p xs
+filter-within p q [] within = refl
+filter-within p q (x ∷ xs) within = within_step p x (filter q xs) (filter p xs) (q x) (p x) refl (within x) (filter-within p q xs within)
+
+-- where the items of all listed traits are built, these are the listed ones among those that are built
+built_in_order : (d : DeriveInput) → IsTrue (are_built (listed d)) → noted_by (listed d) built_traits ≡ listed_in_order d
+built_in_order d built =
+    filter-within (is_listed (listed d)) (is_listed built_traits) variants (λ which lists. standing_built (listed d) which built (listed_stands (listed d) which lists))
+
+-- a cause of a listed trait's handler is one of the last phase
+pub listed_refused : (d : DeriveInput) (which : Trait) → is_listed (listed d) which ≡ true → (e : EduceError) → OfHandler (handling d) which e → IsListedCause d e
+listed_refused d which lists e cause = one_refused (handling d) (listed d) which (listed_stands (listed d) which lists) e cause
+
+-- ---- one handler more
+
+-- one block more, behind the others
+blocks_more : (traits : List Trait) (which : Trait) (d : DeriveInput) (items own : List Item) → Blocks traits d items → IsBlock which d own → Blocks (traits ++ which ∷ []) d (items ++ own)
+blocks_more [] which d items own none block = (own, [], ap (λ front. front ++ own) none ∙ sym (append-nil own), block, refl)
+blocks_more (t ∷ traits) which d items own (first, rest, is, here, later) block =
+    (first, rest ++ own, ap (λ all. all ++ own) is ∙ append_assoc first rest own, here, blocks_more traits which d rest own later block)
+
+module _ (done : List Trait) (which : Trait) (d : DeriveInput) (noted : List Trait) (items : List Item) (before : AreHandled done d noted items) where
+  -- what was noted before, and this trait where it is listed
+  noted_more : noted_by (listed d) (done ++ which ∷ []) ≡ noted_by (listed d) done ++ cond (is_listed (listed d) which) (which ∷ []) []
+  noted_more = filter-append (is_listed (listed d)) done (which ∷ [])
+
+  -- the trait is listed, and its handler ran
+  listed_more : (after : List Trait) (new : List Item) → is_listed (listed d) which ≡ true → AddsBlock which d items new → (IsDefinition d.tokens d → AddsMeaning d items new)
+      → after ≡ noted_by (listed d) (done ++ which ∷ []) → NoCause (OfHandler (handling d) which) → AreHandled (done ++ which ∷ []) d after new
+  listed_more after new lists adds means notes uncaused =
+      let now_noted : noted_by (listed d) done ++ which ∷ [] ≡ noted_by (listed d) (done ++ which ∷ []) =
+      ap (λ b. noted_by (listed d) done ++ cond b (which ∷ []) []) (sym lists) ∙ sym noted_more in
+      let more = blocks_more (noted_by (listed d) done) which d items adds.own before.blocks adds.block in
+      record {
+        noted_is = notes;
+        blocks = subst (λ is. Blocks (noted_by (listed d) (done ++ which ∷ [])) d is) (sym adds.is) (subst (λ ts. Blocks ts d (items ++ adds.own)) now_noted more);
+        evaluates = λ definition.
+            let meaning = means definition in
+            subst (AllByRecursion (EachEvaluates d)) (sym meaning.is) (each_joined (EachEvaluates d) items meaning.own (before.evaluates definition) meaning.each);
+        uncaused = each_joined _ done (which ∷ []) before.uncaused ((λ _. uncaused), tt);
+      }
+
+  -- the trait is not listed
+  pub unlisted_more : is_listed (listed d) which ≡ false → AreHandled (done ++ which ∷ []) d noted items
+  unlisted_more fails =
+      let as_before : noted_by (listed d) done ≡ noted_by (listed d) (done ++ which ∷ []) =
+      sym (noted_more ∙ ap (λ b. noted_by (listed d) done ++ cond b (which ∷ []) []) fails ∙ append-nil (noted_by (listed d) done)) in
+      record {
+        noted_is = before.noted_is ∙ as_before;
+        blocks = subst (λ ts. Blocks ts d items) as_before before.blocks;
+        evaluates = before.evaluates;
+        uncaused = each_joined _ done (which ∷ []) before.uncaused ((λ lists. absurd (true≢false (sym lists ∙ fails))), tt);
+      }
+
+  -- the trait is listed, and its handler answered this
+  pub listed_answered : {A : Type 0} (r : Result A Stop) (after : List Trait) (new : List Item) → is_listed (listed d) which ≡ true → OnOk r (AddsBlock which d items new)
+      → (IsDefinition d.tokens d → OnOk r (AddsMeaning d items new)) → OnOk r (after ≡ noted_by (listed d) (done ++ which ∷ [])) → OnOk r (NoCause (OfHandler (handling d) which))
+      → OnOk r (AreHandled (done ++ which ∷ []) d after new)
+  listed_answered (Ok x) after new lists adds means notes uncaused = listed_more after new lists adds means notes uncaused
+  listed_answered (Err s) after new lists adds means notes uncaused = tt
+
+-- ---- all of them
+
+-- no handler ran
+pub none_handled : (d : DeriveInput) (noted : List Trait) (items : List Item) → noted ≡ [] → items ≡ [] → AreHandled [] d noted items
+none_handled d noted items unnoted empty = record {
+  noted_is = unnoted;
+  blocks = empty;
+  evaluates = λ _. subst (AllByRecursion (EachEvaluates d)) (sym empty) tt;
+  uncaused = tt;
+}
+
+-- a list that is not empty has an element
+some_stands : (traits : List Trait) → traits ≢ [] → (which : Trait) × Contains traits which
+some_stands [] some_listed = absurd (some_listed refl)
+some_stands (which ∷ more) some_listed = (which, (0, omega arith, refl))
+
+module _ (d : DeriveInput) (noted : List Trait) (items : List Item) (built : IsTrue (are_built (listed d))) (all : AreHandled built_traits d noted items) where
+  -- each listed trait has its block, and there is nothing else
+  pub one_each : OneEach d items
+  one_each = subst (λ ts. Blocks ts d items) (built_in_order d built) all.blocks
+
+  -- and no cause of the last phase stands
+  pub last_uncaused : IsListing d.attrs (listed d) → NoCause (IsListedCause d)
+  last_uncaused listing =
+      let Uncaused : Trait → Type 0 = λ which. is_listed (listed d) which ≡ true → NoCause (OfHandler (handling d) which) in
+      let some = some_stands (listed d) listing.some_listed in
+      all_handled (handling d) (listed d) some.0 some.1 (λ which found.
+      All-contains Uncaused built_traits which (All-from_recursion Uncaused built_traits all.uncaused) (listed_stands built_traits which (standing_built (listed d) which built found))
+      (standing_listed (listed d) which found))
+
+  -- and the settings of each listed comparison are what the attributes say
+  pub all_said : AreAllSaid d
+  all_said PartialEq lists = lawful_comparisons.said PartialEq d (all.uncaused.0 lists)
+  all_said PartialOrd lists = lawful_comparisons.said PartialOrd d (all.uncaused.1.0 lists)
+  all_said Ord lists = lawful_comparisons.said Ord d (all.uncaused.1.1.0 lists)

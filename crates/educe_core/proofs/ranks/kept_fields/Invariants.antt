@@ -1,7 +1,0 @@
-use Rattle.std.proofs.Common.{◌≡◌, map, take}
-use Rattle.educe_core.specs.Settings.{kept_from}
-use Rattle.educe_core.specs.Ranked.{kept_of}
-use Rattle.educe_core.proofs.ranks.kept_fields.Given as goal
-
-abbrev pub invariant-loop-place : goal.invariant-loop-place
-invariant-loop-place l = map kept_of l.kept.items ≡ kept_from l.fn.which l.ast 0 (take l.place l.field-items)

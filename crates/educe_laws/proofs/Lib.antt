@@ -1,0 +1,9 @@
+pub mod Elements
+pub mod Rising
+pub mod Least
+pub mod Stepping
+pub mod Comparisons
+pub mod OwnMethods
+pub mod Refused
+pub mod Evaluating
+pub mod Stops

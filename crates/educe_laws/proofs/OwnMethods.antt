@@ -1,0 +1,107 @@
+-- The identifiers in the methods of a definition are words of its tokens.
+use Rattle.std.proofs.Common.{◌≡◌, ℕ, ◌+◌, Bool, true, false, inl, inr, List, [], ◌∷◌, Option, Some, None, refl, sym, ap, ◌∙◌, subst}
+use Rattle.std.specs.Prelude.{if◌then◌else◌, Contains}
+use Rattle.std.specs.List.{AllByRecursion}
+use Rattle.std.proofs.lemmas.Bool.{false≢true}
+use Rattle.educe_tokens.specs.TokenKind.{TokenKind}
+use Rattle.educe_tokens.specs.TokenKind.TheVariants.{Ident, Lifetime, Literal, Punct, Start, Stop, Doc}
+use Rattle.educe_tokens.specs.declared.token.Token.{Token}
+use Rattle.educe_tokens.specs.Lexes.{lexeme_of}
+use Rattle.educe_tokens.specs.Steps.{IsReading}
+use Rattle.educe_tokens.specs.StringValue.{IsStringValue}
+use Rattle.educe_syntax.specs.Definitions as grammar
+use Rattle.educe_syntax.specs.DeriveInput.{DeriveInput}
+use Rattle.educe_syntax.specs.ExprPath.{ExprPath}
+use Rattle.educe_syntax.specs.Field.{Field}
+use Rattle.educe_syntax.specs.Laws.{lawful_parts}
+use Rattle.educe_syntax.specs.Keywords.{unraw}
+use Rattle.educe_syntax.specs.Parsed.{IsWhole}
+use Rattle.educe_syntax.specs.Shape.{Shape}
+use Rattle.educe_syntax.specs.Shape.TheVariants.{Struct, Enum}
+use Rattle.educe_syntax.specs.Within.{FieldWithin, ShapeWithin}
+use Rattle.educe_attrs.specs.Fields.{HaveNoCauses}
+use Rattle.educe_attrs.specs.Laws.{lawful_settings}
+use Rattle.educe_attrs.specs.Methods.{IsTextOf, standing, quoted}
+use Rattle.educe_body.specs.declared.comparison.Comparison.{Comparison}
+use Rattle.educe_body.specs.Keys.{fields_of, shape_fields}
+use Rattle.educe_body.specs.NameLaws.{lawful_names}
+use Rattle.educe_body.specs.Scoping.{is_ident, AreOwnNames}
+use Rattle.educe_body.specs.Words.{IsWordOf, ident, HasWord}
+use Rattle.educe_laws.specs.Comparisons.{trait_of, field_row}
+use Rattle.educe_laws.specs.Listed.{listed}
+use Rattle.educe_laws.specs.Settings.{Kept, how_with, is_kept, kept_at, kept_from, settings_of}
+use Rattle.educe_laws.proofs.Comparisons.{HaveOwnMethods}
+use Rattle.educe_laws.proofs.Elements.{In, In-from_Contains, Contains-from_In, each_in, each_weaker}
+use Rattle.educe_laws.proofs.Stepping.{HasOwnPath}
+
+-- ---- the identifiers of a text
+
+-- an identifier is, without `r#`, a word of its own token
+own_word : (kind : TokenKind) (spelling : List ℕ) → is_ident kind ≡ true → IsWordOf (unraw spelling) (record { kind = kind; spelling = spelling })
+own_word Ident spelling is = ident spelling
+own_word Lifetime spelling is = absurd (false≢true is)
+own_word (Literal l) spelling is = absurd (false≢true is)
+own_word (Punct c joint) spelling is = absurd (false≢true is)
+own_word (Start b) spelling is = absurd (false≢true is)
+own_word (Stop b) spelling is = absurd (false≢true is)
+own_word Doc spelling is = absurd (false≢true is)
+
+is_ident-kind : (kind : TokenKind) → is_ident kind ≡ true → kind ≡ Ident
+is_ident-kind Ident is = refl
+is_ident-kind Lifetime is = absurd (false≢true is)
+is_ident-kind (Literal l) is = absurd (false≢true is)
+is_ident-kind (Punct c joint) is = absurd (false≢true is)
+is_ident-kind (Start b) is = absurd (false≢true is)
+is_ident-kind (Stop b) is = absurd (false≢true is)
+is_ident-kind Doc is = absurd (false≢true is)
+
+-- the word of one of the tokens is a word of all
+word_among : (all : List Token) (t : Token) (word : List ℕ) → In t all → IsWordOf word (lexeme_of t) → HasWord all word
+word_among [] t word among is = absurd among
+word_among (own ∷ all) t word (inl same) is = inl (subst (λ (t : Token). IsWordOf word (lexeme_of t)) (sym same) is)
+word_among (own ∷ all) t word (inr later) is = inr (word_among all t word later is)
+
+-- the identifiers of tokens among all, or of those of the text of a string among all, are words of all
+text_own : (all found : List Token) → IsTextOf all found → AreOwnNames all found
+text_own all found (standing among) =
+    each_weaker (λ t. Contains all t) (λ t. is_ident t.kind ≡ true → HasWord all (unraw t.spelling))
+    (λ t stands is. word_among all t (unraw t.spelling) (In-from_Contains all t stands) (own_word t.kind t.spelling is)) found among
+text_own all found (quoted string value stands is_value reading) =
+    each_weaker (λ t. In t found) (λ t. is_ident t.kind ≡ true → HasWord all (unraw t.spelling))
+    (λ t among is. lawful_names.idents_in_values all string value found t stands is_value reading.lexes (Contains-from_In found t among) (is_ident-kind t.kind is)) found (each_in found)
+
+-- ---- the methods of fields
+
+own_how : (tokens : List Token) (ordering : Bool) (method : Option ExprPath) → ((path : ExprPath) → method ≡ Some path → AreOwnNames tokens path.written.tokens)
+    → HasOwnPath tokens (how_with ordering method)
+own_how tokens ordering None own = tt
+own_how tokens false (Some path) own = own path refl
+own_how tokens true (Some path) own = own path refl
+
+-- where P holds of the tokens in a definition, it does of those in each field
+each_field : (P : Token → Type 0) (shape : Shape) → ShapeWithin P shape → AllByRecursion (FieldWithin P) (shape_fields shape)
+each_field P (Struct fields) within = within
+each_field P (Enum variants) within = tt
+
+module _ (which : Comparison) (d : DeriveInput) where
+  abbrev HasOwn : Kept → Type 0
+  HasOwn k = HasOwnPath d.tokens k.how
+
+  own_step : (k : Kept) (rest : List Kept) (keeps : Bool) → HasOwn k → AllByRecursion HasOwn rest → AllByRecursion HasOwn (if keeps then k ∷ rest else rest)
+  own_step k rest true own later = (own, later)
+  own_step k rest false own later = later
+
+  own_from : (place : ℕ) (fs : List Field) → AllByRecursion (FieldWithin (λ t. Contains d.tokens t)) fs → HaveNoCauses (trait_of which) (field_row which) (listed d) fs
+      → AllByRecursion HasOwn (kept_from which d place fs)
+  own_from place [] within uncaused = tt
+  own_from place (f ∷ fs) within uncaused =
+      let settings = settings_of which d f in
+      let said = lawful_settings.field_said (trait_of which) (field_row which) (listed d) f.attrs uncaused.0 in
+      let own : (path : ExprPath) → settings.values.method ≡ Some path → AreOwnNames d.tokens path.written.tokens =
+      λ path is. text_own d.tokens path.written.tokens (lawful_settings.methods d.tokens (trait_of which) (field_row which) (listed d) f.attrs settings path within.0 said is) in
+      own_step (kept_at which d place f) (kept_from which d (place + 1) fs) (is_kept which d f) (own_how d.tokens settings.method_returns_ordering settings.values.method own)
+      (own_from (place + 1) fs within.1 uncaused.1)
+
+  -- the methods of the fields that take part have names of the definition alone
+  pub own_methods : IsWhole grammar.definition d.tokens d → HaveNoCauses (trait_of which) (field_row which) (listed d) (fields_of d) → HaveOwnMethods which d
+  own_methods whole uncaused = own_from 0 (fields_of d) (each_field (λ t. Contains d.tokens t) d.shape (lawful_parts.definition d.tokens d whole)) uncaused

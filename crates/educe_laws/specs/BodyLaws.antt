@@ -1,0 +1,15 @@
+-- The laws of bodies as terms, which proofs cite with no call.
+use Rattle.educe_body.specs.Laws.{KeyLaws, FormLaws, ScopeLaws}
+use Rattle.educe_body.proofs.Lawful as lawful
+
+-- keys that differ select the values at their places
+pub lawful_keys : KeyLaws
+lawful_keys = lawful.lawful_keys
+
+-- forms that hold forms have values made of theirs
+pub lawful_forms : FormLaws
+lawful_forms = lawful.lawful_forms
+
+-- what paths call where names are in scope
+pub lawful_scopes : ScopeLaws
+lawful_scopes = lawful.lawful_scopes

@@ -1,0 +1,197 @@
+-- What the derived comparisons mean.
+use Rattle.std.specs.Prelude.{ℕ, ◌≡◌, ◌+◌, Bool, true, false, not, List, [], ◌∷◌, Option, Some, None, IsSome, unwrap_or, if◌then◌else◌}
+use Rattle.std.specs.List.{filter, list_all, AllByRecursion}
+use Rattle.std.specs.declared.cmp.Ordering.{Ordering}
+use Rattle.std.specs.declared.cmp.Ordering.TheVariants.{Less, Equal, Greater}
+use Rattle.std.specs.Str.{bytes_eq}
+use Rattle.std.specs.Cmp.Lexicographic.{pointwise}
+use Rattle.educe_syntax.specs.Field.{Field}
+use Rattle.educe_syntax.specs.DeriveInput.{DeriveInput}
+use Rattle.educe_syntax.specs.Ty.{out-Ty}
+use Rattle.educe_body.specs.declared.comparison.Comparison.{Comparison}
+use Rattle.educe_body.specs.declared.comparison.Comparison.TheVariants.{PartialEq, PartialOrd, Ord}
+use Rattle.educe_body.specs.Keys.{fields_of}
+use Rattle.educe_body.specs.declared.value.FieldValue.{FieldValue}
+use Rattle.educe_body.specs.declared.value.Value.{Value}
+use Rattle.educe_body.specs.declared.callee.Callee.{Callee}
+use Rattle.educe_body.specs.declared.callee.BuiltIn.{BuiltIn}
+use Rattle.educe_body.specs.declared.callee.BuiltIn.TheVariants.{Ne, Cmp, PartialCmp}
+use Rattle.educe_body.specs.declared.form.Known.{Known}
+use Rattle.educe_body.specs.declared.form.Known.TheVariants.{Truth, Order, PartialOrder}
+use Rattle.educe_body.specs.declared.answers.Answer.{Answer}
+use Rattle.educe_body.specs.declared.answers.Answer.TheVariants.{Truth as AnswerTruth, Order as AnswerOrder, PartialOrder as AnswerPartialOrder}
+use Rattle.educe_body.specs.declared.answers.Answers.{Answers}
+use Rattle.educe_body.specs.declared.evaluator.Outcome.{Outcome}
+use Rattle.educe_body.specs.declared.evaluator.Outcome.TheVariants.{Truth as OutcomeTruth, Order as OutcomeOrder, PartialOrder as OutcomePartialOrder}
+use Rattle.educe_body.specs.Answering.{answer_of}
+use Rattle.educe_body.specs.Callees.{spellings, as_callee, callee_of}
+use Rattle.educe_laws.specs.Ranks.{least_by}
+use Rattle.educe_laws.specs.Settings.{Kept, How, plainly, by_method, by_order, is_kept, kept_at}
+
+-- ---- values that have the shape of a definition
+
+-- the spellings of a field's type
+abbrev pub type_spellings : Field → List (List ℕ)
+type_spellings field = spellings (out-Ty field.ty).written.tokens
+
+-- the place of the first field whose type has these tokens
+abbrev pub first_place : List Field → List (List ℕ) → ℕ
+first_place [] type = 0
+first_place (f ∷ fs) type = if pointwise bytes_eq (type_spellings f) type then 0 else first_place fs type + 1
+
+-- one value for each of these fields, of its type's place among all fields
+abbrev pub HaveTypes : List Field → List Field → List FieldValue → Type 0
+HaveTypes all [] [] = Unit {0}
+HaveTypes all [] (x ∷ xs) = ⊥
+HaveTypes all (f ∷ fs) [] = ⊥
+HaveTypes all (f ∷ fs) (x ∷ xs) = (x.ty ≡ first_place all (type_spellings f)) × HaveTypes all fs xs
+
+-- the value's variant exists, and it has the fields of the definition, each of its type
+pub record HasShape (definition : DeriveInput) (value : Value) : Type 0 where
+  pub variant : value.variant ≡ 0
+  pub fields : HaveTypes (fields_of definition) (fields_of definition) value.fields
+
+-- ---- what a field says
+
+-- a field that takes part, with its values in the two that are compared
+pub record Compared : Type 0 where
+  pub kept : Kept
+  pub first : FieldValue
+  pub second : FieldValue
+
+-- those that take part among fields of which the first has this place, with their values, in written order
+abbrev pub compared_from : Comparison → DeriveInput → ℕ → List Field → List FieldValue → List FieldValue → List Compared
+compared_from which definition place [] xs ys = []
+compared_from which definition place (f ∷ fs) [] ys = []
+compared_from which definition place (f ∷ fs) (x ∷ xs) [] = []
+compared_from which definition place (f ∷ fs) (x ∷ xs) (y ∷ ys) =
+    if is_kept which definition f then record { kept = kept_at which definition place f; first = x; second = y } ∷ compared_from which definition (place + 1) fs xs ys
+    else compared_from which definition (place + 1) fs xs ys
+
+-- the fields that take part in a comparison, with their values
+abbrev pub compared : Comparison → DeriveInput → Value → Value → List Compared
+compared which definition a b = compared_from which definition 0 (fields_of definition) a.fields b.fields
+
+-- the function of the core library by which a trait compares two values of a field
+abbrev pub comparison : Comparison → BuiltIn
+comparison PartialEq = Ne
+comparison PartialOrd = PartialCmp
+comparison Ord = Cmp
+
+-- what is called on the two values: that function, or the method
+abbrev pub asked : Comparison → How → Callee
+asked which plainly = as_callee (comparison which)
+asked which (by_method path) = callee_of path
+asked which (by_order path) = callee_of path
+
+-- whether an answer means that two values are equal; with true, the answer is negated
+abbrev pub said_truth : Bool → Option Answer → Option Known
+said_truth opposite None = None
+said_truth opposite (Some (AnswerTruth b)) = Some (Truth (if opposite then not b else b))
+said_truth opposite (Some (AnswerOrder o)) = None
+said_truth opposite (Some (AnswerPartialOrder p)) = None
+
+-- the order that is answered
+abbrev pub said_order : Option Answer → Option Known
+said_order None = None
+said_order (Some (AnswerTruth b)) = None
+said_order (Some (AnswerOrder o)) = Some (Order o)
+said_order (Some (AnswerPartialOrder p)) = None
+
+-- the partial order that is answered
+abbrev pub said_partial_order : Option Answer → Option Known
+said_partial_order None = None
+said_partial_order (Some (AnswerTruth b)) = None
+said_partial_order (Some (AnswerOrder o)) = None
+said_partial_order (Some (AnswerPartialOrder p)) = Some (PartialOrder p)
+
+-- the order that is answered, in `Some`
+abbrev pub said_in_some : Option Answer → Option Known
+said_in_some None = None
+said_in_some (Some (AnswerTruth b)) = None
+said_in_some (Some (AnswerOrder o)) = Some (PartialOrder (Some o))
+said_in_some (Some (AnswerPartialOrder p)) = None
+
+-- what a field says by an answer: to `PartialEq` the opposite of what `ne` answers, or what its method does; to `Ord` the order
+-- that is answered; to `PartialOrd` the partial order, or in `Some` the order that a method of `Ord` answers
+abbrev pub said : Comparison → How → Option Answer → Option Known
+said PartialEq plainly answer = said_truth true answer
+said PartialEq (by_method path) answer = said_truth false answer
+said PartialEq (by_order path) answer = said_truth false answer
+said PartialOrd plainly answer = said_partial_order answer
+said PartialOrd (by_method path) answer = said_partial_order answer
+said PartialOrd (by_order path) answer = said_in_some answer
+said Ord how answer = said_order answer
+
+-- what a field says to a trait, if it says something
+abbrev pub says : Comparison → Answers → Compared → Option Known
+says which table c = said which c.kept.how (answer_of table (asked which c.kept.how) (Some c.first) (Some c.second))
+
+-- both values have the definition's shape, and by the table each field that takes part says something
+pub record Covers (which : Comparison) (table : Answers) (definition : DeriveInput) (a b : Value) : Type 0 where
+  pub first : HasShape definition a
+  pub second : HasShape definition b
+  pub each : AllByRecursion (λ c. IsSome (says which table c)) (compared which definition a b)
+
+-- ---- what a derived function means
+
+-- the result where no field differs
+abbrev pub neutral : Comparison → Known
+neutral PartialEq = Truth true
+neutral PartialOrd = PartialOrder (Some Equal)
+neutral Ord = Order Equal
+
+-- what a field says, or `neutral` where it says nothing
+abbrev pub word_of : Comparison → Answers → Compared → Known
+word_of which table c = unwrap_or (says which table c) (neutral which)
+
+-- whether what is said means that the two values differ
+abbrev pub is_apart : Known → Bool
+is_apart (Truth b) = not b
+is_apart (Order Less) = true
+is_apart (Order Equal) = false
+is_apart (Order Greater) = true
+is_apart (PartialOrder None) = true
+is_apart (PartialOrder (Some Less)) = true
+is_apart (PartialOrder (Some Equal)) = false
+is_apart (PartialOrder (Some Greater)) = true
+
+-- whether a field's two values differ, by what it says
+abbrev pub differs : Comparison → Answers → Compared → Bool
+differs which table c = is_apart (word_of which table c)
+
+-- whether it is said that two values are equal
+abbrev pub says_true : Option Known → Bool
+says_true None = false
+says_true (Some (Truth b)) = b
+says_true (Some (Order o)) = false
+says_true (Some (PartialOrder p)) = false
+
+-- every field that takes part is equal in both
+abbrev pub equal : Answers → List Compared → Bool
+equal table cs = list_all (λ c. says_true (says PartialEq table c)) cs
+
+-- the field that decides: of those whose values differ the one of least rank
+abbrev pub deciding : Comparison → Answers → List Compared → Option Compared
+deciding which table cs = least_by (λ c. c.kept.rank) (filter (differs which table) cs)
+
+-- what the deciding field says, or `neutral` without one
+abbrev pub answered : Comparison → Answers → Option Compared → Known
+answered which table None = neutral which
+answered which table (Some c) = word_of which table c
+
+-- the order, or partial order, of two values: what the field says that decides
+abbrev pub order : Comparison → Answers → List Compared → Known
+order which table cs = answered which table (deciding which table cs)
+
+-- an answer as what a function evaluates to
+abbrev pub outcome : Known → Outcome
+outcome (Truth b) = OutcomeTruth b
+outcome (Order o) = OutcomeOrder o
+outcome (PartialOrder p) = OutcomePartialOrder p
+
+-- what the function of a trait means of two values: whether every field that takes part is equal in both; or their order
+abbrev pub meaning : Comparison → Answers → DeriveInput → Value → Value → Outcome
+meaning PartialEq table definition a b = OutcomeTruth (equal table (compared PartialEq definition a b))
+meaning PartialOrd table definition a b = outcome (order PartialOrd table (compared PartialOrd definition a b))
+meaning Ord table definition a b = outcome (order Ord table (compared Ord definition a b))

@@ -1,0 +1,35 @@
+-- What holds of the comparisons of a definition with no call.
+use Rattle.std.specs.Prelude.{◌≡◌, ℕ, ◌≢◌, ◌≤◌, ◌^◌, List, length, codes}
+use Rattle.std.specs.List.{AllByRecursion}
+use Rattle.educe_syntax.specs.DeriveInput.{DeriveInput}
+use Rattle.educe_syntax.specs.Field.{Field}
+use Rattle.educe_syntax.specs.Refusal.{IsDefinition}
+use Rattle.educe_attrs.specs.Causes.{NoCause}
+use Rattle.educe_attrs.specs.FieldSettings.{FieldSettings}
+use Rattle.educe_attrs.specs.Fields.{HaveNoCauses}
+use Rattle.educe_attrs.specs.Phases.{OfHandler}
+use Rattle.educe_attrs.specs.Places.{IsFieldSaid}
+use Rattle.educe_body.specs.declared.body.Item.{Item}
+use Rattle.educe_body.specs.declared.comparison.Comparison.{Comparison}
+use Rattle.educe_body.specs.Keys.{fields_of}
+use Rattle.educe_body.specs.Words.{HasWord}
+use Rattle.educe_laws.specs.Blocks.{IsParameter, IsComparisonBlock, EachEvaluates}
+use Rattle.educe_laws.specs.Comparisons.{trait_of, field_row}
+use Rattle.educe_laws.specs.Handled.{handling}
+use Rattle.educe_laws.specs.Listed.{listed}
+use Rattle.educe_laws.specs.Settings.{settings_of, AreSaid}
+
+-- The settings of fields, and the blocks of comparisons.
+pub record ComparisonLaws : Type 0 where
+  -- where the handler of a comparison has no cause, the settings of each field are what its attributes say
+  pub said : (which : Comparison) (definition : DeriveInput) → NoCause (OfHandler (handling definition) (trait_of which)) → AreSaid which definition
+  -- and no other settings are
+  pub only : (which : Comparison) (definition : DeriveInput) → NoCause (OfHandler (handling definition) (trait_of which)) → (settings : Field → FieldSettings)
+      → AllByRecursion (λ field. IsFieldSaid (trait_of which) (field_row which) (listed definition) field.attrs (settings field)) (fields_of definition)
+      → AllByRecursion (λ field. settings field ≡ settings_of which definition field) (fields_of definition)
+  -- the names in the scope of a comparison's function, `self` and its parameter, are two, and the parameter is no word of the input
+  pub scope : (definition : DeriveInput) (name : List ℕ) → IsParameter definition name → (name ≢ codes "self") × (HasWord definition.tokens name → ⊥)
+  -- where no field of a definition says something wrong of the comparison, the functions of its block evaluate to what it means
+  pub evaluates : (which : Comparison) (definition : DeriveInput) (items : List Item) → IsDefinition definition.tokens definition → length (fields_of definition) ≤ 2 ^ 64
+      → HaveNoCauses (trait_of which) (field_row which) (listed definition) (fields_of definition)
+      → IsComparisonBlock which definition items → AllByRecursion (EachEvaluates definition) items

@@ -1,0 +1,18 @@
+-- The comparisons, and the traits that a definition lists.
+pub mod Comparisons
+pub mod Listed
+-- What attributes say of a field, and the order of ranks.
+pub mod Ranks
+pub mod Settings
+-- What a comparison means of two values.
+pub mod Comparing
+-- What the items of a trait hold, and what their functions evaluate to.
+pub mod Blocks
+-- The form of definitions that is built so far, and why a trait is refused.
+pub mod Built
+pub mod Handled
+-- What a handler is asked for, and what it adds.
+pub mod Handlers
+-- Laws that hold with no call, as terms and as records.
+pub mod BodyLaws
+pub mod Laws

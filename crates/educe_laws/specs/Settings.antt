@@ -1,0 +1,136 @@
+-- What the attributes of a field say of it to a comparison.
+use Rattle.std.specs.Prelude.{ℕ, ℤ, pos, ◌-ℤ◌, ◌+◌, ◌^◌, ◌<◌, ◌≤◌, ◌≡◌, Bool, true, false, not, List, [], ◌∷◌, Option, None, Some, if◌then◌else◌, unwrap_or}
+use Rattle.std.specs.List.{AllByRecursion, Contains}
+use Rattle.educe_tokens.specs.declared.span.Span.{Span}
+use Rattle.educe_syntax.specs.ExprPath.{ExprPath}
+use Rattle.educe_syntax.specs.Field.{Field}
+use Rattle.educe_syntax.specs.DeriveInput.{DeriveInput}
+use Rattle.educe_attrs.specs.FieldSettings.{FieldSettings}
+use Rattle.educe_attrs.specs.Fields.{settings_at}
+use Rattle.educe_attrs.specs.Compared.{number_of, place_of}
+use Rattle.educe_attrs.specs.Places.{IsFieldSaid}
+use Rattle.educe_bound.specs.Traits.{is_listed}
+use Rattle.educe_body.specs.declared.comparison.Comparison.{Comparison}
+use Rattle.educe_body.specs.Keys.{fields_of}
+use Rattle.educe_laws.specs.Comparisons.{trait_of, field_row}
+use Rattle.educe_laws.specs.Listed.{listed}
+use Rattle.educe_laws.specs.Ranks.{AreRanksApart}
+
+-- ---- settings
+
+-- the settings of a field
+abbrev pub settings_of : Comparison → DeriveInput → Field → FieldSettings
+settings_of which definition = settings_at (trait_of which) (field_row which) (listed definition)
+
+-- the settings of each field are what its attributes say of the comparison, or, where both orders are listed and an order has
+-- none of its own, of the other
+abbrev pub AreSaid : Comparison → DeriveInput → Type 0
+AreSaid which definition =
+    AllByRecursion (λ field. IsFieldSaid (trait_of which) (field_row which) (listed definition) field.attrs (settings_of which definition field)) (fields_of definition)
+
+-- that of each listed comparison
+abbrev pub AreAllSaid : DeriveInput → Type 0
+AreAllSaid definition = (which : Comparison) → is_listed (listed definition) (trait_of which) ≡ true → AreSaid which definition
+
+-- whether a field with these settings takes part
+abbrev pub keeps : FieldSettings → Bool
+keeps settings = not (unwrap_or settings.values.ignore false)
+
+-- the rank at a place where none is set
+abbrev pub default_rank : ℕ → ℤ
+default_rank place = pos place -ℤ pos (2 ^ 63)
+
+-- the rank that these settings give at a place, or else the default one
+abbrev pub rank_by : ℕ → FieldSettings → ℤ
+rank_by place settings = number_of settings.values.rank (default_rank place)
+
+-- the span of the rank that these settings give, or else the other span
+abbrev pub rank_span_by : FieldSettings → Span → Span
+rank_span_by settings other = unwrap_or (place_of settings.values.rank) other
+
+-- how a field is compared: by the trait's own function; by a method; or, where `PartialOrd` takes the method of `Ord`, by
+-- one that returns an `Ordering`
+pub data How : Type 0 where
+  plainly : How
+  by_method : ExprPath → How
+  by_order : ExprPath → How
+
+-- by this method, if there is one; with true it returns an `Ordering`
+abbrev pub how_with : Bool → Option ExprPath → How
+how_with ordering None = plainly
+how_with false (Some path) = by_method path
+how_with true (Some path) = by_order path
+
+-- how a field with these settings is compared
+abbrev pub how_by : FieldSettings → How
+how_by settings = how_with settings.method_returns_ordering settings.values.method
+
+-- ---- fields
+
+-- the field takes part in the comparison
+abbrev pub is_kept : Comparison → DeriveInput → Field → Bool
+is_kept which definition field = keeps (settings_of which definition field)
+
+-- the rank that is set, or else the default one
+abbrev pub rank_of : Comparison → DeriveInput → ℕ → Field → ℤ
+rank_of which definition place field = rank_by place (settings_of which definition field)
+
+-- where the rank stands: the parameter, or the field where it has none
+abbrev pub rank_span_of : Comparison → DeriveInput → Field → Span
+rank_span_of which definition field = rank_span_by (settings_of which definition field) field.span
+
+-- how it is compared
+abbrev pub how_of : Comparison → DeriveInput → Field → How
+how_of which definition field = how_by (settings_of which definition field)
+
+-- a field that takes part, its place among all fields, counted from 0, its rank, where that stands, and how it is compared
+pub record Kept : Type 0 where
+  pub field : Field
+  pub place : ℕ
+  pub rank : ℤ
+  pub rank_span : Span
+  pub how : How
+
+-- the field at a place, as it takes part
+abbrev pub kept_at : Comparison → DeriveInput → ℕ → Field → Kept
+kept_at which definition place field = record {
+  field = field;
+  place = place;
+  rank = rank_of which definition place field;
+  rank_span = rank_span_of which definition field;
+  how = how_of which definition field;
+}
+
+-- those that take part among fields of which the first has this place
+abbrev pub kept_from : Comparison → DeriveInput → ℕ → List Field → List Kept
+kept_from which definition place [] = []
+kept_from which definition place (f ∷ fs) =
+    if is_kept which definition f then kept_at which definition place f ∷ kept_from which definition (place + 1) fs
+    else kept_from which definition (place + 1) fs
+
+-- the fields that take part, in written order
+abbrev pub kept_fields : Comparison → DeriveInput → List Kept
+kept_fields which definition = kept_from which definition 0 (fields_of definition)
+
+-- no two fields that take part have one rank
+abbrev pub RanksDiffer : Comparison → DeriveInput → Type 0
+RanksDiffer which definition = AreRanksApart (λ k. k.rank) (kept_fields which definition)
+
+-- where two fields that take part have one rank, the later of them is not written before this place
+abbrev pub IsEarliest : Comparison → DeriveInput → ℕ → Type 0
+IsEarliest which definition place =
+    (first later : Kept) → Contains (kept_fields which definition) first → Contains (kept_fields which definition) later
+    → first.place < later.place → first.rank ≡ later.rank → place ≤ later.place
+
+-- two fields that take part have this rank, and this is the place of the later one's; of such later fields it is the
+-- one that is written first
+pub record ReusesARank (which : Comparison) (definition : DeriveInput) (rank : ℤ) (place : Span) : Type 0 where
+  pub first : Kept
+  pub later : Kept
+  pub first_kept : Contains (kept_fields which definition) first
+  pub later_kept : Contains (kept_fields which definition) later
+  pub written : first.place < later.place
+  pub first_rank : first.rank ≡ rank
+  pub later_rank : later.rank ≡ rank
+  pub place_is : place ≡ later.rank_span
+  pub earliest : IsEarliest which definition later.place
