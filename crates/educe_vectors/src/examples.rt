@@ -2,7 +2,7 @@
 
 use crate::examples::checks::check_all;
 use crate::program::ONE_FIELD;
-use educe_body::Outcome;
+use educe_body::{Comparison, Outcome};
 use educe_tokens::Kind;
 use std::cmp::Ordering;
 use std::test::Fail;
@@ -13,17 +13,28 @@ mod devices;
 mod fields;
 mod impls;
 mod listings;
+mod methods;
+mod names;
 mod phases;
+
+/// What a method answers where it is called on fields of two numbers, under the text of its path.
+pub(crate) type Called = (&'static str, i128, i128, educe_body::Answer);
 
 /// What is answered to a text.
 #[derive(Clone, Copy)]
 pub(crate) enum Answer {
     /// `expand` writes this text.
     Text(&'static str),
+    /// `expand` writes a text that contains this one.
+    Holds(&'static str),
     /// `expand` writes a text.
     Expanded,
     /// The function of the first impl evaluates so over values whose fields have these numbers.
     Value([i128; 2], [i128; 2], Outcome),
+    /// The function of this trait evaluates so over values whose fields have these numbers, where
+    /// methods answer as these calls of them say, and fields without a method compare as their
+    /// numbers do.
+    Called(Comparison, &'static [Called], &'static [i128], &'static [i128], Outcome),
     /// `expand` refuses with this line.
     Line(&'static str),
     /// `expand` refuses with one of these lines.

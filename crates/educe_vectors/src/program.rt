@@ -130,6 +130,18 @@ pub(crate) fn check_notes(alloc: Global, input: &str, notes: &str) -> Result<(),
     check_at(input, found.code == 0, notes.is_empty())
 }
 
+/// The input is expanded to a text that contains this one.
+pub(crate) fn check_holds(alloc: Global, input: &str, part: &str) -> Result<(), Fail> {
+    let found = Case::of(input.as_bytes(), 0, "", "").outcome(alloc, 4096)?;
+    check_at(input, found.code, 0)?;
+    let text = shown(found.text.bytes());
+    if text.contains(part) {
+        Ok(())
+    } else {
+        Err(Fail::new(format_args!("at {input:?}: found {text:?}")))
+    }
+}
+
 /// The input is refused with one of these notes.
 pub(crate) fn check_one_of(alloc: Global, input: &str, notes: &[&str]) -> Result<(), Fail> {
     let found = Case::of(input.as_bytes(), 1, "", "").outcome(alloc, 4096)?;

@@ -56,7 +56,7 @@ fn partial_eq_of_a_type(alloc: Global, source: &str, meta: &Meta) -> Result<Stri
     )
 }
 
-/// What a `Eq` attribute says of a type.
+/// What an `Eq` attribute says of a type.
 fn eq_of_a_type(alloc: Global, source: &str, meta: &Meta) -> Result<String, Fail>
     requires { IsNamed meta.now }
 {
@@ -82,7 +82,7 @@ fn partial_ord_of_a_type(alloc: Global, source: &str, meta: &Meta) -> Result<Str
     )
 }
 
-/// What a `Ord` attribute says of a type.
+/// What an `Ord` attribute says of a type.
 fn ord_of_a_type(alloc: Global, source: &str, meta: &Meta) -> Result<String, Fail>
     requires { IsNamed meta.now }
 {
@@ -160,7 +160,7 @@ fn partial_eq_of_a_field(alloc: Global, source: &str, meta: &Meta) -> Result<Str
     )
 }
 
-/// What a `Eq` attribute says of a field.
+/// What an `Eq` attribute says of a field.
 fn eq_of_a_field(alloc: Global, source: &str, meta: &Meta) -> Result<String, Fail>
     requires { IsNamed meta.now }
 {
@@ -180,7 +180,7 @@ fn partial_ord_of_a_field(alloc: Global, source: &str, meta: &Meta) -> Result<St
     )
 }
 
-/// What a `Ord` attribute says of a field.
+/// What an `Ord` attribute says of a field.
 fn ord_of_a_field(alloc: Global, source: &str, meta: &Meta) -> Result<String, Fail>
     requires { IsNamed meta.now }
 {

@@ -1,9 +1,9 @@
 //! How an example is tried.
 
-use crate::examples::{Answer, Example};
-use crate::program::bodies::evaluated_first;
-use crate::program::{Case, check_notes, check_one_of};
-use educe_body::Outcome;
+use crate::examples::{Answer, Called, Example};
+use crate::program::bodies::{evaluated_by, evaluated_first};
+use crate::program::{Case, check_holds, check_notes, check_one_of};
+use educe_body::{Comparison, Outcome};
 use educe_tokens::{EduceError, Kind, Token, int_value, string_value};
 use educe_vectors_checks::{check_at, lex_answer, lexed, printed_source};
 use std::alloc::Global;
@@ -51,13 +51,33 @@ fn check_value(
     check_at(source, evaluated_first(alloc, source, numbers)?, expected)
 }
 
+/// The function of a trait evaluates so, where methods answer as these calls say.
+fn check_called(
+    alloc: Global,
+    source: &str,
+    which: Comparison,
+    calls: &[Called],
+    numbers: (&[i128], &[i128]),
+    expected: Outcome,
+) -> Result<(), Fail> {
+    check_at(
+        source,
+        evaluated_by(alloc, source, which, calls, numbers)?,
+        expected,
+    )
+}
+
 /// The example is answered as its row says.
 fn check(alloc: Global, example: &Example) -> Result<(), Fail> {
     let (_, source, answer) = example;
     match answer {
         Answer::Text(text) => Case::of(source.as_bytes(), 0, text, "").check(alloc),
+        Answer::Holds(part) => check_holds(alloc, source, part),
         Answer::Expanded => check_notes(alloc, source, ""),
         Answer::Value(this, other, outcome) => check_value(alloc, source, (this, other), *outcome),
+        Answer::Called(which, calls, this, other, outcome) => {
+            check_called(alloc, source, *which, calls, (this, other), *outcome)
+        }
         Answer::Line(line) => Case::of(source.as_bytes(), 1, "", line).check(alloc),
         Answer::OneOf(lines) => check_one_of(alloc, source, lines),
         Answer::Printed(text) => check_at(*source, printed_source(alloc, source)?.as_str(), *text),

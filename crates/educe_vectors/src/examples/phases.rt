@@ -168,7 +168,7 @@ static SEVERAL: [Example; 15] = [
     ),
 ];
 
-static NOT_BUILT_YET: [Example; 23] = [
+static NOT_BUILT_YET: [Example; 15] = [
     (
         "an enum",
         "#[educe(PartialEq)] enum E { A, B }",
@@ -210,31 +210,6 @@ static NOT_BUILT_YET: [Example; 23] = [
         Answer::Line(NOT_BUILT),
     ),
     (
-        "a method",
-        "#[educe(PartialEq)] struct S { #[educe(PartialEq(method = a::b))] a: u8 }",
-        Answer::Line(NOT_BUILT),
-    ),
-    (
-        "a method of an order",
-        "#[educe(Ord)] struct S { #[educe(Ord(rank = 1, method(f)))] a: u8 }",
-        Answer::Line(NOT_BUILT),
-    ),
-    (
-        "a method that no trait reads",
-        "#[educe(PartialEq)] struct S { #[educe(Hash(method = f))] a: u8 }",
-        Answer::Line(NOT_BUILT),
-    ),
-    (
-        "the word of a method as a value",
-        "#[educe(PartialEq)] struct S { #[educe(PartialEq(ignore = method))] a: u8 }",
-        Answer::Line(NOT_BUILT),
-    ),
-    (
-        "the word of a method inside a list that is no list of metas",
-        "#[educe(PartialEq)] struct S { #[educe((method))] a: u8 }",
-        Answer::Line(NOT_BUILT),
-    ),
-    (
         "bounds",
         "#[educe(PartialEq(bound(*)))] struct S { a: u8 }",
         Answer::Line(NOT_BUILT),
@@ -250,38 +225,23 @@ static NOT_BUILT_YET: [Example; 23] = [
         Answer::Line(NOT_BUILT),
     ),
     (
-        "the second value's name as a field",
-        "#[educe(PartialEq)] struct S { other: u8 }",
+        "bounds of a trait that is not listed",
+        "#[educe(PartialEq)] struct S { #[educe(Hash(bound = false))] a: u8 }",
         Answer::Line(NOT_BUILT),
     ),
     (
-        "the second value's name behind `r#`",
-        "#[educe(PartialEq)] struct S { a: r#other }",
+        "the word of bounds as a value",
+        "#[educe(PartialEq)] struct S { #[educe(PartialEq(ignore = bound))] a: u8 }",
         Answer::Line(NOT_BUILT),
     ),
     (
-        "the second value's name as a lifetime",
-        "#[educe(PartialEq)] struct S { a: &'other u8 }",
+        "the word of bounds as a method",
+        "#[educe(PartialEq)] struct S { #[educe(PartialEq(method(bound)))] a: u8 }",
         Answer::Line(NOT_BUILT),
     ),
     (
-        "the second value's name in documentation",
-        "#[educe(PartialEq)] /** the other one */ struct S { a: u8 }",
-        Answer::Line(NOT_BUILT),
-    ),
-    (
-        "the second value's name in a string",
-        "#[educe(PartialEq)] struct S { #[note = \"an other\"] a: u8 }",
-        Answer::Line(NOT_BUILT),
-    ),
-    (
-        "the second value's name as a rank",
-        "#[educe(Ord)] struct S { #[educe(Ord(rank = \"other\"))] a: u8 }",
-        Answer::Line(NOT_BUILT),
-    ),
-    (
-        "the second value's name in a lint attribute",
-        "#[allow(other)] #[educe(PartialEq)] struct S { a: u8 }",
+        "the word of bounds in a list that is no list of metas",
+        "#[educe(PartialEq)] struct S { #[educe((bound))] a: u8 }",
         Answer::Line(NOT_BUILT),
     ),
 ];

@@ -1,12 +1,16 @@
 //! What the functions of items evaluate to.
 
-use educe_body::{Answer, Body, Callee, FieldValue, Item, Items, Outcome, Row, eval};
+use crate::examples::Called;
+use educe_body::{
+    Answer, Answers, Body, Callee, Comparison, FieldValue, ImplItem, Item, Items, Outcome, Row,
+    eval,
+};
 use educe_core::{Expansion, expand};
 use educe_syntax::DeriveInput;
-use educe_tokens::SOURCE_LIMIT;
+use educe_tokens::{SOURCE_LIMIT, Seq, Spelling};
 use educe_vectors_body::{scope, table, value};
 use educe_vectors_checks::{check_at, definition, found};
-use std::alloc::Global;
+use std::alloc::{AllocError, Global};
 use std::cmp::Ordering;
 use std::test::Fail;
 
@@ -18,15 +22,34 @@ fn expansion(alloc: Global, source: &str) -> Result<Expansion, Fail> {
     found(expand(alloc, source))
 }
 
+/// The body of the function of an impl.
+fn only_body(item: &ImplItem) -> Option<&Body> {
+    match item.functions.get(0) {
+        Some(function) => Some(&function.body),
+        None => None,
+    }
+}
+
 /// The body of the function of the item at an index.
 fn body_of(items: &Items, index: usize) -> Option<&Body> {
     match items.get(index) {
-        Some(Item::Impl(item)) => match item.functions.get(0) {
-            Some(function) => Some(&function.body),
-            None => None,
-        },
+        Some(Item::Impl(item)) => only_body(item),
         None => None,
     }
+}
+
+/// The body of the function of the impl of a trait.
+fn body_for(items: &Items, which: Comparison) -> Option<&Body> {
+    for item in items.as_slice() {
+        match item {
+            Item::Impl(item) => {
+                if item.which == which {
+                    return only_body(item);
+                }
+            }
+        }
+    }
+    None
 }
 
 /// What a body evaluates to over values of these numbers.
@@ -35,12 +58,56 @@ fn evaluated(
     ast: &DeriveInput,
     body: &Body,
     numbers: (&[i128], &[i128]),
-    rows: &[Row],
+    answers: &Answers,
 ) -> Result<Outcome, Fail> {
     let this = value(alloc, numbers.0)?;
     let other = value(alloc, numbers.1)?;
-    let answers = table(alloc, rows)?;
-    Ok(eval(alloc, body, &scope(ast, &this, Some(&other)), &answers)?)
+    Ok(eval(alloc, body, &scope(ast, &this, Some(&other)), answers)?)
+}
+
+/// The field of this number, as an argument.
+fn field(number: i128) -> Option<FieldValue> {
+    Some(FieldValue { ty: 0, number })
+}
+
+/// What a method answers, as a row of a table.
+fn row_of(alloc: Global, call: &Called) -> Result<Row, AllocError> {
+    let (path, first, second, answer) = call;
+    let callee = Callee::Written(Spelling::from_str(alloc, path)?);
+    Ok(Row {
+        callee,
+        first: field(*first),
+        second: field(*second),
+        answer: *answer,
+    })
+}
+
+/// The table by which methods answer as these calls say, and other fields compare as their numbers
+/// do.
+fn answers_of(alloc: Global, calls: &[Called]) -> Result<Answers, AllocError> {
+    let mut rows = Seq::new(alloc);
+    for call in calls {
+        rows.push(row_of(alloc, call)?)?;
+    }
+    Ok(Answers {
+        rows,
+        by_number: true,
+    })
+}
+
+/// What the function of a trait evaluates to in the expansion of a text, over values of these
+/// numbers, where methods answer as these calls say.
+pub(crate) fn evaluated_by(
+    alloc: Global,
+    source: &str,
+    which: Comparison,
+    calls: &[Called],
+    numbers: (&[i128], &[i128]),
+) -> Result<Outcome, Fail> {
+    let ast = definition(alloc, source)?;
+    let expansion = expansion(alloc, source)?;
+    let body = body_for(expansion.items(), which).ok_or("no function")?;
+    evaluated(alloc, &ast, body, numbers, &answers_of(alloc, calls)?)
 }
 
 /// What the function of the first item of a text evaluates to over values of these numbers, where
@@ -68,7 +135,7 @@ fn outcome_in(
 ) -> Result<Outcome, Fail> {
     let (_, index, this, other, _) = case;
     let body = body_of(expansion.items(), *index).ok_or("no function")?;
-    evaluated(alloc, ast, body, (this, other), rows)
+    evaluated(alloc, ast, body, (this, other), &table(alloc, rows)?)
 }
 
 /// The same in the expansion that the definition has.
