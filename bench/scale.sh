@@ -43,6 +43,10 @@ def settings(n):
     """A field with settings for three traits."""
     return f"#[educe(PartialEq(ignore=false),PartialOrd(rank={n}))]#[educe(Ord(ignore=false,rank=\"-{n}\"))]f{n}:u8,"
 
+def methods(n):
+    """A field that two traits compare by methods; the third takes one of them."""
+    return f"#[educe(PartialEq(method(e{n})),Ord(method = \"o{n}\"))]f{n}:u8,"
+
 def blanks(size):
     """A small struct behind blanks."""
     text = "#[educe(PartialEq)] struct S { a: u8 }"
@@ -111,7 +115,7 @@ shapes = [
     ("value", at_a_field("#[educe(Ord(rank=f(", "1,", ")))]")),
     ("zeros", at_a_field("#[educe(Ord(rank=\"", "0", "1\"))]")),
     ("digits", at_a_field("#[educe(Ord(rank=\"", "9", "\"))]")),
-    ("last_word", at_a_field("#[educe(Ord(", "rank=1,", "method))]")),
+    ("last_word", at_a_field("#[educe(Ord(", "rank=1,", "bound))]")),
     ("last_fault", at_a_field("#[educe(Ord(", "rank=1,", ";))]")),
     ("long_names", long_names),
     ("blanks", blanks),
@@ -122,6 +126,11 @@ shapes = [
     ("raw_string", repeated('r##"', '"#a', '"##')),
     ("brackets", repeated("", "([{" * 40 + "}])" * 40, "")),
     ("script", script_names),
+    ("methods", lambda size: filled(size, "PartialEq,PartialOrd,Ord", methods)),
+    ("method_path", at_a_field("#[educe(Ord(method(a", "::a", ")))]")),
+    ("underscored", numbered("#[educe(PartialEq)] struct S {", lambda n: f"{'_' * n}other:u8,", "}")),
+    ("underscores", repeated("#[educe(PartialEq)] struct S { ", "_", "other: u8 }")),
+    ("words", repeated("/// ", "other ", "\n" + THREE)),
 ]
 for name, make in shapes:
     for kib in (16, 32, 64, 128):
@@ -135,7 +144,7 @@ ratio() {
 }
 
 printf '%-12s %7s %8s %7s %10s %7s %9s\n' shape bytes seconds ratio 'Minstr' ratio 'peak MB'
-[ $# -gt 0 ] || set -- fields variants deep_type generics predicates chains attributes own ord partial_ord all fallbacks settings equal_ranks lints lists field_lists repr type_list type_path params other_param value zeros digits last_word last_fault long_names blanks small_tokens comment nested string raw_string brackets script
+[ $# -gt 0 ] || set -- fields variants deep_type generics predicates chains attributes own ord partial_ord all fallbacks settings equal_ranks lints lists field_lists repr type_list type_path params other_param value zeros digits last_word last_fault long_names blanks small_tokens comment nested string raw_string brackets script methods method_path underscored underscores words
 for name in "$@"; do
   seconds_before=0
   count_before=0
