@@ -40,6 +40,7 @@ pub use Rattle.educe_attrs_values.specs.Reports as Messages
 pub use Rattle.educe_attrs_places.specs.Reports
 -- What generated code takes from attributes.
 pub use Rattle.educe_attrs_generated.specs.Lints
+pub use Rattle.educe_attrs_generated.specs.Represented
 pub use Rattle.educe_attrs_generated.specs.Packed
 pub use Rattle.educe_attrs_generated.specs.Adjusted
 -- The types that clauses name.

@@ -23,7 +23,8 @@ pub use bound_only::bound_row;
 pub use builder::{AttributeBuilder, FieldBuilder, TypeBuilder};
 pub use compared::compared_row;
 pub use educe_attrs_generated::{
-    auto_adjust_expr, generated_impl_attributes, generated_lint_attributes, is_packed,
+    auto_adjust_expr, discriminant_type, generated_impl_attributes, generated_lint_attributes,
+    is_packed,
 };
 pub use educe_attrs_places::{
     FieldSettings, field_settings, is_educe, place_settings, report_laws, setting_laws,

@@ -1,3 +1,3 @@
 pub mod Words
 pub mod Printed
-pub mod Listed
+pub mod Held

@@ -1,5 +1,5 @@
 -- The attributes of generated items, and converted values, may stand side by side with other tokens.
-use Rattle.std.proofs.Common.{◌≡◌, Bool, true, false, IsTrue, List, [], ◌∷◌, ◌++◌, codes, refl, sym, ap, ◌∙◌, subst, append_assoc}
+use Rattle.std.proofs.Common.{◌≡◌, Bool, true, false, IsTrue, List, [], ◌++◌, codes, refl, sym, ap, ◌∙◌, subst, append_assoc}
 use Rattle.std.specs.Prelude.{if◌then◌else◌}
 use Rattle.educe_tokens.specs.Bracket.TheVariants.{Round, Square}
 use Rattle.educe_tokens.specs.declared.token.Token.{Token}

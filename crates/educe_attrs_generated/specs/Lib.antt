@@ -1,4 +1,5 @@
 pub mod Lints
+pub mod Represented
 pub mod Packed
 pub mod Types
 pub mod Adjusted

@@ -29,7 +29,7 @@ fn is_truth(token: &Token) -> bool
 }
 
 /// Whether the type is that of literals of this kind.
-#[tactic(auto, using(crate::proofs::Words::chars_char, crate::proofs::Words::chars_u8))]
+#[tactic(auto, using(crate::proofs::Words::chars_char, educe_discriminants::proofs::Words::chars_u8))]
 fn fits_literal(kind: LiteralKind, ty: &[Token]) -> bool
     ensures { result ≡ spec.fits_literal kind ty.now }
 {

@@ -90,7 +90,7 @@ pub fn is_primitive(ty: &[Token], name: &str) -> bool
 }
 
 /// Whether the type is an integer type.
-#[tactic(auto, using(crate::proofs::Words::integer_names))]
+#[tactic(auto, using(educe_discriminants::proofs::Words::integer_names))]
 pub fn is_integer(ty: &[Token]) -> bool
     ensures { result ≡ spec.is_integer ty.now }
 {
@@ -163,7 +163,7 @@ fn elements(ty: &[Token]) -> Option<&[Token]>
 }
 
 /// What stands behind `u8` and `;`.
-#[tactic(auto, using(crate::proofs::Words::chars_u8, crate::proofs::Words::chars_semicolon))]
+#[tactic(auto, using(educe_discriminants::proofs::Words::chars_u8, crate::proofs::Words::chars_semicolon))]
 fn behind_bytes(tokens: &[Token]) -> Option<&[Token]>
     ensures { option_copied result ≡ spec.behind_bytes tokens.now }
 {

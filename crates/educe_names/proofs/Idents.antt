@@ -1,8 +1,8 @@
 -- Each identifier of a text is, without `r#`, a run of the text. So if the text is the value of a token, it is a word of the tokens.
-use Rattle.std.proofs.Common.{◌≡◌, ℕ, ◌⊎◌, inl, inr, ⊎_elim, Bool, true, false, ◌&&◌, ◌||◌, not, List, [], ◌∷◌, ◌++◌, map, length, refl, sym, ap, ◌∙◌, subst, arith, append_assoc}
+use Rattle.std.proofs.Common.{◌≡◌, ℕ, ◌⊎◌, inl, inr, ⊎_elim, Bool, true, false, ◌||◌, not, List, [], ◌∷◌, ◌++◌, map, length, refl, sym, ap, ◌∙◌, subst, arith, append_assoc}
 use Rattle.std.specs.Prelude.{◌==◌}
-use Rattle.std.specs.List.{All, Contains, list_all}
-use Rattle.std.proofs.lemmas.Bool.{and_parts, and_from, and_right, or_parts, cond-false, eqb-true, ne_eqb, not-true, false≢true}
+use Rattle.std.specs.List.{All, Contains}
+use Rattle.std.proofs.lemmas.Bool.{and_parts, or_parts, eqb-true, not-true, false≢true}
 use Rattle.std.proofs.lemmas.Bool.Decides.{nat_tests}
 use Rattle.std.proofs.lemmas.List.{length-map}
 use Rattle.std.proofs.lemmas.List.Elements.{All-nil, All-cons, All-weaker, All-filter, All-contains}
@@ -13,7 +13,6 @@ use Rattle.unicode_ident.proofs.IdentLemmas.{is_xid_continue-ascii}
 use Rattle.educe_tokens_pieces.specs.declared.kind.PieceKind.{PieceKind}
 use Rattle.educe_tokens_pieces.specs.declared.kind.PieceKind.TheVariants.{Blank, Comment, Token as TokenPiece, Uncarried}
 use Rattle.educe_tokens_pieces.specs.declared.kind.UncarriedKind.TheVariants.{Float, WideInt, CStr}
-use Rattle.educe_tokens_pieces.proofs.Classes.{word_continues}
 use Rattle.educe_tokens_scan.specs.Reading.{Piece, Reads}
 use Rattle.educe_tokens_scan.proofs.SpellLaws.{piece_sound}
 use Rattle.educe_tokens.specs.Bracket.{Bracket}
@@ -30,6 +29,7 @@ use Rattle.educe_tokens.specs.StringValue.{IsStringValue}
 use Rattle.educe_tree.specs.Names.{unraw}
 use Rattle.educe_names.specs.Words.{BeginsWithRun, IsRunOf, front, behind, run, HasWord}
 use Rattle.educe_names.proofs.Having.{has_word-at}
+use Rattle.educe_names.proofs.PlainNames.{all_continue, unraw_word}
 
 -- ---- breaks: characters that don't go on with a word
 
@@ -143,24 +143,15 @@ word_begins word more w ends = record {
   rest = more;
   is = refl;
   some = λ none. let l : 0 ≡ length (w.first ∷ w.more) = ap length (sym none ∙ w.is) in absurd (omega arith);
-  continues = ap (list_all is_xid_continue) w.is ∙ and_from _ _ (word_continues w.first w.starts) w.continues;
+  continues = all_continue word w;
   ends = ends;
 }
-
--- a word has no `r#`
-unraw_word : (c : ℕ) (cs : List ℕ) → list_all is_xid_continue cs ≡ true → unraw (c ∷ cs) ≡ c ∷ cs
-unraw_word c [] h = refl
-unraw_word c (d ∷ cs) h =
-    let goes : is_xid_continue d ≡ true = (and_parts (is_xid_continue d) _ h).0 in
-    let other : (d == 35) ≡ false = ne_eqb d 35 (λ e. false≢true (sym (is_xid_continue-ascii 35 (omega arith)) ∙ ap is_xid_continue (sym e) ∙ goes)) in
-    cond-false ((c == 114) && (d == 35)) cs (c ∷ d ∷ cs) (and_right (c == 114) (d == 35) other)
 
 -- an identifier behind which no word goes on is, without `r#`, a run of the text that it begins
 ident_run : (s more : List ℕ) → IsPieceOf (TokenPiece Ident) s → ends_word_before more ≡ true → IsRunOf (unraw s) (s ++ more)
 ident_run s more h ends =
     ⊎_elim
-    (λ w. let same : unraw s ≡ s = ap unraw w.is ∙ unraw_word w.first w.more w.continues ∙ sym w.is in
-    subst (λ x. IsRunOf x (s ++ more)) (sym same) (front s (s ++ more) (word_begins s more w ends)))
+    (λ w. subst (λ x. IsRunOf x (s ++ more)) (sym (unraw_word s w)) (front s (s ++ more) (word_begins s more w ends)))
     (λ r. subst (λ x. IsRunOf (unraw x) (x ++ more)) (sym r.is)
     (behind r.word (114 ∷ []) (r.word ++ more) 35 (is_xid_continue-ascii 35 (omega arith)) (word_begins r.word more r.own ends)))
     h

@@ -1,5 +1,6 @@
 pub mod Runs
 pub mod Having
+pub mod PlainNames
 pub mod Underscored
 pub mod Marks
 pub mod TextRuns

@@ -1,13 +1,11 @@
 -- What a name behind some `_` clashes with, and that it is a word.
-use Rattle.std.proofs.Common.{◌≡◌, ◌≢◌, ℕ, zero, suc, ◌<◌, ◌&&◌, ◌||◌, Bool, true, false, List, [], ◌∷◌, ◌++◌, length, refl, sym, ap, ◌∙◌, arith, chars}
+use Rattle.std.proofs.Common.{◌≡◌, ◌≢◌, ℕ, zero, suc, ◌<◌, ◌&&◌, Bool, true, false, List, [], ◌∷◌, ◌++◌, length, refl, sym, ap, ◌∙◌, arith, chars}
 use Rattle.std.specs.Prelude.{nat_eq}
-use Rattle.std.specs.List.{list_all}
 use Rattle.std.specs.Str.{IsAscii}
-use Rattle.std.proofs.lemmas.Bool.{and_from, and_right, or_left, or_right, eq-eqb, ne_eqb, eqb-true, eqb-false}
+use Rattle.std.proofs.lemmas.Bool.{and_right, or_right, eq-eqb, ne_eqb, eqb-true, eqb-false}
 use Rattle.std.proofs.lemmas.Str.{chars-append, chars-IsAscii, IsUtf8-from_ascii}
 use Rattle.std.proofs.lemmas.Str.Ascii.{IsAscii-nil, IsAscii-cons}
-use Rattle.unicode_ident.specs.Ident.{is_xid_start, is_xid_continue}
-use Rattle.unicode_ident.proofs.IdentLemmas.{is_xid_continue-ascii, is_xid_start-is_xid_continue}
+use Rattle.unicode_ident.specs.Ident.{is_xid_start}
 use Rattle.educe_tokens.specs.TokenKind.TheVariants as kind
 use Rattle.educe_tokens.specs.Chars.{is_word_start}
 use Rattle.educe_tokens.specs.Pieces.{spells}
@@ -15,6 +13,7 @@ use Rattle.educe_tokens.specs.Spells.{IsWord}
 use Rattle.educe_names.specs.declared.fewest.Clash.{Clash}
 use Rattle.educe_names.specs.declared.fewest.Clash.TheVariants.{Whole, Front}
 use Rattle.educe_names.specs.Chosen.{underscored, clash}
+use Rattle.educe_names.proofs.PlainNames.{all_continue, word_spells}
 
 -- ---- clashes
 
@@ -73,36 +72,20 @@ chars-underscored k name =
 
 -- ---- names
 
--- what begins a word goes on with one
-start_continues : (c : ℕ) → is_word_start c ≡ true → is_xid_continue c ≡ true
-start_continues c h = split (is_xid_start c) refl
-  where
-    split : (b : Bool) → is_xid_start c ≡ b → is_xid_continue c ≡ true
-    split true start = is_xid_start-is_xid_continue c start
-    split false none = ap is_xid_continue (eqb-true c 95 (sym (ap (λ b. b || nat_eq c 95) none) ∙ h)) ∙ is_xid_continue-ascii 95 (omega arith)
-
--- all of a word goes on with a word
-word_continues : (text : List ℕ) → IsWord text → list_all is_xid_continue text ≡ true
-word_continues text word = ap (list_all is_xid_continue) word.is ∙ and_from (is_xid_continue word.first) (list_all is_xid_continue word.more) (start_continues word.first word.starts) word.continues
-
 underscore_starts : is_word_start 95 ≡ true
 underscore_starts = or_right (is_xid_start 95) (nat_eq 95 95) refl
 
 -- a word behind some `_` is a word
-underscored_is_word : (k : ℕ) (name : List ℕ) → IsWord name → IsWord (underscored k name)
+pub underscored_is_word : (k : ℕ) (name : List ℕ) → IsWord name → IsWord (underscored k name)
 underscored_is_word zero name word = word
 underscored_is_word (suc k) name word = record {
   first = 95;
   more = underscored k name;
   is = refl;
   starts = underscore_starts;
-  continues = word_continues (underscored k name) (underscored_is_word k name word);
+  continues = all_continue (underscored k name) (underscored_is_word k name word);
 }
 
--- a word spells an identifier
-word_spells : (text : List ℕ) → IsWord text → spells kind.Ident text ≡ true
-word_spells text word = ap (spells kind.Ident) word.is ∙ or_left _ _ (and_from (is_word_start word.first) (list_all is_xid_continue word.more) word.starts word.continues)
-
--- so does one behind some `_`
+-- so it spells an identifier
 pub underscored_spells : (k : ℕ) (name text : List ℕ) → text ≡ underscored k name → IsWord name → spells kind.Ident text ≡ true
 underscored_spells k name text is word = ap (spells kind.Ident) is ∙ word_spells (underscored k name) (underscored_is_word k name word)

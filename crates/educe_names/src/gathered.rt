@@ -18,6 +18,7 @@ pub fn add_words(alloc: Global, words: &mut Seq<Letters>, token: &Token) -> Resu
     match token.kind {
         TokenKind::Ident => words.push(Letters::from_str(alloc, unraw(&token.spelling))?),
         TokenKind::Lifetime => add_lifetime(alloc, words, &token.spelling),
+        TokenKind::Punct(_, _) | TokenKind::Start(_) | TokenKind::Stop(_) => Ok(()),
         _ => match string_value(alloc, token)? {
             Some(value) => {
                 let letters = Letters::from_str(alloc, &value)?;

@@ -62,8 +62,10 @@ impl UsedIdents {
     /// A text with which nothing that is held begins: the name behind as many `_` as that takes. It
     /// is not held itself, so several names may be made of it.
     pub fn select_prefix(&self, alloc: Global, name: &str) -> Result<String, AllocError>
-        ensures { IfOk result (λ prefix.
+        ensures chosen { IfOk result (λ prefix.
             IsPrefix self.now (chars name.now) (chars (string_bytes prefix))) }
+        ensures word { IsWord (chars name.now) →
+            IfOk result (λ prefix. IsWord (chars (string_bytes prefix))) }
     {
         self.free_text(alloc, Clash::Front, name)
     }

@@ -34,6 +34,7 @@ fn is_word_of(alloc: Global, token: &Token, word: &str) -> Result<bool, AllocErr
     match token.kind {
         TokenKind::Ident => Ok(unraw(&token.spelling) == word),
         TokenKind::Lifetime => Ok(is_lifetime(&token.spelling, word)),
+        TokenKind::Punct(_, _) | TokenKind::Start(_) | TokenKind::Stop(_) => Ok(false),
         _ => match string_value(alloc, token)? {
             Some(value) => is_run(alloc, &value, word),
             None => Ok(false),

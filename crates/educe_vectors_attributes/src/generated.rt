@@ -1,10 +1,13 @@
 //! What generated items take from the attributes of a type.
 
 use crate::answers::{attributes, with_struct};
-use educe_attrs_generated::{generated_impl_attributes, generated_lint_attributes, is_packed};
+use educe_attrs_generated::{
+    discriminant_type, generated_impl_attributes, generated_lint_attributes, is_packed,
+};
+use educe_discriminants::DiscriminantType;
 use educe_syntax::Attributes;
 use educe_tokens::{Token, TokenKind};
-use educe_vectors_checks::check_at;
+use educe_vectors_checks::{check_at, printed};
 use std::alloc::{AllocError, Global};
 use std::test::Fail;
 
@@ -83,6 +86,44 @@ fn packed(alloc: Global, source: &str) -> Result<bool, Fail> {
 pub(crate) fn check_packed(alloc: Global, cases: &[(&str, bool)]) -> Result<(), Fail> {
     for (source, expected) in cases {
         check_at(*source, packed(alloc, source)?, *expected)?;
+    }
+    Ok(())
+}
+
+/// The type of the discriminants of an enum with these attributes.
+fn discriminants(alloc: Global, source: &str) -> Result<DiscriminantType, Fail> {
+    let attributes = attributes(alloc, &format!(in alloc; "{source} enum E {{}}")?)?;
+    let ty = discriminant_type(alloc, &attributes);
+    drop(attributes);
+    Ok(ty?)
+}
+
+/// The discriminants of each type have the type of this name.
+pub(crate) fn check_discriminants(alloc: Global, cases: &[(&str, &str)]) -> Result<(), Fail> {
+    for (source, name) in cases {
+        let ty = discriminants(alloc, source)?;
+        check_at(*source, ty.as_str(), *name)?;
+    }
+    Ok(())
+}
+
+/// Each type is the one of its name, and is printed as a path.
+pub(crate) fn check_types(
+    alloc: Global,
+    cases: &[(DiscriminantType, &str, &str)],
+) -> Result<(), Fail> {
+    for (ty, name, path) in cases {
+        check_at(*name, ty.as_str(), *name)?;
+        check_at(*name, DiscriminantType::parse_str(name), Some(*ty))?;
+        check_at(*name, printed(alloc, *ty)?.as_str(), *path)?;
+    }
+    Ok(())
+}
+
+/// The names are those of no type.
+pub(crate) fn check_no_types(names: &[&str]) -> Result<(), Fail> {
+    for name in names {
+        check_at(*name, DiscriminantType::parse_str(name), None)?;
     }
     Ok(())
 }

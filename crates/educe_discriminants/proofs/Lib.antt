@@ -1,0 +1,3 @@
+pub mod Words
+pub mod Named
+pub mod Wrapping
