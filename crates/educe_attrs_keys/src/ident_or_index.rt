@@ -1,9 +1,7 @@
 //! The key of a field, as it is printed and as the binding of the field is named (Rust Reference,
 //! Field access expressions; Tuple indexing expressions).
-ghost use Rattle.std.specs.Prelude.{◌≡◌, IsTrue, IfOk, OnOk, [], ◌∷◌, ◌++◌, chars};
+ghost use Rattle.std.specs.Prelude.{◌≡◌, IsTrue, IfOk, OnOk, [], ◌∷◌, chars};
 ghost use Rattle.std.specs.Option.{option_copied};
-ghost use Rattle.educe_tokens.specs.TokenKind.TheVariants as token;
-ghost use Rattle.educe_tokens.specs.Pieces.{spells};
 ghost use Rattle.educe_tokens.specs.Spells.{IsWord};
 ghost use Rattle.educe_tokens.specs.Lexes.{lexemes};
 ghost use Rattle.educe_tokens.specs.Appends.{Appends, HasPrefix};
@@ -12,9 +10,9 @@ ghost use Rattle.educe_tokens.proofs.Printable.{well_formed_from, ends_apart_fro
 ghost use Rattle.educe_attrs_keys.specs.Keys.{key_of, key_lexeme, key_lexemes, binding_text, name_lexemes, field_lexemes};
 ghost use Rattle.educe_attrs_keys.specs.KeyLaws.{key_printable};
 
-use educe_body::index_word;
+use educe_body::{index_binding, index_word, name_binding};
 use educe_syntax::{Duplicate, Ident, ToTokens};
-use educe_tokens::{Seq, Span, Spelling, TokenStream, push_word, quote};
+use educe_tokens::{Seq, Span, TokenStream, push_word, quote};
 use std::alloc::{AllocError, Global};
 
 /// The key of a field: its name, or its place among the fields of a tuple, counted from 0.
@@ -70,11 +68,8 @@ impl IdentOrIndex {
         ensures nowhere { IfOk result (λ ident. ident.span ≡ Span.NONE) }
     {
         match self {
-            IdentOrIndex::Ident(name) => behind_prefix(alloc, prefix, name.unraw()),
-            IdentOrIndex::Index(index) => {
-                let digits = index_word(alloc, *index as usize)?;
-                behind_prefix(alloc, prefix, digits.as_str())
-            }
+            IdentOrIndex::Ident(name) => name_binding(alloc, prefix, name),
+            IdentOrIndex::Index(index) => index_binding(alloc, prefix, *index as usize),
         }
     }
 
@@ -141,16 +136,4 @@ impl ToTokens for IdentOrIndex {
             }
         }
     }
-}
-
-/// The identifier that a prefix and what stands behind it spell, at no place.
-fn behind_prefix(alloc: Global, prefix: &str, rest: &str) -> Result<Ident, AllocError>
-    requires { IsTrue (spells token.Ident (chars prefix.now ++ chars rest.now)) }
-    ensures text { IfOk result (λ ident. ident.text ≡ chars prefix.now ++ chars rest.now) }
-    ensures nowhere { IfOk result (λ ident. ident.span ≡ Span.NONE) }
-{
-    let whole = format!(in alloc; "{prefix}{rest}")?;
-    let text = Spelling::from_str(alloc, &whole)?;
-    let span = Span::NONE;
-    Ok(Ident { text, span })
 }

@@ -13,13 +13,16 @@ use Rattle.educe_tokens.specs.Quote.{quoted}
 use Rattle.educe_tokens.specs.WrittenLexemes.{written_lexemes}
 use Rattle.educe_tree.specs.Names.{unraw}
 use Rattle.educe_tree.specs.TokenLaws.{lawful_copies}
+use Rattle.educe_tree.specs.declared.expr.Expr.{Expr}
 use Rattle.educe_tree.specs.declared.expr.ExprPath.{ExprPath}
 use Rattle.educe_names.specs.Words.{HasWord}
+use Rattle.educe_body.specs.declared.answers.Answers.{Answers}
 use Rattle.educe_body.specs.declared.callee.BuiltIn.{BuiltIn}
 use Rattle.educe_body.specs.declared.callee.BuiltIn.TheVariants.{Ne, Cmp, PartialCmp}
 use Rattle.educe_body.specs.declared.environment.Binding.{Binding}
 use Rattle.educe_body.specs.BuiltIn.{path_lexemes, IsBuiltIn}
 use Rattle.educe_body.specs.Callees.{built_in, built_in_named, as_callee, callee_or_text, callee_of, spellings}
+use Rattle.educe_body.specs.Constants.{number_of, number_in}
 use Rattle.educe_body.specs.Scoping.{hides, is_ident, is_hidden, is_bound, names_bound, named_in, callee_in, IsApart, own_self, apart, AreOwnNames}
 
 module _ (input : List Token) where
@@ -53,6 +56,10 @@ module _ (input : List Token) where
       by_path : (o : Option BuiltIn) → named_in names path o ≡ Some (callee_or_text path o)
       by_path None = cond-false (names_bound names path.written.tokens) _ _ (names_bound-none names path.written.tokens each own)
       by_path (Some which) = refl
+
+  -- and the expression of such a text has its number
+  pub number_in-own : (table : Answers) (names : List Binding) (value : Expr) → AllByRecursion (IsApart input) names → AreOwnNames input value.written.tokens → number_in table names value ≡ number_of table value
+  number_in-own table names value each own = cond-false (names_bound names value.written.tokens) None (number_of table value) (names_bound-none names value.written.tokens each own)
 
 -- a path that is built in calls its function in any scope
 pub callee_in-built_in : (names : List Binding) (path : ExprPath) (which : BuiltIn) → built_in path ≡ Some which → callee_in names path ≡ Some (as_callee which)

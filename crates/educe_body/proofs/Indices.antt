@@ -1,53 +1,26 @@
 -- The decimal digits of a place, as a word and as a number that is read.
-use Rattle.std.proofs.Common.{◌≡◌, ◌≢◌, ℕ, zero, suc, ◌<◌, ◌^◌, true, false, not, IsTrue, inl, Option, Some, None, Result, Ok, Err, List, [], ◌∷◌, length, get_or, refl, sym, ap, ◌∙◌, subst, arith, append-nil, chars, encode_utf8_all}
-use Rattle.std.specs.Prelude.{◌==◌, nat_eq}
-use Rattle.std.specs.Char.{is_digit, is_ascii_digit, digit_value}
+use Rattle.std.proofs.Common.{◌≡◌, ◌≢◌, ℕ, zero, suc, ◌<◌, ◌^◌, true, false, IsTrue, inl, Option, Some, None, Result, Ok, Err, List, [], ◌∷◌, length, get_or, refl, sym, ap, ◌∙◌, subst, arith, append-nil, rules, codes, chars, encode_utf8_all}
+use Rattle.std.specs.Prelude.{nat_eq}
+use Rattle.std.specs.Char.{is_ascii_digit}
 use Rattle.std.specs.Fmt.{decimal}
-use Rattle.std.specs.Int.{IsInRange}
-use Rattle.std.specs.List.{list_all, filter}
-use Rattle.std.specs.Str.{bytes_eq}
+use Rattle.std.specs.Str.{bytes_eq, IsAscii}
 use Rattle.std.specs.Str.Parse.{AllDigits, digits_value, ParsesUnsigned}
 use Rattle.std.specs.Result.{result_ok}
 use Rattle.std.proofs.lemmas.Bool.{or_right, false≢true, eqb-true, eq-eqb}
 use Rattle.std.proofs.lemmas.Slice.Eq.{bytes_eq-Decides}
 use Rattle.std.proofs.lemmas.Bool.Decides.{nat_tests, same_from_decides}
 use Rattle.std.proofs.lemmas.Fmt.{decimal_is_IsNumeral, decimal_digit, first_decimal, decimal_injective, parse-decimal, decimal-digits_value, IsAscii-decimal}
-use Rattle.std.proofs.lemmas.Str.{chars-IsAscii, encodes-IsAscii}
-use Rattle.std.proofs.lemmas.Str.Parse.{IsNumeralModel, numerals_by_value, tells_digits, parse_plain, digit_from_value}
-use Rattle.educe_tokens.specs.Base.TheVariants.{Decimal}
+use Rattle.std.proofs.lemmas.Str.{IsAscii-append, chars-IsAscii, encodes-IsAscii}
+use Rattle.std.proofs.lemmas.Str.Ascii.{IsAscii-from_all}
+use Rattle.std.proofs.lemmas.Str.Parse.{IsNumeralModel, numerals_by_value, tells_digits, parse_plain}
 use Rattle.educe_tokens.specs.LiteralKind.TheVariants.{Int}
 use Rattle.educe_tokens.specs.TokenKind.TheVariants.{Ident, Literal}
 use Rattle.educe_tokens.specs.Chars.{begins}
-use Rattle.educe_tokens.specs.Integers.{is_digit_or_mark}
-use Rattle.educe_tokens.specs.Numbers.{has_digit, digits_number}
 use Rattle.educe_tokens.specs.Pieces.{spells, is_name_or_index}
-use Rattle.educe_tokens.specs.Spells.{IsIntegerOf}
-use Rattle.educe_tree.specs.TokenLaws.{lawful_kinds}
 use Rattle.educe_body.specs.Keys.{IsIndexOf, begins_plain}
+use Rattle.educe_body.specs.Suffixed.{steps_text, digits_begin, decimal_suffixed}
 
--- ---- digits are an integer
-
--- a digit is one in its base, and no `_`
-digit_is : (c : ℕ) → digit_value c < 10 → (is_digit c 10 ≡ true) × ((c == 95) ≡ false) × (is_ascii_digit c ≡ true)
-digit_is c h =
-    let range : IsInRange 48 57 c = digit_from_value c h in
-    (grind (arith, nat_tests), grind (arith, nat_tests), grind (arith, nat_tests))
-
-digits_each : (ds : List ℕ) → AllDigits 10 ds → list_all (is_digit_or_mark Decimal) ds ≡ true
-digits_each [] h = refl
-digits_each (c ∷ cs) h = let d = (digit_is c h.0).0 in rw d (digits_each cs h.1)
-
-digits_kept : (ds : List ℕ) → AllDigits 10 ds → filter (λ c. not (c == 95)) ds ≡ ds
-digits_kept [] h = refl
-digits_kept (c ∷ cs) h = let d = (digit_is c h.0).1 in rw d (ap (λ rest. c ∷ rest) (digits_kept cs h.1))
-
-digits_some : (ds : List ℕ) → AllDigits 10 ds → 0 < length ds → has_digit Decimal ds ≡ true
-digits_some [] h some = absurd (omega arith)
-digits_some (c ∷ cs) h some = let d = (digit_is c h.0).0 in rw d refl
-
-digits_begin : (ds : List ℕ) → AllDigits 10 ds → 0 < length ds → begins is_ascii_digit ds ≡ true
-digits_begin [] h some = absurd (omega arith)
-digits_begin (c ∷ cs) h some = (digit_is c h.0).2
+-- ---- digits are a word
 
 -- the decimal digits of a place begin with a digit
 pub decimal_begins : (n : ℕ) → n < 2 ^ 64 → begins is_ascii_digit (decimal n) ≡ true
@@ -56,18 +29,8 @@ decimal_begins n small = let own = decimal_is_IsNumeral n small in digits_begin 
 -- the decimal digits of a place are an index
 pub decimal_is_index : (n : ℕ) → n < 2 ^ 64 → IsTrue (is_name_or_index (decimal n))
 decimal_is_index n small =
-    let own = decimal_is_IsNumeral n small in
-    let ds : List ℕ = decimal n in
-    let int : IsIntegerOf ds Decimal ds = record {
-      suffix = [];
-      is = sym (append-nil ds);
-      first = digits_begin ds own.0.1 own.0.0;
-      each = digits_each ds own.0.1;
-      some = digits_some ds own.0.1 own.0.0;
-      typed = inl refl;
-    } in
-    let value : digits_number Decimal ds ≡ n = ap (digits_value 10) (digits_kept ds own.0.1) ∙ own.1 in
-    or_right (spells Ident ds) (spells (Literal Int) ds) (lawful_kinds.integer ds (Decimal, ds, int, omega arith))
+    let int : IsTrue (spells (Literal Int) (decimal n)) = subst (λ (t : List ℕ). IsTrue (spells (Literal Int) t)) (append-nil (decimal n)) (decimal_suffixed n [] small (inl refl)) in
+    or_right (spells Ident (decimal n)) (spells (Literal Int) (decimal n)) int
 
 -- ---- digits that are read
 
@@ -109,6 +72,14 @@ decimal_plain (c ∷ d ∷ cs) (suc n) small e =
 -- the characters of decimal digits are their bytes
 pub chars_decimal : (n : ℕ) → n < 2 ^ 64 → chars (decimal n) ≡ decimal n
 chars_decimal n small = chars-IsAscii (decimal n) (IsAscii-decimal n small)
+
+-- the bytes of a type's name are ASCII
+IsAscii-usize : IsAscii (codes "usize")
+IsAscii-usize = IsAscii-from_all (codes "usize") (search rules)
+
+-- the characters of decimal digits and `usize` are their bytes
+pub chars_steps : (n : ℕ) → n < 2 ^ 64 → chars (steps_text n) ≡ steps_text n
+chars_steps n small = chars-IsAscii (steps_text n) (IsAscii-append (decimal n) (codes "usize") (IsAscii-decimal n small) IsAscii-usize)
 
 -- the bytes of decimal digits are their characters
 pub bytes_decimal : (text bs : List ℕ) (n : ℕ) → n < 2 ^ 64 → bs ≡ encode_utf8_all text → text ≡ decimal n → bs ≡ decimal n

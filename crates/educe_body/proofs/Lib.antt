@@ -1,4 +1,5 @@
 pub mod Rows
+pub mod Binds
 pub mod Steps
 pub mod Tables
 pub mod Printed
@@ -6,6 +7,7 @@ pub mod Heads
 pub mod Spelled
 pub mod Fields
 pub mod Indices
+pub mod Prefixed
 pub mod Apart
 pub mod MadePaths
 pub mod Hiding

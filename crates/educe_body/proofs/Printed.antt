@@ -1,7 +1,7 @@
 -- The tokens of forms that hold forms, as equations on the lists and the boxed forms that they were made of.
 use denote.Hole.Carrier.{hidden}
 use mathlib.Core.Former.{Count}
-use Rattle.std.proofs.Common.{◌≡◌, Bool, ℕ, suc, ◌+◌, ◌<◌, List, [], ◌∷◌, ◌++◌, map, take, get_or, length, refl, sym, ap, ◌∙◌, arith, codes, append_assoc, append-nil}
+use Rattle.std.proofs.Common.{◌≡◌, Bool, ℕ, suc, Some, None, ◌+◌, ◌<◌, List, [], ◌∷◌, ◌++◌, map, take, get_or, length, refl, sym, ap, ◌∙◌, arith, codes, append_assoc, append-nil}
 use Rattle.std.specs.Prelude.{◌==◌}
 use Rattle.std.specs.List.{flat_map}
 use Rattle.std.proofs.lemmas.Bool.{cond-false}
@@ -9,21 +9,30 @@ use Rattle.std.proofs.lemmas.Bool.Decides.{nat_tests}
 use Rattle.std.proofs.lemmas.Grind.{flat_map-append}
 use Rattle.std.proofs.lemmas.List.{length-map, length-take-le, map-append, take_more}
 use Rattle.std.specs.declared.cmp.Ordering.{Ordering}
+use Rattle.std.specs.declared.cmp.Ordering.TheVariants.{Equal}
 use Rattle.educe_tokens.specs.Lexes.{Lexeme}
 use Rattle.educe_tokens.specs.Quote.{quoted}
 use Rattle.educe_tokens.specs.WrittenLexemes.{written_lexemes}
 use Rattle.educe_tree.specs.declared.expr.ExprPath.{ExprPath}
-use Rattle.educe_body.specs.declared.form.Form.{Form, Call, Call', Not, IfReturn, Return, SomeOf, MatchOrdering, Block, Block', Row_of-Form, end_of-Form, more_of-Form, items-the_row-Form, items_hidden-the_row-Form-0}
+use Rattle.educe_tree.specs.declared.ident.Ident.{Ident}
+use Rattle.educe_body.specs.declared.form.Form.{Form, Call, Call', Not, IfReturn, Return, SomeOf, MatchOrdering, MatchValue, MatchValue', IfLet, Block, Block', Row_of-Form, end_of-Form, more_of-Form, Row_of-Arm, end_of-Arm, more_of-Arm, items-the_row-Form, items_hidden-the_row-Form-0, items_shown-the_row-Form-0, items-the_row-Arm, items_hidden-the_row-Arm-2}
+use Rattle.educe_body.specs.declared.form.Arm.{Arm}
 use Rattle.educe_body.specs.declared.form.Form.TheBlock.{hidden-the_row-Form-1}
+use Rattle.educe_body.specs.declared.pattern.Pattern.{Pattern}
 use Rattle.educe_body.specs.Printing.{comma_before, separated}
-use Rattle.educe_body.specs.Printouts.{each, in_curly}
-use Rattle.educe_body.specs.Tokens.{in_some, step_arms, form_printout, form_lexemes, in_a_row, arguments, behind_comma}
+use Rattle.educe_body.specs.Printouts.{name, each, in_curly}
+use Rattle.educe_body.specs.Tokens.{order_printout, in_some, step_arms, other_arms, block_arms, pattern_printout, if_let_head, if_let_printout, else_printout, form_printout, form_lexemes, in_a_row, arms_in_a_row, arguments, behind_comma, arm_printout, match_value_printout}
 
 -- the forms that a call or a block holds
 abbrev row_of : Form → (n : Count) × Row_of-Form n
 row_of (Call' path shape row) = (_, row)
 row_of (Block' shape row) = (_, row)
 row_of _ = (_, end_of-Form)
+
+-- the arms that a match holds
+abbrev arms_of : Form → (n : Count) × Row_of-Arm n
+arms_of (MatchValue' value shape row) = (_, row)
+arms_of _ = (_, end_of-Arm)
 
 -- the tokens of the forms of a row, behind one another
 in_a_row-items : (n : _) (row : Row_of-Form n) → (in_a_row row).tokens ≡ flat_map form_lexemes (items-the_row-Form n row)
@@ -47,11 +56,43 @@ form_lexemes-Call path args =
     ap (λ found. written_lexemes path.written ++ (quoted (codes "(") ++ found ++ quoted (codes ")")))
     (arguments-items row.0 row.1 ∙ ap (λ forms. separated (map form_lexemes forms)) (items_hidden-the_row-Form-0 args))
 
+-- the forms of a block, behind one another
+block-items : (forms : List Form) → (in_a_row (row_of (Block forms)).1).tokens ≡ flat_map form_lexemes forms
+block-items forms =
+    let row = row_of (Block forms) in
+    in_a_row-items row.0 row.1 ∙ ap (flat_map form_lexemes) (items_hidden-the_row-Form-0 forms)
+
 -- a block, by its forms
 pub form_lexemes-Block : (forms : List Form) → form_lexemes (Block forms) ≡ (in_curly (each form_printout forms)).tokens
-form_lexemes-Block forms =
-    let row = row_of (Block forms) in
-    ap (λ found. quoted (codes "{") ++ found ++ quoted (codes "}")) (in_a_row-items row.0 row.1 ∙ ap (flat_map form_lexemes) (items_hidden-the_row-Form-0 forms))
+form_lexemes-Block forms = ap (λ found. quoted (codes "{") ++ found ++ quoted (codes "}")) (block-items forms)
+
+-- an `if let` with nothing behind its block, by its forms
+pub form_lexemes-IfLet-None : (pattern : Pattern) (value : Ident) (forms : List Form) → form_lexemes (IfLet pattern value forms None) ≡ (if_let_printout pattern value (in_curly (each form_printout forms))).tokens
+form_lexemes-IfLet-None pattern value forms =
+    ap (λ found. (if_let_head pattern value).tokens ++ (quoted (codes "{") ++ found ++ quoted (codes "}")) ++ []) (block-items forms)
+    ∙ append-nil (if_let_printout pattern value (in_curly (each form_printout forms))).tokens
+
+-- an `if let` with `else`, by its forms and the others
+pub form_lexemes-IfLet-Some : (pattern : Pattern) (value : Ident) (forms others : List Form) → form_lexemes (IfLet pattern value forms (Some others))
+    ≡ (if_let_printout pattern value (in_curly (each form_printout forms))).tokens ++ (else_printout (in_curly (each form_printout others))).tokens
+form_lexemes-IfLet-Some pattern value forms others =
+    λ i. (if_let_head pattern value).tokens ++ (quoted (codes "{") ++ block-items forms i ++ quoted (codes "}"))
+    ++ (quoted (codes "else") ++ (quoted (codes "{") ++ block-items others i ++ quoted (codes "}")))
+
+-- the tokens of the arms of a row, behind one another
+arms_in_a_row-items : (n : _) (row : Row_of-Arm n) → (arms_in_a_row row).tokens ≡ flat_map (λ arm. (arm_printout arm).tokens) (items-the_row-Arm n row)
+arms_in_a_row-items n end_of-Arm = refl
+arms_in_a_row-items n (more_of-Arm pattern shape row rest) =
+    let forms = in_a_row-items _ row ∙ ap (flat_map form_lexemes) (sym (items_shown-the_row-Form-0 shape row)) in
+    let others = arms_in_a_row-items _ rest in
+    λ i. (pattern_printout pattern).tokens ++ quoted (codes "=>") ++ (quoted (codes "{") ++ forms i ++ quoted (codes "}")) ++ others i
+
+-- a match on a value, by its arms
+pub form_lexemes-MatchValue : (value : Ident) (arms : List Arm) → form_lexemes (MatchValue value arms) ≡ (match_value_printout value arms).tokens
+form_lexemes-MatchValue value arms =
+    let row = arms_of (MatchValue value arms) in
+    ap (λ found. quoted (codes "match") ++ (name value).tokens ++ (quoted (codes "{") ++ found ++ quoted (codes "}")))
+    (arms_in_a_row-items row.0 row.1 ∙ ap (flat_map (λ (arm : Arm). (arm_printout arm).tokens)) (items_hidden-the_row-Arm-2 arms))
 
 -- forms with one form in a box, by what that is printed as
 pub form_lexemes-SomeOf : (inner : Form) → form_lexemes (SomeOf inner) ≡ (in_some (form_printout inner)).tokens
@@ -70,10 +111,18 @@ pub form_lexemes-Return : (inner : Form) → form_lexemes (Return inner) ≡ quo
 unfolding hidden-the_row-Form-1 hidden
 form_lexemes-Return inner = refl
 
-pub form_lexemes-MatchOrdering : (matched : Form) (partial : Bool) (greater less : Ordering) → form_lexemes (MatchOrdering matched partial greater less)
+-- a step, by what is matched
+pub form_lexemes-MatchOrdering-None : (matched : Form) (partial : Bool) (greater less : Ordering) → form_lexemes (MatchOrdering matched partial None greater less)
     ≡ quoted (codes "match") ++ form_lexemes matched ++ (in_curly (step_arms partial greater less)).tokens
 unfolding hidden-the_row-Form-1 hidden
-form_lexemes-MatchOrdering matched partial greater less = refl
+form_lexemes-MatchOrdering-None matched partial above below = refl
+
+-- a match on an order with a block, by what is matched and the forms of the block
+pub form_lexemes-MatchOrdering-Some : (matched : Form) (partial : Bool) (block : List Form) (greater less : Ordering) → form_lexemes (MatchOrdering matched partial (Some block) greater less)
+    ≡ quoted (codes "match") ++ form_lexemes matched ++ (in_curly (block_arms partial (in_curly (each form_printout block)) greater less)).tokens
+unfolding hidden-the_row-Form-1 hidden
+form_lexemes-MatchOrdering-Some matched partial block above below =
+    ap (λ found. quoted (codes "match") ++ form_lexemes matched ++ (quoted (codes "{") ++ ((order_printout Equal).tokens ++ quoted (codes "=>") ++ (quoted (codes "{") ++ found ++ quoted (codes "}")) ++ quoted (codes ",") ++ (other_arms partial above below).tokens) ++ quoted (codes "}"))) (block-items block)
 
 -- behind the first, there is a comma
 comma_before-suc : (i : ℕ) → comma_before (suc i) ≡ quoted (codes ",")

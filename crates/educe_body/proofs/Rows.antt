@@ -1,18 +1,24 @@
 -- The values of forms that hold forms, as equations on the lists and the boxed forms that they were made of.
 use denote.Hole.Carrier.{hidden}
 use mathlib.Core.Former.{Count}
-use Rattle.std.proofs.Common.{◌≡◌, ℕ, ◌+◌, ◌<◌, ◌≤◌, Bool, List, [], ◌∷◌, ◌++◌, length, drop, get_or, refl, sym, ap, ◌∙◌, append_assoc, append-nil}
+use Rattle.std.proofs.Common.{◌≡◌, ℕ, ◌+◌, ◌<◌, ◌≤◌, Bool, List, [], ◌∷◌, ◌++◌, Option, Some, None, length, drop, get_or, refl, sym, ap, ◌∙◌, append_assoc, append-nil}
+use Rattle.std.specs.Prelude.{if◌then◌else◌}
 use Rattle.std.proofs.lemmas.List.{drop_more, drop_all}
 use Rattle.std.specs.declared.cmp.Ordering.{Ordering}
 use Rattle.educe_tree.specs.declared.expr.ExprPath.{ExprPath}
-use Rattle.educe_body.specs.declared.form.Form.{Form, Call, Call', Not, IfReturn, Return, SomeOf, MatchOrdering, Block, Block', Row_of-Form, end_of-Form, more_of-Form, items-the_row-Form, items_hidden-the_row-Form-0}
+use Rattle.educe_tree.specs.declared.ident.Ident.{Ident}
+use Rattle.educe_body.specs.declared.form.Form.{Form, Call, Call', Not, IfReturn, Return, SomeOf, MatchOrdering, MatchValue, MatchValue', IfLet, Block, Block', Row_of-Form, end_of-Form, more_of-Form, Row_of-Arm, end_of-Arm, more_of-Arm, back-Form-MatchOrdering-2, items-the_row-Form, items_hidden-the_row-Form-0, items_shown-the_row-Form-0, items-the_row-Arm, items_hidden-the_row-Arm-2}
+use Rattle.educe_body.specs.declared.form.Arm.{Arm}
 use Rattle.educe_body.specs.declared.form.Form.TheBlock.{hidden-the_row-Form-1}
+use Rattle.educe_body.specs.declared.pattern.Pattern.{Pattern}
+use Rattle.educe_body.specs.declared.value.Value.{Value}
 use Rattle.educe_body.specs.declared.environment.Env.{Env}
 use Rattle.educe_body.specs.declared.flow.Thing.{Thing}
 use Rattle.educe_body.specs.declared.flow.Thing.TheVariants.{Nothing}
 use Rattle.educe_body.specs.declared.flow.Flow.{Flow}
 use Rattle.educe_body.specs.declared.flow.Flow.TheVariants.{Gives, Returns, Stuck}
-use Rattle.educe_body.specs.Meaning.{Scene, form_value, row_value, args_value, args_list, list_value, call_value, go_on, leave, opposite, some_of, unless_true, arm_of}
+use Rattle.educe_body.specs.Matching.{fits, bindings_of}
+use Rattle.educe_body.specs.Meaning.{Scene, form_value, row_value, args_value, args_list, list_value, held_value, held_list, arms_value, arms_list, if_let_value, value_named, look_up, with_value, within, or_nothing, call_value, go_on, leave, opposite, some_of, unless_true, order_match, block_arm, taken}
 
 -- flows that go on alike have one end
 pub go_on-alike : (flow : Flow) (next other : Env → Thing → Flow) → ((env : Env) (thing : Thing) → next env thing ≡ other env thing) → go_on flow next ≡ go_on flow other
@@ -26,13 +32,20 @@ row_of (Call' path shape row) = (_, row)
 row_of (Block' shape row) = (_, row)
 row_of _ = (_, end_of-Form)
 
+-- the arms that a match holds
+abbrev arms_of : Form → (n : Count) × Row_of-Arm n
+arms_of (MatchValue' name shape row) = (_, row)
+arms_of _ = (_, end_of-Arm)
+
 module _ (scene : Scene) where
+  -- the arguments of a call, one after the other
   args_value-items : (env : Env) (n : _) (row : Row_of-Form n) (next : Env → List Thing → Flow) → args_value scene env row next ≡ args_list scene env (items-the_row-Form n row) next
   args_value-items env n end_of-Form next = refl
   args_value-items env n (more_of-Form x rest) next =
       go_on-alike (form_value scene env x) (λ after thing. args_value scene after rest (λ end things. next end (thing ∷ things)))
       (λ after thing. args_list scene after (items-the_row-Form _ rest) (λ end things. next end (thing ∷ things))) (λ after thing. args_value-items after _ rest (λ end things. next end (thing ∷ things)))
 
+  -- the forms of a row in order
   row_value-items : (env : Env) (n : _) (row : Row_of-Form n) (last : Thing) → row_value scene env row last ≡ list_value scene env last (items-the_row-Form n row)
   row_value-items env n end_of-Form last = refl
   row_value-items env n (more_of-Form x rest) last =
@@ -74,17 +87,65 @@ module _ (scene : Scene) where
   unfolding hidden-the_row-Form-1 hidden
   form_value-Return env held = refl
 
-  -- a match, by the value of what is matched
-  pub form_value-MatchOrdering : (env : Env) (matched : Form) (partial : Bool) (greater less : Ordering)
-      → form_value scene env (MatchOrdering matched partial greater less) ≡ go_on (form_value scene env matched) (arm_of partial greater less)
+  -- the forms of a block in order
+  block_value-items : (env : Env) (forms : List Form) → row_value scene env (row_of (Block forms)).1 Nothing ≡ list_value scene env Nothing forms
+  block_value-items env forms =
+      let row = row_of (Block forms) in
+      row_value-items env row.0 row.1 Nothing ∙ ap (list_value scene env Nothing) (items_hidden-the_row-Form-0 forms)
+
+  -- a block that may be missing
+  held_value-items : (held : Option (List Form)) → held_value scene (back-Form-MatchOrdering-2 held) ≡ held_list scene held
+  held_value-items None = refl
+  held_value-items (Some forms) = ap Some (λ i env. leave env.names (block_value-items env forms i))
+
+  -- a match on an order, by the value of what is matched
+  pub form_value-MatchOrdering : (env : Env) (matched : Form) (partial : Bool) (held : Option (List Form)) (greater less : Ordering)
+      → form_value scene env (MatchOrdering matched partial held greater less) ≡ go_on (form_value scene env matched) (order_match partial greater less (held_list scene held))
   unfolding hidden-the_row-Form-1 hidden
-  form_value-MatchOrdering env matched partial above below = refl
+  form_value-MatchOrdering env matched partial held above below = ap (λ block. go_on (form_value scene env matched) (order_match partial above below block)) (held_value-items held)
+
+  -- the arms of a match in order
+  arms_value-items : (env : Env) (n : _) (row : Row_of-Arm n) (value : Value) → arms_value scene env row value ≡ arms_list scene env (items-the_row-Arm n row) value
+  arms_value-items env n end_of-Arm value = refl
+  arms_value-items env n (more_of-Arm pattern shape row rest) value =
+      let forms = λ (inner : Env). row_value-items inner _ row Nothing ∙ ap (list_value scene inner Nothing) (sym (items_shown-the_row-Form-0 shape row)) in
+      let others = arms_value-items env _ rest value in
+      λ i. if fits scene.definition pattern value then within env (bindings_of scene.definition pattern value) (λ inner. forms inner i) else others i
+
+  -- a match on a value, by the first arm whose pattern fits
+  pub form_value-MatchValue : (env : Env) (name : Ident) (arms : List Arm)
+      → form_value scene env (MatchValue name arms) ≡ with_value (value_named scene (look_up env.names name.text)) (arms_list scene env arms)
+  form_value-MatchValue env name arms =
+      let row = arms_of (MatchValue name arms) in
+      λ i. with_value (value_named scene (look_up env.names name.text)) (λ value. (arms_value-items env row.0 row.1 value ∙ ap (λ (arms : List Arm). arms_list scene env arms value) (items_hidden-the_row-Arm-2 arms)) i)
+
+  -- an `if let`, by the forms behind its pattern or the others
+  pub form_value-IfLet : (env : Env) (pattern : Pattern) (name : Ident) (forms : List Form) (others : Option (List Form))
+      → form_value scene env (IfLet pattern name forms others) ≡ with_value (value_named scene (look_up env.names name.text)) (if_let_value scene env pattern forms others)
+  form_value-IfLet env pattern name forms others =
+      λ i. with_value (value_named scene (look_up env.names name.text)) (λ value.
+      if fits scene.definition pattern value then within env (bindings_of scene.definition pattern value) (λ inner. block_value-items inner forms i)
+      else or_nothing env (held_value-items others i))
 
   -- a block, by the values of its forms in order
   pub form_value-Block : (env : Env) (forms : List Form) → form_value scene env (Block forms) ≡ leave env.names (list_value scene env Nothing forms)
-  form_value-Block env forms =
-      let row = row_of (Block forms) in
-      ap (leave env.names) (row_value-items env row.0 row.1 Nothing ∙ ap (list_value scene env Nothing) (items_hidden-the_row-Form-0 forms))
+  form_value-Block env forms = ap (leave env.names) (block_value-items env forms)
+
+  -- a match on an order with a block, by how what is matched ends
+  pub match_held : (env : Env) (form matched : Form) (partial : Bool) (held : Option (List Form)) (block : List Form) (greater less : Ordering) (flow : Flow)
+      → form ≡ MatchOrdering matched partial held greater less → held ≡ Some block → flow ≡ form_value scene env matched
+      → form_value scene env form ≡ go_on flow (block_arm partial greater less (λ env. leave env.names (list_value scene env Nothing block)))
+  match_held env form matched partial held block greater less flow is some gives =
+      ap (form_value scene env) is ∙ form_value-MatchOrdering env matched partial held greater less
+      ∙ (λ i. go_on (sym gives i) (order_match partial greater less (held_list scene (some i))))
+
+  -- an `if let`, by the value that its name stands for and whether the pattern fits it
+  pub if_let_known : (env : Env) (form : Form) (pattern : Pattern) (name : Ident) (forms : List Form) (others : Option (List Form)) (value : Value) (b : Bool)
+      → form ≡ IfLet pattern name forms others → value_named scene (look_up env.names name.text) ≡ Some value → fits scene.definition pattern value ≡ b
+      → form_value scene env form ≡ (if b then taken scene env pattern value forms else or_nothing env (held_list scene others))
+  if_let_known env form pattern name forms others value b is named test =
+      ap (form_value scene env) is ∙ form_value-IfLet env pattern name forms others ∙ ap (λ found. with_value found (if_let_value scene env pattern forms others)) named
+      ∙ ap (λ (b : Bool). if b then taken scene env pattern value forms else or_nothing env (held_list scene others)) test
 
   -- the next argument, by how it ends, and then the others
   pub args_list-step : (env : Env) (forms : List Form) (i : ℕ) (x : Form) (flow end : Flow) (next : Env → List Thing → Flow) → i < length forms → x ≡ get_or forms i x → flow ≡ form_value scene env x → flow ≡ end

@@ -14,7 +14,7 @@ use Rattle.educe_body.specs.declared.environment.Referent.TheVariants.{This, Oth
 use Rattle.educe_body.specs.declared.environment.Binding.{Binding}
 use Rattle.educe_body.specs.Callees.{path_of, spellings, segment_is}
 use Rattle.educe_body.specs.Keys.{key_of, keys_from}
-use Rattle.educe_body.specs.Meaning.{part_of, bindings_of, start}
+use Rattle.educe_body.specs.Meaning.{part_of, first_bindings, start}
 
 and-false : (b : Bool) → (b && false) ≡ false
 and-false true = refl
@@ -88,18 +88,18 @@ self_name : chars (codes "self") ≡ codes "self"
 self_name = ascii_chars (codes "self") refl
 
 -- the bindings that `self` alone makes
-pub bindings_of-empty : (none names : List Binding) (self : List ℕ) (params : List Word)
-    → none ≡ [] → self ≡ chars (codes "self") → names ≡ none ++ bound_to self This ∷ [] → length params ≤ 0 → names ≡ bindings_of params
-bindings_of-empty none names self [] empty text made no_params =
+pub first_bindings-empty : (none names : List Binding) (self : List ℕ) (params : List Word)
+    → none ≡ [] → self ≡ chars (codes "self") → names ≡ none ++ bound_to self This ∷ [] → length params ≤ 0 → names ≡ first_bindings params
+first_bindings-empty none names self [] empty text made no_params =
     made ∙ ap (λ (bs : List Binding). bs ++ bound_to self This ∷ []) empty ∙ ap (λ (name : List ℕ). bound_to name This ∷ []) (text ∙ self_name)
-bindings_of-empty none names self (param ∷ more) empty text made no_params = absurd (omega arith)
+first_bindings-empty none names self (param ∷ more) empty text made no_params = absurd (omega arith)
 
 -- the bindings that `self` and a parameter make
-pub bindings_of-first : (none one names : List Binding) (self copied : List ℕ) (params : List Word) (param : Word)
+pub first_bindings-first : (none one names : List Binding) (self copied : List ℕ) (params : List Word) (param : Word)
     → none ≡ [] → self ≡ chars (codes "self") → one ≡ none ++ bound_to self This ∷ [] → copied ≡ param.text → names ≡ one ++ bound_to copied Other ∷ []
-    → 0 < length params → param ≡ slice_index_or params 0 param → names ≡ bindings_of params
-bindings_of-first none one names self copied [] param empty text made same added some is = absurd (omega arith)
-bindings_of-first none one names self copied (first ∷ more) param empty text made same added some is =
+    → 0 < length params → param ≡ slice_index_or params 0 param → names ≡ first_bindings params
+first_bindings-first none one names self copied [] param empty text made same added some is = absurd (omega arith)
+first_bindings-first none one names self copied (first ∷ more) param empty text made same added some is =
     let start : one ≡ bound_to (codes "self") This ∷ [] = made ∙ ap (λ (bs : List Binding). bs ++ bound_to self This ∷ []) empty ∙ ap (λ (name : List ℕ). bound_to name This ∷ []) (text ∙ self_name) in
     added ∙ ap (λ (bs : List Binding). bs ++ bound_to copied Other ∷ []) start
     ∙ ap (λ (name : List ℕ). bound_to (codes "self") This ∷ bound_to name Other ∷ []) (same ∙ ap (λ (word : Word). word.text) is)

@@ -6,6 +6,7 @@ use Rattle.educe_tree.specs.declared.data.Field.{Field}
 use Rattle.educe_tree.specs.declared.derive.DeriveInput.{DeriveInput}
 use Rattle.educe_tree.specs.declared.derive.Shape.{Shape}
 use Rattle.educe_tree.specs.declared.derive.Shape.TheVariants.{Struct, Enum}
+use Rattle.educe_tree.specs.Names.{unraw}
 
 -- the key of the field at a place: its name as it was written, or where it has none the decimal digits of the place
 abbrev pub key_of : ℕ → Field → List ℕ
@@ -16,16 +17,20 @@ abbrev pub keys_from : ℕ → List Field → List (List ℕ)
 keys_from place [] = []
 keys_from place (f ∷ fields) = key_of place f ∷ keys_from (place + 1) fields
 
--- the fields of a struct in written order; of an enum none, since bodies for enums are not built yet
+-- the key without `r#`, by which a local variable of the field is named
+abbrev pub binding_key : ℕ → Field → List ℕ
+binding_key place field = unraw (key_of place field)
+
+-- the fields of a struct in written order; of an enum none, since they are not read by their keys
 abbrev pub shape_fields : Shape → List Field
 shape_fields (Struct shape) = shape.fields
 shape_fields (Enum variants) = []
 
--- the fields of a definition
+-- the fields of a struct
 abbrev pub fields_of : DeriveInput → List Field
 fields_of definition = shape_fields definition.shape
 
--- the keys of the fields of a definition, in written order
+-- the keys of the fields of a struct, in written order
 abbrev pub keys_of : DeriveInput → List (List ℕ)
 keys_of definition = keys_from 0 (fields_of definition)
 

@@ -1,13 +1,20 @@
 -- What holds of bodies with no call: of the keys of fields, of what paths call, and of the values of forms that hold forms.
-use Rattle.std.specs.Prelude.{◌≡◌, ◌≤◌, ◌^◌, ℕ, Bool, List, [], ◌∷◌, Option, Some, length}
+use Rattle.std.specs.Prelude.{◌≡◌, ◌≤◌, ◌^◌, ℕ, Bool, List, [], ◌∷◌, map, Option, Some, length}
 use Rattle.std.specs.List.{AllByRecursion}
 use Rattle.std.specs.declared.cmp.Ordering.{Ordering}
 use Rattle.educe_tokens.specs.declared.token.Token.{Token}
 use Rattle.educe_tokens.specs.WrittenLexemes.{written_lexemes}
+use Rattle.educe_tree.specs.declared.data.Field.{Field}
 use Rattle.educe_tree.specs.declared.derive.DeriveInput.{DeriveInput}
+use Rattle.educe_tree.specs.declared.expr.Expr.{Expr}
 use Rattle.educe_tree.specs.declared.expr.ExprPath.{ExprPath}
-use Rattle.educe_grammar.specs.Naming.{AreNamesApart}
-use Rattle.educe_body.specs.declared.form.Form.{Form, Call, Not, IfReturn, Return, SomeOf, MatchOrdering, Block}
+use Rattle.educe_tree.specs.declared.ident.Ident.{Ident}
+use Rattle.educe_tree.specs.Names.{unraw}
+use Rattle.educe_grammar.specs.Naming.{field_names, AreApart, AreNamesApart}
+use Rattle.educe_body.specs.declared.form.Form.{Form, Call, Not, IfReturn, Return, SomeOf, MatchOrdering, MatchValue, IfLet, Block}
+use Rattle.educe_body.specs.declared.form.Arm.{Arm}
+use Rattle.educe_body.specs.declared.pattern.Pattern.{Pattern}
+use Rattle.educe_body.specs.declared.answers.Answers.{Answers}
 use Rattle.educe_body.specs.declared.value.FieldValue.{FieldValue}
 use Rattle.educe_body.specs.declared.callee.BuiltIn.{BuiltIn}
 use Rattle.educe_body.specs.declared.environment.Binding.{Binding}
@@ -17,9 +24,10 @@ use Rattle.educe_body.specs.declared.flow.Thing.TheVariants.{Nothing}
 use Rattle.educe_body.specs.declared.flow.Flow.TheVariants.{Gives, Returns}
 use Rattle.educe_body.specs.BuiltIn.{path_lexemes, IsBuiltIn}
 use Rattle.educe_body.specs.Callees.{built_in, as_callee, callee_of}
-use Rattle.educe_body.specs.Keys.{AreDifferent, fields_of, keys_of}
+use Rattle.educe_body.specs.Constants.{number_of, number_in}
+use Rattle.educe_body.specs.Keys.{AreDifferent, fields_of, keys_from, keys_of}
 use Rattle.educe_body.specs.Scoping.{callee_in, IsApart, AreOwnNames}
-use Rattle.educe_body.specs.Meaning.{Scene, form_value, list_value, args_list, part_of, call_value, go_on, leave, opposite, some_of, unless_true, arm_of}
+use Rattle.educe_body.specs.Meaning.{Scene, form_value, list_value, args_list, held_list, arms_list, if_let_value, part_of, call_value, value_named, with_value, look_up, go_on, leave, opposite, some_of, unless_true, order_match}
 
 -- by this look-up the keys give the values, one for each
 abbrev pub KeysGive : (List ℕ → Option FieldValue) → List (List ℕ) → List FieldValue → Type 0
@@ -30,7 +38,9 @@ KeysGive look (k ∷ keys) (x ∷ values) = (look k ≡ Some x) × KeysGive look
 
 -- Keys of fields.
 pub record KeyLaws : Type 0 where
-  -- where the names of a definition are apart, the keys of its fields differ
+  -- where the names of fields are apart, a leading `r#` aside, their keys differ without `r#`
+  pub apart : (fields : List Field) → AreApart (field_names fields) → length fields ≤ 2 ^ 64 → AreDifferent (map unraw (keys_from 0 fields))
+  -- where the names of a definition are apart, the keys of the fields of a struct differ
   pub differ : (definition : DeriveInput) → AreNamesApart definition → length (fields_of definition) ≤ 2 ^ 64 → AreDifferent (keys_of definition)
   -- keys that differ select the values at their places
   pub select : (keys : List (List ℕ)) (values : List FieldValue) → AreDifferent keys → length keys ≡ length values → KeysGive (part_of keys values) keys values
@@ -46,6 +56,9 @@ pub record ScopeLaws : Type 0 where
   pub printed : (names : List Binding) (path : ExprPath) (which : BuiltIn) → written_lexemes path.written ≡ path_lexemes which → callee_in names path ≡ Some (as_callee which)
   -- so does the path that is made for it
   pub made : (names : List Binding) (path : ExprPath) (which : BuiltIn) → IsBuiltIn which path → callee_in names path ≡ Some (as_callee which)
+  -- an expression whose identifiers are words of the input has the number that it has where no name is in scope
+  pub number : (input : List Token) (table : Answers) (names : List Binding) (value : Expr) → AllByRecursion (IsApart input) names → AreOwnNames input value.written.tokens
+      → number_in table names value ≡ number_of table value
 
 -- Forms that hold forms.
 pub record FormLaws : Type 0 where
@@ -62,8 +75,14 @@ pub record FormLaws : Type 0 where
   pub test : (scene : Scene) (env : Env) (held : Form) → form_value scene env (IfReturn held) ≡ go_on (form_value scene env held) unless_true
   -- of a return
   pub returned : (scene : Scene) (env : Env) (held : Form) → form_value scene env (Return held) ≡ go_on (form_value scene env held) Returns
-  -- of a match, by the value of what is matched
-  pub matches : (scene : Scene) (env : Env) (matched : Form) (partial : Bool) (greater less : Ordering)
-      → form_value scene env (MatchOrdering matched partial greater less) ≡ go_on (form_value scene env matched) (arm_of partial greater less)
+  -- of a match on an order, by the value of what is matched
+  pub matches : (scene : Scene) (env : Env) (matched : Form) (partial : Bool) (held : Option (List Form)) (greater less : Ordering)
+      → form_value scene env (MatchOrdering matched partial held greater less) ≡ go_on (form_value scene env matched) (order_match partial greater less (held_list scene held))
+  -- of a match on a value, by the arm that is taken
+  pub match_value : (scene : Scene) (env : Env) (name : Ident) (arms : List Arm)
+      → form_value scene env (MatchValue name arms) ≡ with_value (value_named scene (look_up env.names name.text)) (arms_list scene env arms)
+  -- of an `if let`, by the forms behind its pattern or the others
+  pub if_let : (scene : Scene) (env : Env) (pattern : Pattern) (name : Ident) (forms : List Form) (others : Option (List Form))
+      → form_value scene env (IfLet pattern name forms others) ≡ with_value (value_named scene (look_up env.names name.text)) (if_let_value scene env pattern forms others)
   -- of a block, by the values of its forms in order
   pub block : (scene : Scene) (env : Env) (forms : List Form) → form_value scene env (Block forms) ≡ leave env.names (list_value scene env Nothing forms)

@@ -2,7 +2,10 @@ pub mod Answering
 pub mod Callees
 pub mod Scoping
 pub mod Keys
+pub mod Matching
+pub mod Constants
 pub mod Meaning
+pub mod Suffixed
 pub mod Tokens
 pub mod BuiltIn
 pub mod Printing

@@ -1,36 +1,44 @@
 -- What a body evaluates to, over an environment from names to values: a value, a return, or nothing.
-use Rattle.std.specs.Prelude.{ℕ, ◌-◌, ◌^◌, pos, length, take, Bool, true, false, not, List, [], ◌∷◌, Option, Some, None, if◌then◌else◌, codes}
+use Rattle.std.specs.Prelude.{ℕ, ℤ, ◌-◌, ◌^◌, pos, length, take, Bool, true, false, not, List, [], ◌∷◌, ◌++◌, Option, Some, None, if◌then◌else◌, codes}
 use Rattle.std.specs.Option.{option_copied}
+use Rattle.std.specs.Ordering.{int_cmp}
 use Rattle.std.specs.Str.{bytes_eq}
 use Rattle.std.specs.declared.cmp.Ordering.{Ordering}
 use Rattle.std.specs.declared.cmp.Ordering.TheVariants.{Less, Equal, Greater}
 use Rattle.educe_tree.specs.declared.derive.DeriveInput.{DeriveInput}
 use Rattle.educe_tree.specs.declared.expr.ExprPath.{ExprPath}
+use Rattle.educe_tree.specs.declared.ident.Ident.{Ident}
 use Rattle.educe_tokens.specs.declared.word.Word.{Word}
 use Rattle.educe_body.specs.declared.value.FieldValue.{FieldValue}
 use Rattle.educe_body.specs.declared.value.Value.{Value}
 use Rattle.educe_body.specs.declared.callee.Callee.{Callee}
+use Rattle.educe_body.specs.declared.callee.Callee.TheVariants.{Ne, Cmp, PartialCmp, Written}
 use Rattle.educe_body.specs.declared.answers.Answer.{Answer}
-use Rattle.educe_body.specs.declared.answers.Answer.TheVariants.{Truth as AnswerTruth, Order as AnswerOrder, PartialOrder as AnswerPartialOrder}
+use Rattle.educe_body.specs.declared.answers.Answer.TheVariants.{Truth as AnswerTruth, Order as AnswerOrder, PartialOrder as AnswerPartialOrder, Number as AnswerNumber}
 use Rattle.educe_body.specs.declared.answers.Answers.{Answers}
 use Rattle.educe_body.specs.declared.form.Known.{Known}
 use Rattle.educe_body.specs.declared.form.Known.TheVariants.{Truth as KnownTruth, Order as KnownOrder, PartialOrder as KnownPartialOrder}
-use Rattle.educe_body.specs.declared.form.Form.{Form, Local, Reference, Call', Not', IfReturn', Return', SomeOf', MatchOrdering', Block', Row_of-Form, end_of-Form, more_of-Form}
+use Rattle.educe_body.specs.declared.form.Form.{Form, Local, Reference, Key, Call', Not', IfReturn', Return', SomeOf', MatchOrdering', MatchValue', IfLet', KeyFunction, Block', Row_of-Form, end_of-Form, more_of-Form, Row_of-Arm, end_of-Arm, more_of-Arm, Held-Form-MatchOrdering-2, None', Some'}
 use Rattle.educe_body.specs.declared.form.Form as form
+use Rattle.educe_body.specs.declared.form.Arm.{Arm}
+use Rattle.educe_body.specs.declared.key_function.KeyArm.{KeyArm}
+use Rattle.educe_body.specs.declared.pattern.Pattern.{Pattern}
 use Rattle.educe_body.specs.declared.body.Body.{Body}
 use Rattle.educe_body.specs.declared.evaluator.Outcome.{Outcome}
 use Rattle.educe_body.specs.declared.evaluator.Outcome.TheVariants.{Truth as OutcomeTruth, Order as OutcomeOrder, PartialOrder as OutcomePartialOrder, Stuck as OutcomeStuck}
 use Rattle.educe_body.specs.declared.environment.Scope.{Scope}
 use Rattle.educe_body.specs.declared.environment.Referent.{Referent}
-use Rattle.educe_body.specs.declared.environment.Referent.TheVariants.{This, Other}
+use Rattle.educe_body.specs.declared.environment.Referent.TheVariants.{This, Other, Bound, Keys, Inert}
 use Rattle.educe_body.specs.declared.environment.Binding.{Binding}
 use Rattle.educe_body.specs.declared.environment.Env.{Env}
 use Rattle.educe_body.specs.declared.flow.Thing.{Thing}
-use Rattle.educe_body.specs.declared.flow.Thing.TheVariants.{Nothing, Truth, Order, PartialOrder, Part}
+use Rattle.educe_body.specs.declared.flow.Thing.TheVariants.{Nothing, Truth, Order, PartialOrder, Part, Number}
 use Rattle.educe_body.specs.declared.flow.Flow.{Flow}
 use Rattle.educe_body.specs.declared.flow.Flow.TheVariants.{Gives, Returns, Stuck}
 use Rattle.educe_body.specs.Answering.{answer_of}
+use Rattle.educe_body.specs.Constants.{key_number}
 use Rattle.educe_body.specs.Keys.{keys_of}
+use Rattle.educe_body.specs.Matching.{fits, bindings_of}
 use Rattle.educe_body.specs.Scoping.{callee_in}
 
 -- what a body is evaluated over: the definition, the values of `self` and of the parameter, and the table
@@ -79,17 +87,52 @@ abbrev pub reference_value : Scene → Option Referent → List ℕ → Option F
 reference_value scene None key = None
 reference_value scene (Some This) key = field_of scene scene.this key
 reference_value scene (Some Other) key = field_of scene scene.other key
+reference_value scene (Some (Bound x)) key = None
+reference_value scene (Some (Keys a b)) key = None
+reference_value scene (Some Inert) key = None
 
 -- a whole value, as a table is shown it: its type place is the last number, its number the variant
 abbrev pub whole_value : Option Value → Option FieldValue
 whole_value None = None
 whole_value (Some value) = Some (record { ty = 2 ^ 32 - 1; number = pos value.variant })
 
--- the value that a name stands for
+-- the value that a name stands for, as a table is shown it
 abbrev pub local_value : Scene → Option Referent → Option FieldValue
 local_value scene None = None
 local_value scene (Some This) = whole_value scene.this
 local_value scene (Some Other) = whole_value scene.other
+local_value scene (Some (Bound x)) = Some x
+local_value scene (Some (Keys a b)) = None
+local_value scene (Some Inert) = None
+
+-- the whole value that a name stands for
+abbrev pub value_named : Scene → Option Referent → Option Value
+value_named scene None = None
+value_named scene (Some This) = scene.this
+value_named scene (Some Other) = scene.other
+value_named scene (Some (Bound x)) = None
+value_named scene (Some (Keys a b)) = None
+value_named scene (Some Inert) = None
+
+-- ---- keys
+
+-- the number of the value, of those for the value of `self` and for that of the parameter
+abbrev pub number_for : Option ℤ → Option ℤ → Option Referent → Option ℤ
+number_for this other None = None
+number_for this other (Some This) = this
+number_for this other (Some Other) = other
+number_for this other (Some (Bound x)) = None
+number_for this other (Some (Keys a b)) = None
+number_for this other (Some Inert) = None
+
+-- the number that a key function gives for a value, each by what its name stands for
+abbrev pub key_of : Option Referent → Option Referent → Option ℤ
+key_of None value = None
+key_of (Some This) value = None
+key_of (Some Other) value = None
+key_of (Some (Bound x)) value = None
+key_of (Some (Keys this other)) value = number_for this other value
+key_of (Some Inert) value = None
 
 -- ---- flows
 
@@ -97,6 +140,11 @@ local_value scene (Some Other) = whole_value scene.other
 abbrev pub part_flow : Env → Option FieldValue → Flow
 part_flow env None = Stuck
 part_flow env (Some x) = Gives env (Part x)
+
+-- a number, where there is one
+abbrev pub number_flow : Env → Option ℤ → Flow
+number_flow env None = Stuck
+number_flow env (Some n) = Gives env (Number n)
 
 -- an answer that a body names itself, as what a form gives
 abbrev pub known_thing : Known → Thing
@@ -116,6 +164,25 @@ leave names (Gives env thing) = Gives (record env { names = take (length names) 
 leave names (Returns env thing) = Returns (record env { names = take (length names) env.names }) thing
 leave names Stuck = Stuck
 
+-- the names in scope, and further ones
+abbrev pub enter : Env → List Binding → Env
+enter env more = record env { names = env.names ++ more }
+
+-- what comes where these further names are in scope, which end with it; without such names there is no value
+abbrev pub within : Env → Option (List Binding) → (Env → Flow) → Flow
+within env None next = Stuck
+within env (Some more) next = leave env.names (next (enter env more))
+
+-- what comes of a value, where there is one
+abbrev pub with_value : Option Value → (Value → Flow) → Flow
+with_value None next = Stuck
+with_value (Some value) next = next value
+
+-- a block, if there is one
+abbrev pub or_nothing : Env → Option (Env → Flow) → Flow
+or_nothing env None = Gives env Nothing
+or_nothing env (Some block) = block env
+
 -- ---- calls
 
 -- the answer of a call, where there is one
@@ -124,6 +191,7 @@ answer_flow env None = Stuck
 answer_flow env (Some (AnswerTruth b)) = Gives env (Truth b)
 answer_flow env (Some (AnswerOrder o)) = Gives env (Order o)
 answer_flow env (Some (AnswerPartialOrder p)) = Gives env (PartialOrder p)
+answer_flow env (Some (AnswerNumber n)) = Gives env (Number n)
 
 -- goes on with a field value alone
 abbrev pub if_part : (FieldValue → Flow) → Thing → Flow
@@ -132,12 +200,38 @@ if_part next Nothing = Stuck
 if_part next (Truth b) = Stuck
 if_part next (Order o) = Stuck
 if_part next (PartialOrder p) = Stuck
+if_part next (Number n) = Stuck
 
--- the answer of a call of at most two arguments, each a field value
+-- goes on with a number alone
+abbrev pub if_number : (ℤ → Flow) → Thing → Flow
+if_number next (Number n) = next n
+if_number next Nothing = Stuck
+if_number next (Truth b) = Stuck
+if_number next (Order o) = Stuck
+if_number next (PartialOrder p) = Stuck
+if_number next (Part x) = Stuck
+
+-- two numbers are compared by `Ord::cmp` alone
+abbrev pub numbers_flow : Env → Callee → ℤ → ℤ → Flow
+numbers_flow env Cmp m n = Gives env (Order (int_cmp m n))
+numbers_flow env Ne m n = Stuck
+numbers_flow env PartialCmp m n = Stuck
+numbers_flow env (Written text) m n = Stuck
+
+-- the answer of a call of two arguments: two field values, or two numbers
+abbrev pub two_answer : Env → Answers → Callee → Thing → Thing → Flow
+two_answer env table callee (Part x) y = if_part (λ y. answer_flow env (answer_of table callee (Some x) (Some y))) y
+two_answer env table callee (Number m) y = if_number (λ n. numbers_flow env callee m n) y
+two_answer env table callee Nothing y = Stuck
+two_answer env table callee (Truth b) y = Stuck
+two_answer env table callee (Order o) y = Stuck
+two_answer env table callee (PartialOrder p) y = Stuck
+
+-- the answer of a call of at most two arguments
 abbrev pub call_answer : Env → Answers → Callee → List Thing → Flow
 call_answer env table callee [] = answer_flow env (answer_of table callee None None)
 call_answer env table callee (x ∷ []) = if_part (λ x. answer_flow env (answer_of table callee (Some x) None)) x
-call_answer env table callee (x ∷ y ∷ []) = if_part (λ x. if_part (λ y. answer_flow env (answer_of table callee (Some x) (Some y))) y) x
+call_answer env table callee (x ∷ y ∷ []) = two_answer env table callee x y
 call_answer env table callee (x ∷ y ∷ z ∷ more) = Stuck
 
 -- the same, where something is called
@@ -159,6 +253,7 @@ unless_true env Nothing = Stuck
 unless_true env (Order o) = Stuck
 unless_true env (PartialOrder p) = Stuck
 unless_true env (Part x) = Stuck
+unless_true env (Number n) = Stuck
 
 -- the opposite truth
 abbrev pub opposite : Env → Thing → Flow
@@ -167,6 +262,7 @@ opposite env Nothing = Stuck
 opposite env (Order o) = Stuck
 opposite env (PartialOrder p) = Stuck
 opposite env (Part x) = Stuck
+opposite env (Number n) = Stuck
 
 -- an order in `Some`
 abbrev pub some_of : Env → Thing → Flow
@@ -175,6 +271,7 @@ some_of env Nothing = Stuck
 some_of env (Truth b) = Stuck
 some_of env (PartialOrder p) = Stuck
 some_of env (Part x) = Stuck
+some_of env (Number n) = Stuck
 
 -- the arm of an order: Equal goes on, Greater returns the one order and Less the other
 abbrev pub order_arm : Env → Ordering → Ordering → Ordering → Flow
@@ -198,6 +295,39 @@ arm_of true above below env (Order o) = Stuck
 arm_of partial above below env Nothing = Stuck
 arm_of partial above below env (Truth b) = Stuck
 arm_of partial above below env (Part x) = Stuck
+arm_of partial above below env (Number n) = Stuck
+
+-- an order as a function gives it: with true that is `partial_cmp`
+abbrev pub order_thing : Bool → Ordering → Thing
+order_thing false o = Order o
+order_thing true o = PartialOrder (Some o)
+
+-- the arm of an order, where the arm for Equal is a block: each other one gives its order
+abbrev pub block_arm : Bool → Ordering → Ordering → (Env → Flow) → Env → Thing → Flow
+block_arm partial above below equal env (Order Equal) = equal env
+block_arm partial above below equal env (Order Greater) = Gives env (order_thing partial above)
+block_arm partial above below equal env (Order Less) = Gives env (order_thing partial below)
+block_arm partial above below equal env Nothing = Stuck
+block_arm partial above below equal env (Truth b) = Stuck
+block_arm partial above below equal env (PartialOrder p) = Stuck
+block_arm partial above below equal env (Part x) = Stuck
+block_arm partial above below equal env (Number n) = Stuck
+
+-- the arm of a match on an order, with a block for Equal or as a step
+abbrev pub order_match : Bool → Ordering → Ordering → Option (Env → Flow) → Env → Thing → Flow
+order_match partial above below None = arm_of partial above below
+order_match partial above below (Some equal) = block_arm partial above below equal
+
+-- ---- key functions
+
+-- the number that the arms of a key function give for a value, where the names are those of the environment
+abbrev pub key_for : Scene → Env → Ident → List KeyArm → Option Value → Option ℤ
+key_for scene env this arms value = key_number scene.definition scene.answers env.names this arms value
+
+-- the names in scope, and a key function, with its numbers for the value of `self` and for that of the parameter
+abbrev pub with_keys : Scene → Env → Ident → Ident → List KeyArm → Env
+with_keys scene env name this arms =
+    enter env (record { name = name.text; referent = Keys (key_for scene env this arms scene.this) (key_for scene env this arms scene.other) } ∷ [])
 
 -- ---- forms
 
@@ -207,12 +337,19 @@ abbrev mutual
   form_value scene env (Local name) = part_flow env (local_value scene (look_up env.names name.text))
   form_value scene env (form.Known known) = Gives env (known_thing known)
   form_value scene env (Reference base field) = part_flow env (reference_value scene (look_up env.names base.text) field.text)
+  form_value scene env (Key function value) = number_flow env (key_of (look_up env.names function.text) (look_up env.names value.text))
   form_value scene env (Call' path shape arguments) = args_value scene env arguments (call_value scene env.names path)
   form_value scene env (Not' shape inner) = go_on (inner_value scene env inner) opposite
   form_value scene env (SomeOf' shape inner) = go_on (inner_value scene env inner) some_of
   form_value scene env (IfReturn' shape test) = go_on (inner_value scene env test) unless_true
   form_value scene env (Return' shape inner) = go_on (inner_value scene env inner) Returns
-  form_value scene env (MatchOrdering' shape matched partial above below) = go_on (inner_value scene env matched) (arm_of partial above below)
+  form_value scene env (MatchOrdering' shape matched partial held above below) = go_on (inner_value scene env matched) (order_match partial above below (held_value scene held))
+  form_value scene env (MatchValue' name shape arms) = with_value (value_named scene (look_up env.names name.text)) (arms_value scene env arms)
+  form_value scene env (IfLet' pattern name shape row held) =
+      with_value (value_named scene (look_up env.names name.text)) (λ value.
+      if fits scene.definition pattern value then within env (bindings_of scene.definition pattern value) (λ inner. row_value scene inner row Nothing)
+      else or_nothing env (held_value scene held))
+  form_value scene env (KeyFunction name this ty arms) = Gives (with_keys scene env name this arms) Nothing
   form_value scene env (Block' shape forms) = leave env.names (row_value scene env forms Nothing)
 
   -- the value of the one form that a box holds
@@ -230,6 +367,18 @@ abbrev mutual
   row_value scene env end_of-Form last = Gives env last
   row_value scene env (more_of-Form x rest) last = go_on (form_value scene env x) (λ env. row_value scene env rest)
 
+  -- a block that may be missing
+  pub held_value : Scene → Held-Form-MatchOrdering-2 → Option (Env → Flow)
+  held_value scene None' = None
+  held_value scene (Some' shape row) = Some (λ env. leave env.names (row_value scene env row Nothing))
+
+  -- the first arm whose pattern fits, with what the pattern binds
+  pub arms_value : Scene → Env → {m : _} → Row_of-Arm m → Value → Flow
+  arms_value scene env end_of-Arm value = Stuck
+  arms_value scene env (more_of-Arm pattern shape row rest) value =
+      if fits scene.definition pattern value then within env (bindings_of scene.definition pattern value) (λ inner. row_value scene inner row Nothing)
+      else arms_value scene env rest value
+
 -- the values of a list of arguments, one after the other, with which the call goes on
 abbrev pub args_list : Scene → Env → List Form → (Env → List Thing → Flow) → Flow
 args_list scene env [] next = next env []
@@ -240,6 +389,25 @@ abbrev pub list_value : Scene → Env → Thing → List Form → Flow
 list_value scene env last [] = Gives env last
 list_value scene env last (x ∷ rest) = go_on (form_value scene env x) (λ env thing. list_value scene env thing rest)
 
+-- a block of these forms, if there are any
+abbrev pub held_list : Scene → Option (List Form) → Option (Env → Flow)
+held_list scene None = None
+held_list scene (Some forms) = Some (λ env. leave env.names (list_value scene env Nothing forms))
+
+-- the forms of an arm, with what its pattern binds of a value
+abbrev pub taken : Scene → Env → Pattern → Value → List Form → Flow
+taken scene env pattern value forms = within env (bindings_of scene.definition pattern value) (λ inner. list_value scene inner Nothing forms)
+
+-- the forms behind a pattern where it fits the value, and else the others, if there are any
+abbrev pub if_let_value : Scene → Env → Pattern → List Form → Option (List Form) → Value → Flow
+if_let_value scene env pattern forms others value =
+    if fits scene.definition pattern value then taken scene env pattern value forms else or_nothing env (held_list scene others)
+
+-- the first arm of a list whose pattern fits
+abbrev pub arms_list : Scene → Env → List Arm → Value → Flow
+arms_list scene env [] value = Stuck
+arms_list scene env (arm ∷ arms) value = if fits scene.definition arm.pattern value then taken scene env arm.pattern value arm.block else arms_list scene env arms value
+
 -- ---- bodies
 
 -- what a body may evaluate to
@@ -249,6 +417,7 @@ outcome_of_thing (Order o) = OutcomeOrder o
 outcome_of_thing (PartialOrder p) = OutcomePartialOrder p
 outcome_of_thing Nothing = OutcomeStuck
 outcome_of_thing (Part x) = OutcomeStuck
+outcome_of_thing (Number n) = OutcomeStuck
 
 -- the value that is given or returned
 abbrev pub outcome_of : Flow → Outcome
@@ -257,13 +426,13 @@ outcome_of (Returns env thing) = outcome_of_thing thing
 outcome_of Stuck = OutcomeStuck
 
 -- `self`, and the first parameter
-abbrev pub bindings_of : List Word → List Binding
-bindings_of [] = record { name = codes "self"; referent = This } ∷ []
-bindings_of (param ∷ more) = record { name = codes "self"; referent = This } ∷ record { name = param.text; referent = Other } ∷ []
+abbrev pub first_bindings : List Word → List Binding
+first_bindings [] = record { name = codes "self"; referent = This } ∷ []
+first_bindings (param ∷ more) = record { name = codes "self"; referent = This } ∷ record { name = param.text; referent = Other } ∷ []
 
 -- the names that are in scope as a body begins
 abbrev pub start : List Word → Env
-start params = record { names = bindings_of params }
+start params = record { names = first_bindings params }
 
 -- the value of a body
 abbrev pub value : Body → Scene → Outcome

@@ -12,6 +12,10 @@ use Rattle.educe_tokens.specs.Quote.{quoted, word_lexeme}
 use Rattle.educe_tokens.specs.WrittenLexemes.{written_lexemes}
 use Rattle.educe_tokens.proofs.Printable.{IsPrintable, is_printable_template, printable-nil, printable-ident, printable-word, printable-written, printable-append, printable-brackets, printable-flat_map, printable-quoted}
 use Rattle.educe_tree.specs.declared.ident.Ident.{Ident}
+use Rattle.educe_discriminants.specs.declared.discriminant_type.DiscriminantType.{DiscriminantType}
+use Rattle.educe_discriminants.specs.Printed.{primitive_lexemes, primitive_printable}
+use Rattle.educe_body.specs.declared.key_function.Distance.{Distance}
+use Rattle.educe_body.specs.Suffixed.{steps_lexeme, steps_printable}
 
 -- a list of tokens, and why they may stand anywhere
 pub record Printout : Type 0 where
@@ -41,6 +45,14 @@ word w = record { tokens = word_lexeme w.text ∷ []; printable = printable-word
 -- tokens as they were written
 abbrev pub written : Written → Printout
 written w = record { tokens = written_lexemes w; printable = printable-written w }
+
+-- the path of a primitive integer type
+abbrev pub primitive : DiscriminantType → Printout
+primitive ty = record { tokens = primitive_lexemes ty; printable = primitive_printable ty }
+
+-- the steps of a distance, as an integer of the type `usize`
+abbrev pub steps : Distance → Printout
+steps distance = record { tokens = steps_lexeme distance.steps ∷ []; printable = steps_printable distance.steps distance.fits }
 
 -- one printout and then another
 infixl 30 ◌beside◌

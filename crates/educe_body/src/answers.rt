@@ -14,6 +14,8 @@ pub enum Answer {
     Truth(bool),
     Order(Ordering),
     PartialOrder(Option<Ordering>),
+    /// The number of an expression.
+    Number(i128),
 }
 
 /// What a call of these arguments answers.

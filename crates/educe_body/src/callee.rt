@@ -32,8 +32,9 @@ pub enum Callee {
     Cmp,
     /// `PartialOrd::partial_cmp`
     PartialCmp,
-    /// The function that a user's path of this text names: its tokens with one space between any
-    /// two, but none behind a joint punct, as in `a :: b`.
+    /// What a user's text names: the function of a path, or the number of an expression. The text is
+    /// that of its tokens with one space between any two, but none behind a joint punct, as in
+    /// `a :: b`.
     Written(Spelling),
 }
 

@@ -3,7 +3,8 @@ ghost use Rattle.std.specs.Prelude.{◌≡◌, [], ◌∷◌, ◌++◌, length, 
 ghost use Rattle.educe_body.specs.Meaning.{start};
 
 use crate::body::Names;
-use crate::value::Value;
+use crate::value::{FieldValue, Value};
+use educe_discriminants::Number;
 use educe_tokens::Spelling;
 use educe_tree::DeriveInput;
 use std::alloc::{AllocError, Global};
@@ -24,6 +25,12 @@ pub enum Referent {
     This,
     /// The value of the parameter.
     Other,
+    /// A field of a value, which a pattern binds.
+    Bound(FieldValue),
+    /// A key function, by its numbers for the value of `self` and for that of the parameter.
+    Keys(Option<Number>, Option<Number>),
+    /// What no form reads: the parameter of a key function.
+    Inert,
 }
 
 /// A name and what it stands for.

@@ -1,11 +1,11 @@
 //! How the evaluation of a form ends, and what goes on behind it.
 ghost use Rattle.std.specs.Prelude.{◌≡◌, length};
 ghost use Rattle.educe_body.specs.Meaning as meaning;
-ghost use Rattle.educe_body.specs.declared.environment.Binding.{Binding};
 
 use crate::environment::Env;
 use crate::form::Known;
 use crate::value::FieldValue;
+use educe_discriminants::Number;
 use std::cmp::Ordering;
 
 /// What a form gives.
@@ -16,6 +16,8 @@ pub enum Thing {
     Order(Ordering),
     PartialOrder(Option<Ordering>),
     Part(FieldValue),
+    /// A discriminant.
+    Number(Number),
 }
 
 /// How the evaluation of a form ends, and the names that are in scope then.
@@ -33,6 +35,16 @@ pub(crate) fn part_flow(env: Env, part: Option<FieldValue>) -> Flow
 {
     match part {
         Some(x) => Flow::Gives(env, Thing::Part(x)),
+        None => Flow::Stuck,
+    }
+}
+
+/// A number, where there is one.
+pub(crate) fn number_flow(env: Env, number: Option<Number>) -> Flow
+    ensures { result ≡ meaning.number_flow env number }
+{
+    match number {
+        Some(number) => Flow::Gives(env, Thing::Number(number)),
         None => Flow::Stuck,
     }
 }
@@ -153,5 +165,16 @@ pub(crate) fn take_arm(partial: bool, greater: Ordering, less: Ordering, matched
         },
         Flow::Returns(env, thing) => Flow::Returns(env, thing),
         Flow::Stuck => Flow::Stuck,
+    }
+}
+
+/// An order as a function gives it: with true that is `partial_cmp`.
+pub(crate) fn order_thing(partial: bool, order: Ordering) -> Thing
+    ensures { result ≡ meaning.order_thing partial order }
+{
+    if partial {
+        Thing::PartialOrder(Some(order))
+    } else {
+        Thing::Order(order)
     }
 }

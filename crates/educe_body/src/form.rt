@@ -1,5 +1,8 @@
 //! The forms that bodies are made of.
+use crate::key_function::KeyArms;
+use crate::pattern::Pattern;
 use crate::shared::Shared;
+use educe_discriminants::DiscriminantType;
 use educe_tokens::{Boxed, Seq, Word};
 use educe_tree::{ExprPath, Ident};
 use std::cmp::Ordering;
@@ -13,6 +16,7 @@ pub enum Known {
 }
 
 /// One form of a body.
+#[cycle(form)]
 #[derive(Drop)]
 pub enum Form {
     /// A name.
@@ -21,6 +25,8 @@ pub enum Form {
     Known(Known),
     /// `&base.field`
     Reference(Ident, Word),
+    /// `&function(value)`: a call of a key function.
+    Key(Ident, Ident),
     /// The path of a function, which calls of the same function share, and its arguments.
     Call(Shared<ExprPath>, Forms),
     /// `!x`
@@ -31,13 +37,33 @@ pub enum Form {
     IfReturn(Boxed<Form>),
     /// `return x;`
     Return(Boxed<Form>),
-    /// A `match` on an order, where `Equal` goes on and the other arms return: with true that of
-    /// `PartialOrd`, whose orders stand in `Some` and whose `None` is returned. The orders are what
-    /// the arms for `Greater` and `Less` return.
-    MatchOrdering(Boxed<Form>, bool, Ordering, Ordering),
+    /// A `match` on an order. Without a block it is a step: `Equal` goes on, and the other arms
+    /// return. With a block, the arm for `Equal` is that block, and each other arm gives its order.
+    /// With true the function is that of `PartialOrd`: orders that are given or returned stand in
+    /// `Some`, and in a step those that are matched do too, and `None` is returned. The orders are
+    /// those of the arms for `Greater` and `Less`.
+    MatchOrdering(Boxed<Form>, bool, Option<Forms>, Ordering, Ordering),
+    /// `match name { arms }`
+    MatchValue(Ident, Arms),
+    /// `if let pattern = name { forms }`, and where there are others `else { forms }`.
+    IfLet(Pattern, Ident, Forms, Option<Forms>),
+    /// `let function = |this: &Self| -> D { match this { keys } };`: the name of the function, that of
+    /// its parameter, and the type of its results.
+    KeyFunction(Ident, Ident, DiscriminantType, KeyArms),
     /// `{ forms }`
     Block(Forms),
 }
 
 /// Forms in their order.
 pub type Forms = Seq<Form>;
+
+/// An arm of a `match` on a value: `pattern => { forms }`.
+#[cycle(form)]
+#[derive(Drop)]
+pub struct Arm {
+    pub pattern: Pattern,
+    pub block: Forms,
+}
+
+/// Arms in their order.
+pub type Arms = Seq<Arm>;

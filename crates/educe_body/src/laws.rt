@@ -1,14 +1,15 @@
 //! Laws of bodies that hold with no call: each function does nothing, and its contract is the law.
 ghost use Rattle.educe_body.specs.Laws.{KeyLaws, ScopeLaws, FormLaws};
 
-/// Where the names of a definition are apart, the keys of its fields differ, and each selects the
-/// value at its position.
+/// Where the names of fields are apart, a leading `r#` aside, the keys of the fields differ without
+/// it, and so as they are written. Keys that differ select the values at their positions.
 pub fn key_laws()
     ensures { KeyLaws }
 {}
 
 /// A path whose identifiers are words of an input calls what it names wherever the names in scope,
-/// `self` aside, are none of its words; a path that is built in calls its function in any scope.
+/// `self` aside, are none of its words, and an expression of such identifiers has its number there.
+/// A path that is built in calls its function in any scope.
 pub fn scope_laws()
     ensures { ScopeLaws }
 {}

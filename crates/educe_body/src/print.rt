@@ -5,13 +5,16 @@ ghost use Rattle.educe_tokens.specs.Appends.{Appends, HasPrefix};
 ghost use Rattle.educe_tokens.proofs.Printable.{well_formed_from, ends_apart_from, lexes_back_from};
 ghost use Rattle.educe_body.specs.Printing.{comma_before, separated};
 ghost use Rattle.educe_body.specs.Printouts.{Prints, each, in_curly};
-ghost use Rattle.educe_body.specs.Tokens.{in_some, known_printout, form_printout, form_lexemes};
+ghost use Rattle.educe_body.specs.Tokens.{in_some, block_arms, known_printout, form_printout, form_lexemes, arm_printout, equal_arm, match_value_printout, if_let_head, if_let_printout, else_printout};
 
-use crate::form::{Form, Forms, Known};
-use crate::print_orders::{push_arm_block, push_order, push_some_order};
+use crate::form::{Arm, Form, Forms, Known};
+use crate::pattern::Pattern;
+use crate::print_orders::{push_arm_block, push_order, push_other_arms, push_some_order};
+use crate::print_patterns::{push_key_function, push_pattern};
 use educe_tokens::{TokenStream, Word, push_word, quote};
 use educe_tree::{ExprPath, Ident, ToTokens};
 use std::alloc::{AllocError, Global};
+use std::cmp::Ordering;
 
 impl ToTokens for Known {
     ghost lexemes_of = { λ known. (known_printout known).tokens };
@@ -52,6 +55,7 @@ impl ToTokens for Form {
             Form::Local(name) => name.to_tokens(alloc, tokens),
             Form::Known(known) => known.to_tokens(alloc, tokens),
             Form::Reference(base, field) => push_reference(alloc, tokens, base, field),
+            Form::Key(function, value) => push_key_call(alloc, tokens, function, value),
             Form::Call(path, arguments) => push_call(alloc, tokens, path.get(), arguments),
             Form::Not(inner) => {
                 quote(alloc, tokens, "!")?;
@@ -68,10 +72,26 @@ impl ToTokens for Form {
                 inner.get().to_tokens(alloc, tokens)?;
                 quote(alloc, tokens, ";")
             }
-            Form::MatchOrdering(matched, partial, greater, less) => {
+            Form::MatchOrdering(matched, partial, held, greater, less) => {
                 quote(alloc, tokens, "match")?;
                 matched.get().to_tokens(alloc, tokens)?;
-                push_arm_block(alloc, tokens, *partial, *greater, *less)
+                match held {
+                    None => push_arm_block(alloc, tokens, *partial, *greater, *less),
+                    Some(block) => {
+                        push_order_arms(alloc, tokens, *partial, block, *greater, *less)
+                    }
+                }
+            }
+            Form::MatchValue(value, arms) => push_match(alloc, tokens, value, arms.as_slice()),
+            Form::IfLet(pattern, value, forms, others) => {
+                push_if_let(alloc, tokens, pattern, value, forms)?;
+                match others {
+                    None => Ok(()),
+                    Some(others) => push_else(alloc, tokens, others),
+                }
+            }
+            Form::KeyFunction(function, this, ty, arms) => {
+                push_key_function(alloc, tokens, function, this, *ty, arms.as_slice())
             }
             Form::Block(forms) => push_block(alloc, tokens, forms),
         }
@@ -93,6 +113,151 @@ fn push_reference(
     base.to_tokens(alloc, tokens)?;
     quote(alloc, tokens, ".")?;
     push_word(alloc, tokens, field)
+}
+
+/// Appends a call of a key function.
+fn push_key_call(
+    alloc: Global,
+    tokens: &mut TokenStream,
+    function: &Ident,
+    value: &Ident,
+) -> Result<(), AllocError>
+    ensures ok { let form = Form.Key function.now value.now in
+        OnOk result (Prints (form_printout form) tokens.old tokens.new) }
+    ensures prefix { HasPrefix tokens.old tokens.new }
+{
+    quote(alloc, tokens, "&")?;
+    function.to_tokens(alloc, tokens)?;
+    quote(alloc, tokens, "(")?;
+    value.to_tokens(alloc, tokens)?;
+    quote(alloc, tokens, ")")
+}
+
+/// Appends the arms of a match on an order, with a block for `Equal`, in curly brackets.
+#[cycle(print)]
+fn push_order_arms(
+    alloc: Global,
+    tokens: &mut TokenStream,
+    partial: bool,
+    block: &Forms,
+    greater: Ordering,
+    less: Ordering,
+) -> Result<(), AllocError>
+    ensures ok { let found = block_arms partial (in_curly (each form_printout block.now)) greater less in
+        OnOk result (Prints (in_curly found) tokens.old tokens.new) }
+    ensures prefix { HasPrefix tokens.old tokens.new }
+{
+    quote(alloc, tokens, "{")?;
+    push_equal_arm(alloc, tokens, block)?;
+    push_other_arms(alloc, tokens, partial, greater, less)?;
+    quote(alloc, tokens, "}")
+}
+
+/// Appends the arm for `Equal`.
+#[cycle(print)]
+fn push_equal_arm(alloc: Global, tokens: &mut TokenStream, block: &Forms) -> Result<(), AllocError>
+    ensures ok { let found = equal_arm (in_curly (each form_printout block.now)) in
+        OnOk result (Prints found tokens.old tokens.new) }
+    ensures prefix { HasPrefix tokens.old tokens.new }
+{
+    push_order(alloc, tokens, Ordering::Equal)?;
+    quote(alloc, tokens, "=>")?;
+    push_block(alloc, tokens, block)?;
+    quote(alloc, tokens, ",")
+}
+
+/// Appends a match on a value.
+#[cycle(print)]
+fn push_match(
+    alloc: Global,
+    tokens: &mut TokenStream,
+    value: &Ident,
+    arms: &[Arm],
+) -> Result<(), AllocError>
+    ensures ok { OnOk result (Prints (match_value_printout value.now arms.now) tokens.old tokens.new) }
+    ensures prefix { HasPrefix tokens.old tokens.new }
+{
+    quote(alloc, tokens, "match")?;
+    value.to_tokens(alloc, tokens)?;
+    push_arms(alloc, tokens, arms)
+}
+
+/// Appends arms in curly brackets.
+#[cycle(print)]
+fn push_arms(alloc: Global, tokens: &mut TokenStream, arms: &[Arm]) -> Result<(), AllocError>
+    ensures ok { OnOk result (Prints (in_curly (each arm_printout arms.now)) tokens.old tokens.new) }
+    ensures prefix { HasPrefix tokens.old tokens.new }
+{
+    quote(alloc, tokens, "{")?;
+    push_each_arm(alloc, tokens, arms)?;
+    quote(alloc, tokens, "}")
+}
+
+/// Appends arms behind one another.
+#[cycle(print)]
+fn push_each_arm(alloc: Global, tokens: &mut TokenStream, arms: &[Arm]) -> Result<(), AllocError>
+    ensures ok { OnOk result (Prints (each arm_printout arms.now) tokens.old tokens.new) }
+    ensures prefix { HasPrefix tokens.old tokens.new }
+{
+    for arm in arms {
+        push_arm(alloc, tokens, arm)?;
+    }
+    Ok(())
+}
+
+/// Appends an arm.
+#[cycle(print)]
+fn push_arm(alloc: Global, tokens: &mut TokenStream, arm: &Arm) -> Result<(), AllocError>
+    ensures ok { OnOk result (Prints (arm_printout arm.now) tokens.old tokens.new) }
+    ensures prefix { HasPrefix tokens.old tokens.new }
+{
+    push_pattern(alloc, tokens, &arm.pattern)?;
+    quote(alloc, tokens, "=>")?;
+    push_block(alloc, tokens, &arm.block)
+}
+
+/// Appends what stands before the block of an `if let`.
+fn push_if_let_head(
+    alloc: Global,
+    tokens: &mut TokenStream,
+    pattern: &Pattern,
+    value: &Ident,
+) -> Result<(), AllocError>
+    ensures ok { OnOk result (Prints (if_let_head pattern.now value.now) tokens.old tokens.new) }
+    ensures prefix { HasPrefix tokens.old tokens.new }
+{
+    quote(alloc, tokens, "if let")?;
+    push_pattern(alloc, tokens, pattern)?;
+    quote(alloc, tokens, "=")?;
+    value.to_tokens(alloc, tokens)
+}
+
+/// Appends an `if let`, without what stands behind its block.
+#[cycle(print)]
+fn push_if_let(
+    alloc: Global,
+    tokens: &mut TokenStream,
+    pattern: &Pattern,
+    value: &Ident,
+    forms: &Forms,
+) -> Result<(), AllocError>
+    ensures ok { let block = in_curly (each form_printout forms.now) in
+        OnOk result (Prints (if_let_printout pattern.now value.now block) tokens.old tokens.new) }
+    ensures prefix { HasPrefix tokens.old tokens.new }
+{
+    push_if_let_head(alloc, tokens, pattern, value)?;
+    push_block(alloc, tokens, forms)
+}
+
+/// Appends `else` and forms in curly brackets.
+#[cycle(print)]
+fn push_else(alloc: Global, tokens: &mut TokenStream, forms: &Forms) -> Result<(), AllocError>
+    ensures ok { let block = in_curly (each form_printout forms.now) in
+        OnOk result (Prints (else_printout block) tokens.old tokens.new) }
+    ensures prefix { HasPrefix tokens.old tokens.new }
+{
+    quote(alloc, tokens, "else")?;
+    push_block(alloc, tokens, forms)
 }
 
 /// Appends a call.

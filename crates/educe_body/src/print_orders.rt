@@ -2,7 +2,7 @@
 ghost use Rattle.std.specs.Prelude.{OnOk};
 ghost use Rattle.educe_tokens.specs.Appends.{HasPrefix};
 ghost use Rattle.educe_body.specs.Printouts.{Prints, in_curly};
-ghost use Rattle.educe_body.specs.Tokens.{order_printout, in_some, answer_printout, returning_arm, none_arm, step_arms};
+ghost use Rattle.educe_body.specs.Tokens.{order_printout, in_some, answer_printout, returning_arm, none_arm, step_arms, given_printout, giving_arm, other_arms};
 
 use educe_tokens::{TokenStream, quote};
 use std::alloc::{AllocError, Global};
@@ -122,4 +122,55 @@ pub(crate) fn push_arm_block(
     quote(alloc, tokens, "{")?;
     push_arms(alloc, tokens, partial, greater, less)?;
     quote(alloc, tokens, "}")
+}
+
+/// Appends an order that an arm gives.
+fn push_given(
+    alloc: Global,
+    tokens: &mut TokenStream,
+    partial: bool,
+    order: Ordering,
+) -> Result<(), AllocError>
+    ensures ok { OnOk result (Prints (given_printout partial order) tokens.old tokens.new) }
+    ensures prefix { HasPrefix tokens.old tokens.new }
+{
+    if partial {
+        quote(alloc, tokens, "{")?;
+        push_some_order(alloc, tokens, order)?;
+        quote(alloc, tokens, "}")
+    } else {
+        push_order(alloc, tokens, order)
+    }
+}
+
+/// Appends an arm that gives an order.
+fn push_giving_arm(
+    alloc: Global,
+    tokens: &mut TokenStream,
+    partial: bool,
+    pattern: Ordering,
+    order: Ordering,
+) -> Result<(), AllocError>
+    ensures ok { OnOk result (Prints (giving_arm partial pattern order) tokens.old tokens.new) }
+    ensures prefix { HasPrefix tokens.old tokens.new }
+{
+    push_order(alloc, tokens, pattern)?;
+    quote(alloc, tokens, "=>")?;
+    push_given(alloc, tokens, partial, order)?;
+    quote(alloc, tokens, ",")
+}
+
+/// Appends the arms for `Greater` and `Less` that give their orders.
+pub(crate) fn push_other_arms(
+    alloc: Global,
+    tokens: &mut TokenStream,
+    partial: bool,
+    greater: Ordering,
+    less: Ordering,
+) -> Result<(), AllocError>
+    ensures ok { OnOk result (Prints (other_arms partial greater less) tokens.old tokens.new) }
+    ensures prefix { HasPrefix tokens.old tokens.new }
+{
+    push_giving_arm(alloc, tokens, partial, Ordering::Greater, greater)?;
+    push_giving_arm(alloc, tokens, partial, Ordering::Less, less)
 }

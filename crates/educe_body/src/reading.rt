@@ -2,12 +2,13 @@
 ghost use Rattle.std.specs.Prelude.{◌≡◌};
 ghost use Rattle.std.specs.Option.{option_copied};
 ghost use Rattle.educe_body.specs.Keys.{keys_from};
-ghost use Rattle.educe_body.specs.Meaning.{scene, look_up, reference_value, local_value, field_of, part_of, whole_value};
+ghost use Rattle.educe_body.specs.Meaning.{scene, look_up, reference_value, local_value, value_named, number_for, key_of, field_of, part_of, whole_value};
 
 use crate::environment::{Binding, Referent, Scope};
 use crate::keys::{has_key, index_of};
 use crate::text::is_text;
 use crate::value::{FieldValue, Value};
+use educe_discriminants::Number;
 use educe_tokens::Spelling;
 use educe_tree::{Field, Shape};
 
@@ -32,6 +33,46 @@ pub(crate) fn local(scope: &Scope, found: Option<Referent>) -> Option<FieldValue
         None => None,
         Some(Referent::This) => whole(scope.this),
         Some(Referent::Other) => whole(scope.other),
+        Some(Referent::Bound(value)) => Some(value),
+        Some(Referent::Keys(_, _)) => None,
+        Some(Referent::Inert) => None,
+    }
+}
+
+/// The whole value that a name stands for.
+pub(crate) fn named<'a>(scope: &Scope<'a>, names: &[Binding], name: &Spelling) -> Option<&'a Value>
+    ensures { (answers : _) →
+        option_copied result ≡ value_named (scene scope.now answers) (look_up names.now name.now) }
+{
+    match find(names, name) {
+        Some(Referent::This) => scope.this,
+        Some(Referent::Other) => scope.other,
+        _ => None,
+    }
+}
+
+/// The number of a value, of those that a key function gives.
+fn number_for(
+    this: Option<Number>,
+    other: Option<Number>,
+    value: Option<Referent>,
+) -> Option<Number>
+    ensures { result ≡ number_for this other value }
+{
+    match value {
+        Some(Referent::This) => this,
+        Some(Referent::Other) => other,
+        _ => None,
+    }
+}
+
+/// The number that a key function gives for a value, each by what its name stands for.
+pub(crate) fn key(function: Option<Referent>, value: Option<Referent>) -> Option<Number>
+    ensures { result ≡ key_of function value }
+{
+    match function {
+        Some(Referent::Keys(this, other)) => number_for(this, other, value),
+        _ => None,
     }
 }
 
@@ -56,11 +97,12 @@ pub(crate) fn reference(scope: &Scope, base: Option<Referent>, key: &Spelling) -
         None => None,
         Some(Referent::This) => field(scope, scope.this, key),
         Some(Referent::Other) => field(scope, scope.other, key),
+        _ => None,
     }
 }
 
-/// The value of a field of a value, where there is one: an enum has none, since bodies for enums
-/// are not built yet.
+/// The value of a field of a value, where there is one. That of an enum has none that can be read
+/// so.
 fn field(scope: &Scope, value: Option<&Value>, key: &Spelling) -> Option<FieldValue>
     ensures { (answers : _) → result ≡ field_of (scene scope.now answers) (option_copied value.entry) key.now }
 {

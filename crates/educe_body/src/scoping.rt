@@ -42,7 +42,7 @@ fn is_bound(names: &[Binding], token: &Token) -> bool
 }
 
 /// Whether one of the tokens is a name in scope.
-fn names_bound(names: &[Binding], tokens: &[Token]) -> bool
+pub(crate) fn names_bound(names: &[Binding], tokens: &[Token]) -> bool
     ensures { result ≡ spec.names_bound names.now tokens.now }
 {
     tokens.iter().any(|token| is_bound(names, token))

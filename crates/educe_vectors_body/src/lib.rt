@@ -3,7 +3,7 @@
 
 mod values;
 
-pub use values::{scope, table, value};
+pub use values::{scope, table, value, variant_value};
 
 #[cfg(test)]
 mod body;

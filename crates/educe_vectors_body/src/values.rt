@@ -22,6 +22,18 @@ pub fn value(alloc: Global, numbers: &[i128]) -> Result<Value, AllocError>
     Ok(Value { variant: 0, fields })
 }
 
+/// A value of a variant whose fields have one type.
+pub fn variant_value(alloc: Global, variant: u32, numbers: &[i128]) -> Result<Value, AllocError>
+    ensures variant { IfOk result (λ made. made.variant ≡ variant) }
+    ensures fields { IfOk result (λ made. made.fields ≡ map numbered numbers.now) }
+{
+    let made = value(alloc, numbers)?;
+    Ok(Value {
+        variant,
+        fields: made.fields,
+    })
+}
+
 /// A definition with the values of `self` and, where there is one, of the other parameter.
 pub fn scope<'a>(ast: &'a DeriveInput, this: &'a Value, other: Option<&'a Value>) -> Scope<'a>
     ensures ast { result.ast ≡ ast.entry }

@@ -45,7 +45,7 @@ fn compared(alloc: Global, which: BuiltIn) -> Result<Boxed<Form>, AllocError> {
 /// Where the call finds no order but Equal, its answer is returned.
 fn step(alloc: Global, which: BuiltIn, partial: bool) -> Result<Form, AllocError> {
     let matched = compared(alloc, which)?;
-    Ok(Form::MatchOrdering(matched, partial, Ordering::Greater, Ordering::Less))
+    Ok(Form::MatchOrdering(matched, partial, None, Ordering::Greater, Ordering::Less))
 }
 
 #[test]

@@ -1,16 +1,23 @@
 use Rattle.std.proofs.Common.{◌≡◌, Option, IfOk, sym, ap, subst, ◌∙◌, ◌++◌, drop, ◌+◌}
+use Rattle.std.specs.Prelude.{Result, true, false}
+use Rattle.std.specs.declared.alloc.AllocError.{AllocError}
 use Rattle.educe_body.specs.declared.callee.Callee.{Callee}
+use Rattle.educe_body.specs.declared.form.Form.{Form}
 use Rattle.educe_body.specs.declared.flow.Flow.{Flow}
 use Rattle.educe_body.specs.declared.flow.Flow.TheVariants.{Gives, Returns, Stuck}
 use Rattle.educe_body.specs.Scoping.{callee_in}
-use Rattle.educe_body.specs.Meaning.{scene, form_value, args_list, call_named, leave}
-use Rattle.educe_body.proofs.Rows.{form_value-Call, form_value-Not, form_value-SomeOf, form_value-IfReturn, form_value-Return, form_value-MatchOrdering, form_value-Block, args_list-step, args_list-gathered, args_list-all}
+use Rattle.educe_body.specs.Meaning.{scene, form_value, args_list, arms_list, held_list, call_named, look_up, value_named, with_value, or_nothing}
+use Rattle.educe_body.proofs.Rows.{form_value-Call, form_value-Not, form_value-SomeOf, form_value-IfReturn, form_value-Return, form_value-MatchOrdering, form_value-MatchValue, form_value-Block, match_held, if_let_known, args_list-step, args_list-gathered, args_list-all}
 use Rattle.educe_body.proofs.evaluator.+run.Goals as goal
+
+-- a result that ends as one flow ends as another that is the same
+ends_alike : (result : Result Flow AllocError) (flow other : Flow) → flow ≡ other → IfOk result (λ given. given ≡ flow) → IfOk result (λ given. given ≡ other)
+ends_alike result flow other same ends = subst (λ (flow : Flow). IfOk result (λ given. given ≡ flow)) same ends
 
 pub run_form-returns-in_ok-callee-in-Call : goal.run_form-returns-in_ok-callee-in-Call
 run_form-returns-in_ok-callee-in-Call t c =
     let s = scene c.args.scope.now c.args.answers.now in
-    let called = c.in_ok-callee-in-Call.ensures ∙ (λ i. callee_in (c.as_slice-in-Call.ensures i) (c.get.ensures i)) in
+    let called = c.in_ok-callee-in-Call.ensures ∙ (λ i. callee_in (c.as_slice.ensures i) (c.get.ensures i)) in
     let whole = ap (form_value s c.args.env) c.in-Call.is ∙ form_value-Call s c.args.env c.in-Call.path c.in-Call.arguments
     ∙ ap (λ (callee : Option Callee). args_list s c.args.env c.in-Call.arguments (call_named c.args.answers.now callee)) (sym called) in
     subst (λ (flow : Flow). IfOk c.run_call.result (λ given. given ≡ flow)) (sym whole) c.run_call.ensures
@@ -35,16 +42,57 @@ run_form-returns-in_ok-run_form-in-Return t c =
     let s = scene c.args.scope.now c.args.answers.now in
     rw (c.in-Return.is, form_value-Return s c.args.env c.in-Return.inner, sym c.get-in-Return.ensures) (rw c.in_ok-run_form-in-Return.ensures at c.returned.ensures)
 
-pub run_form-returns-in_ok-matched-in-MatchOrdering : goal.run_form-returns-in_ok-matched-in-MatchOrdering
-run_form-returns-in_ok-matched-in-MatchOrdering t c =
+pub run_form-returns-in-None : goal.run_form-returns-in-None
+run_form-returns-in-None t c =
     let s = scene c.args.scope.now c.args.answers.now in
     let arm = c.in-MatchOrdering in
-    rw (arm.is, form_value-MatchOrdering s c.args.env arm.matched arm.partial arm.greater arm.less, sym c.get-in-MatchOrdering.ensures) (rw c.in_ok-matched-in-MatchOrdering.ensures at c.take_arm.ensures)
+    rw (arm.is, form_value-MatchOrdering s c.args.env arm.matched arm.partial arm.held arm.greater arm.less, c.in-None.is, sym c.get-in-MatchOrdering.ensures)
+    (rw c.in_ok-matched-in-MatchOrdering.ensures at c.take_arm.ensures)
 
-pub run_form-returns-in_ok-flow-in-Block : goal.run_form-returns-in_ok-flow-in-Block
-run_form-returns-in_ok-flow-in-Block t c =
+pub run_form-returns-in-Some : goal.run_form-returns-in-Some
+run_form-returns-in-Some t c =
     let s = scene c.args.scope.now c.args.answers.now in
-    rw (c.in-Block.is, form_value-Block s c.args.env c.in-Block.forms) (c.leave.ensures c.args.env.names c.len-count.ensures ∙ ap (leave c.args.env.names) c.in_ok-flow-in-Block.ensures)
+    let arm = c.in-MatchOrdering in
+    let flow = c.in_ok-matched-in-MatchOrdering.matched in
+    let gives = subst (λ (x : Form). flow ≡ form_value s c.args.env x) c.get-in-MatchOrdering.ensures c.in_ok-matched-in-MatchOrdering.ensures in
+    ends_alike c.run_at_equal.result _ _
+    (sym (match_held s c.args.env c.args.form.now arm.matched arm.partial arm.held c.in-Some.block arm.greater arm.less flow arm.is c.in-Some.is gives))
+    c.run_at_equal.ensures
+
+pub run_form-returns-in-MatchValue : goal.run_form-returns-in-MatchValue
+run_form-returns-in-MatchValue t c =
+    let s = scene c.args.scope.now c.args.answers.now in
+    let arm = c.in-MatchValue in
+    let value = c.named-value.ensures c.args.answers.now ∙ ap (λ names. value_named s (look_up names arm.name.text)) c.as_slice-in-MatchValue.ensures in
+    ends_alike c.run_arms.result _ _
+    ((λ i. with_value (value i) (arms_list s c.args.env (c.as_slice-in-MatchValue-2.ensures i))) ∙ sym (ap (form_value s c.args.env) arm.is ∙ form_value-MatchValue s c.args.env arm.name arm.arms))
+    c.run_arms.ensures
+
+pub run_form-returns-then-fits : goal.run_form-returns-then-fits
+run_form-returns-then-fits t c =
+    let s = scene c.args.scope.now c.args.answers.now in
+    let arm = c.in-IfLet in
+    let value = sym (c.in-Some-named.ensures c.args.answers.now ∙ ap (λ names. value_named s (look_up names arm.name.text)) c.as_slice-in-IfLet.ensures) in
+    ends_alike c.run_taken.result _ _
+    (sym (if_let_known s c.args.env c.args.form.now arm.pattern arm.name arm.forms arm.others c.in-Some-named.value.now true arm.is value (sym c.fits.ensures ∙ c.if-fits.true)))
+    c.run_taken.ensures
+
+pub run_form-returns-in-Some-others : goal.run_form-returns-in-Some-others
+run_form-returns-in-Some-others t c =
+    let s = scene c.args.scope.now c.args.answers.now in
+    let arm = c.in-IfLet in
+    let value = sym (c.in-Some-named.ensures c.args.answers.now ∙ ap (λ names. value_named s (look_up names arm.name.text)) c.as_slice-in-IfLet.ensures) in
+    ends_alike c.run_inner.result _ _
+    (
+    ap (λ others. or_nothing c.args.env (held_list s others)) (sym c.in-Some-others.is)
+    ∙ sym (if_let_known s c.args.env c.args.form.now arm.pattern arm.name arm.forms arm.others c.in-Some-named.value.now false arm.is value (sym c.fits.ensures ∙ c.if-fits.false))
+    )
+    c.run_inner.ensures
+
+pub run_form-returns-in-Block : goal.run_form-returns-in-Block
+run_form-returns-in-Block t c =
+    let s = scene c.args.scope.now c.args.answers.now in
+    ends_alike c.run_inner-in-Block.result _ _ (sym (ap (form_value s c.args.env) c.in-Block.is ∙ form_value-Block s c.args.env c.in-Block.forms)) c.run_inner-in-Block.ensures
 
 pub run_call-returns-in-Returns : goal.run_call-returns-in-Returns
 run_call-returns-in-Returns t c =

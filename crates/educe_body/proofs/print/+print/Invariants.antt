@@ -2,7 +2,8 @@ use Rattle.std.proofs.Common.{map, take}
 use Rattle.std.specs.List.{flat_map}
 use Rattle.educe_tokens.specs.Appends.{Appends}
 use Rattle.educe_body.specs.Printing.{separated}
-use Rattle.educe_body.specs.Tokens.{form_lexemes}
+use Rattle.educe_body.specs.Printouts.{Prints, each}
+use Rattle.educe_body.specs.Tokens.{form_lexemes, arm_printout}
 use Rattle.educe_body.proofs.print.+print.Given as goal
 
 abbrev pub invariant-push_arguments-loop-i : goal.invariant-push_arguments-loop-i
@@ -10,3 +11,6 @@ invariant-push_arguments-loop-i l = Appends (separated (map form_lexemes (take l
 
 abbrev pub invariant-push_forms-loop-form : goal.invariant-push_forms-loop-form
 invariant-push_forms-loop-form l = Appends (flat_map form_lexemes (take l.form-index l.form-items)) l.fn.tokens l.tokens
+
+abbrev pub invariant-push_each_arm-loop-arm : goal.invariant-push_each_arm-loop-arm
+invariant-push_each_arm-loop-arm l = Prints (each arm_printout (take l.arm-index l.arms)) l.fn.tokens l.tokens

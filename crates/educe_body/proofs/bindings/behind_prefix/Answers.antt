@@ -2,7 +2,7 @@ use Rattle.std.proofs.Common.{◌∙◌, List, ℕ, IsTrue, ap, sym, subst, char
 use Rattle.std.proofs.lemmas.Str.{chars-append}
 use Rattle.educe_tokens.specs.TokenKind.TheVariants.{Ident}
 use Rattle.educe_tokens.specs.Pieces.{spells}
-use Rattle.educe_attrs_keys.proofs.ident_or_index.behind_prefix.Goals as goal
+use Rattle.educe_body.proofs.bindings.behind_prefix.Goals as goal
 
 pub invariant_of-result : goal.invariant_of-result
 invariant_of-result c =
