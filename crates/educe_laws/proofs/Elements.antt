@@ -1,9 +1,10 @@
 -- Facts of each element of a list.
-use Rattle.std.proofs.Common.{◌≡◌, ℕ, zero, suc, ◌<◌, ◌⊎◌, inl, inr, List, [], ◌∷◌, ◌++◌, map, length, get_or, refl, ap, subst, arith}
+use Rattle.std.proofs.Common.{◌≡◌, ℕ, zero, suc, ◌<◌, ◌⊎◌, inl, inr, List, [], ◌∷◌, ◌++◌, map, length, get_or, Some, slice_get, refl, ap, subst, arith}
 use Rattle.std.specs.Prelude.{IsPermutation}
-use Rattle.std.specs.List.{Contains, AllByRecursion}
+use Rattle.std.specs.List.{Contains, AllByRecursion, flat_map}
 use Rattle.std.proofs.lemmas.List.Elements.{recursion_from_All, All-from_recursion}
 use Rattle.std.proofs.lemmas.List.Sorted.{Contains-permutation, All-permutation}
+use Rattle.std.proofs.lemmas.Option.{same_Some}
 
 -- an element of a list, by cases
 abbrev pub In : {X : Type 0} → X → List X → Type 0
@@ -72,7 +73,34 @@ each_joined P (x ∷ xs) ys front back = (front.0, each_joined P xs ys front.1 b
 pub each_moved : {X : Type 0} (P : X → Type 0) (xs ys : List X) → IsPermutation xs ys → AllByRecursion P xs → AllByRecursion P ys
 each_moved P xs ys moved each = recursion_from_All P ys (All-permutation P xs ys moved (All-from_recursion P xs each))
 
+-- an element of the second of two joined lists
+pub In-behind : {X : Type 0} (xs ys : List X) (x : X) → In x ys → In x (xs ++ ys)
+In-behind [] ys x found = found
+In-behind (z ∷ xs) ys x found = inr (In-behind xs ys x found)
+
 -- the element itself
 pub in_middle : {X : Type 0} (xs ys : List X) (x : X) → In x (xs ++ x ∷ ys)
 in_middle [] ys x = inl refl
 in_middle (z ∷ zs) ys x = inr (in_middle zs ys x)
+
+-- what holds of each element of a joined list holds of each of both parts
+pub each_split : {X : Type 0} (P : X → Type 0) (xs ys : List X) → AllByRecursion P (xs ++ ys) → AllByRecursion P xs × AllByRecursion P ys
+each_split P [] ys each = (tt, each)
+each_split P (x ∷ xs) ys each = let rest = each_split P xs ys each.1 in ((each.0, rest.0), rest.1)
+
+-- what holds of the elements of several lists, one behind the other, holds of those of each
+pub each_apart : {X Y : Type 0} (P : Y → Type 0) (f : X → List Y) (xs : List X) → AllByRecursion P (flat_map f xs) → AllByRecursion (λ x. AllByRecursion P (f x)) xs
+each_apart P f [] each = tt
+each_apart P f (x ∷ xs) each = let parts = each_split P (f x) (flat_map f xs) each in (parts.0, each_apart P f xs parts.1)
+
+-- the element at a place
+pub In-found : {X : Type 0} (xs : List X) (k : ℕ) (x : X) → slice_get xs k ≡ Some x → In x xs
+In-found [] k x at = absurd (cc)
+In-found (y ∷ ys) zero x at = inl (same_Some y x at)
+In-found (y ∷ ys) (suc k) x at = inr (In-found ys k x at)
+
+-- the element of an image at a place is made of the one there
+pub map_at : {X Y : Type 0} (f : X → Y) (xs : List X) (k : ℕ) (y : Y) → slice_get (map f xs) k ≡ Some y → (x : X) × (slice_get xs k ≡ Some x) × (f x ≡ y)
+map_at f [] k y at = absurd (cc)
+map_at f (x ∷ xs) zero y at = (x, refl, same_Some (f x) y at)
+map_at f (x ∷ xs) (suc k) y at = map_at f xs k y at

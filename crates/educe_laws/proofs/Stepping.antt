@@ -1,5 +1,5 @@
 -- What steps evaluate to, for each comparison, however a field is compared and read.
-use Rattle.std.proofs.Common.{◌≡◌, ◌≢◌, Bool, true, false, List, [], ◌∷◌, ◌++◌, Option, Some, None, refl, sym, ap, ◌∙◌}
+use Rattle.std.proofs.Common.{◌≡◌, ◌≢◌, Bool, true, false, List, [], ◌∷◌, ◌++◌, map, Option, Some, None, refl, sym, ap, ◌∙◌}
 use Rattle.std.specs.Prelude.{if◌then◌else◌, unwrap_or, IsSome}
 use Rattle.std.specs.List.{AllByRecursion, AllZip}
 use Rattle.std.specs.declared.cmp.Ordering.TheVariants.{Less, Equal, Greater}
@@ -9,27 +9,26 @@ use Rattle.educe_syntax.specs.ExprPath.{ExprPath}
 use Rattle.educe_body.specs.declared.comparison.Comparison.{Comparison}
 use Rattle.educe_body.specs.declared.comparison.Comparison.TheVariants.{PartialEq, PartialOrd, Ord}
 use Rattle.educe_body.specs.declared.answers.Answer.{Answer}
-use Rattle.educe_body.specs.declared.answers.Answer.TheVariants.{Truth as AnswerTruth, Order as AnswerOrder, PartialOrder as AnswerPartialOrder}
+use Rattle.educe_body.specs.declared.answers.Answer.TheVariants.{Truth as AnswerTruth, Order as AnswerOrder, PartialOrder as AnswerPartialOrder, Number as AnswerNumber}
 use Rattle.educe_body.specs.declared.answers.Answers.{Answers}
 use Rattle.educe_body.specs.declared.callee.Callee.{Callee}
 use Rattle.educe_body.specs.declared.environment.Binding.{Binding}
 use Rattle.educe_body.specs.declared.environment.Env.{Env}
 use Rattle.educe_body.specs.declared.flow.Flow.{Flow}
 use Rattle.educe_body.specs.declared.flow.Flow.TheVariants.{Gives, Returns}
-use Rattle.educe_body.specs.declared.flow.Thing.{Thing}
 use Rattle.educe_body.specs.declared.flow.Thing.TheVariants.{Nothing, Part}
 use Rattle.educe_body.specs.declared.form.Form.{Form, Call}
 use Rattle.educe_body.specs.declared.form.Known.{Known}
 use Rattle.educe_body.specs.declared.form.Known.TheVariants.{Truth, Order, PartialOrder}
-use Rattle.educe_body.specs.declared.value.FieldValue.{FieldValue}
 use Rattle.educe_body.specs.Answering.{answer_of}
 use Rattle.educe_body.specs.Meaning.{Scene, form_value, list_value, call_named, answer_flow, go_on, opposite, some_of, unless_true, arm_of, known_thing}
 use Rattle.educe_body.specs.Scoping.{callee_in, IsApart, AreOwnNames}
-use Rattle.educe_laws.specs.Settings.{How, plainly, by_method, by_order}
+use Rattle.educe_laws.specs.Settings.{Kept, How, plainly, by_method, by_order}
 use Rattle.educe_laws.specs.Comparing.{Compared, comparison, asked, said_truth, said_order, said_partial_order, said_in_some, said, says, neutral, word_of, is_apart, differs}
-use Rattle.educe_laws.specs.Blocks.{tested, step_of, IsCalled}
+use Rattle.educe_laws.specs.Steps.{Reading, IsRead, tested, step_of, IsCalled, IsStep, AreSteps}
 use Rattle.educe_laws.specs.BodyLaws.{lawful_forms, lawful_scopes}
 use Rattle.educe_laws.proofs.Least.{first_where}
+use Rattle.educe_laws.proofs.Pairing.{Look, value_in, seen}
 
 -- ---- the function that a step calls
 
@@ -78,6 +77,7 @@ by_ne env (Some (AnswerTruth true)) k is = ends env _ (Truth false) k refl is
 by_ne env (Some (AnswerTruth false)) k is = ends env _ (Truth true) k refl is
 by_ne env (Some (AnswerOrder o)) k is = absurd (none_some k is)
 by_ne env (Some (AnswerPartialOrder p)) k is = absurd (none_some k is)
+by_ne env (Some (AnswerNumber n)) k is = absurd (none_some k is)
 
 by_truth : (env : Env) (answer : Option Answer) (k : Known) → said_truth false answer ≡ Some k → go_on (go_on (answer_flow env answer) opposite) unless_true ≡ step_flow env k
 by_truth env None k is = absurd (none_some k is)
@@ -85,6 +85,7 @@ by_truth env (Some (AnswerTruth true)) k is = ends env _ (Truth true) k refl is
 by_truth env (Some (AnswerTruth false)) k is = ends env _ (Truth false) k refl is
 by_truth env (Some (AnswerOrder o)) k is = absurd (none_some k is)
 by_truth env (Some (AnswerPartialOrder p)) k is = absurd (none_some k is)
+by_truth env (Some (AnswerNumber n)) k is = absurd (none_some k is)
 
 by_cmp : (env : Env) (answer : Option Answer) (k : Known) → said_order answer ≡ Some k → go_on (answer_flow env answer) (arm_of false Greater Less) ≡ step_flow env k
 by_cmp env None k is = absurd (none_some k is)
@@ -93,6 +94,7 @@ by_cmp env (Some (AnswerOrder Less)) k is = ends env _ (Order Less) k refl is
 by_cmp env (Some (AnswerOrder Equal)) k is = ends env _ (Order Equal) k refl is
 by_cmp env (Some (AnswerOrder Greater)) k is = ends env _ (Order Greater) k refl is
 by_cmp env (Some (AnswerPartialOrder p)) k is = absurd (none_some k is)
+by_cmp env (Some (AnswerNumber n)) k is = absurd (none_some k is)
 
 by_partial_cmp : (env : Env) (answer : Option Answer) (k : Known) → said_partial_order answer ≡ Some k → go_on (answer_flow env answer) (arm_of true Greater Less) ≡ step_flow env k
 by_partial_cmp env None k is = absurd (none_some k is)
@@ -102,6 +104,7 @@ by_partial_cmp env (Some (AnswerPartialOrder None)) k is = ends env _ (PartialOr
 by_partial_cmp env (Some (AnswerPartialOrder (Some Less))) k is = ends env _ (PartialOrder (Some Less)) k refl is
 by_partial_cmp env (Some (AnswerPartialOrder (Some Equal))) k is = ends env _ (PartialOrder (Some Equal)) k refl is
 by_partial_cmp env (Some (AnswerPartialOrder (Some Greater))) k is = ends env _ (PartialOrder (Some Greater)) k refl is
+by_partial_cmp env (Some (AnswerNumber n)) k is = absurd (none_some k is)
 
 by_some : (env : Env) (answer : Option Answer) (k : Known) → said_in_some answer ≡ Some k → go_on (go_on (answer_flow env answer) some_of) (arm_of true Greater Less) ≡ step_flow env k
 by_some env None k is = absurd (none_some k is)
@@ -110,6 +113,7 @@ by_some env (Some (AnswerOrder Less)) k is = ends env _ (PartialOrder (Some Less
 by_some env (Some (AnswerOrder Equal)) k is = ends env _ (PartialOrder (Some Equal)) k refl is
 by_some env (Some (AnswerOrder Greater)) k is = ends env _ (PartialOrder (Some Greater)) k refl is
 by_some env (Some (AnswerPartialOrder p)) k is = absurd (none_some k is)
+by_some env (Some (AnswerNumber n)) k is = absurd (none_some k is)
 
 step_case : (which : Comparison) (how : How) (env : Env) (answer : Option Answer) (k : Known) → said which how answer ≡ Some k → end_flow which (test_flow which how env answer) ≡ step_flow env k
 step_case PartialEq plainly env answer k is = by_ne env answer k is
@@ -143,8 +147,8 @@ module _ (scene : Scene) (env : Env) (input : List Token) (apart : AllByRecursio
 
   step_of-value : (which : Comparison) (x : Form) → form_value scene env (step_of which x) ≡ end_flow which (form_value scene env x)
   step_of-value PartialEq x = lawful_forms.test scene env x
-  step_of-value PartialOrd x = lawful_forms.matches scene env x true Greater Less
-  step_of-value Ord x = lawful_forms.matches scene env x false Greater Less
+  step_of-value PartialOrd x = lawful_forms.matches scene env x true None Greater Less
+  step_of-value Ord x = lawful_forms.matches scene env x false None Greater Less
 
   tested-value : (which : Comparison) (how : How) (call : Form) (answer : Option Answer) → form_value scene env call ≡ answer_flow env answer
       → form_value scene env (tested which how call) ≡ test_flow which how env answer
@@ -200,3 +204,33 @@ module _ (scene : Scene) (env : Env) (input : List Token) (apart : AllByRecursio
         let here = step-value c s k are.0 (some_is (says which table c) (neutral which) known.0) in
         ap (λ flow. go_on flow (λ env thing. list_value scene env thing (steps ++ rest))) here
         ∙ by_word c k (first_where (differs which table) cs) (steps ++ rest) (is_apart k) refl refl (steps-value cs steps are.1 known.1)
+
+-- ---- the steps of a function, however they read their fields
+
+module _ (scene : Scene) (env : Env) (input : List Token) (apart : AllByRecursion (IsApart input) env.names) (which : Comparison) (own others : Reading) (look_a look_b : Look) where
+  -- what reads a field so gives the value that is looked up
+  abbrev pub Reads : Reading → Look → Kept → Type 0
+  Reads reading look k = (x : Form) → IsRead reading k x → form_value scene env x ≡ Gives env (Part (value_in look k))
+
+  read_step : (k : Kept) (x : Form) → IsStep which own others k x → HasOwnPath input k.how → Reads own look_a k → Reads others look_b k
+      → IsReadStep scene env input apart which (seen look_a look_b k) x
+  read_step k x step named reads_a reads_b =
+      let call = step.comparison_is in
+      record {
+        path = call.path;
+        own = call.first;
+        others = call.second;
+        is = step.is ∙ ap (λ x. step_of which (tested which k.how x)) call.is;
+        path_is = call.path_is;
+        named = named;
+        first = reads_a call.first call.first_is;
+        second = reads_b call.second call.second_is;
+      }
+
+  -- each step on a field reads its two values
+  pub read_steps : (ks : List Kept) (steps : List Form) → AreSteps which own others ks steps → AllByRecursion (λ k. HasOwnPath input k.how) ks → AllByRecursion (Reads own look_a) ks
+      → AllByRecursion (Reads others look_b) ks → AllZip (IsReadStep scene env input apart which) (map (seen look_a look_b) ks) steps
+  read_steps [] [] are named reads_a reads_b = tt
+  read_steps [] (s ∷ steps) are named reads_a reads_b = absurd are
+  read_steps (k ∷ ks) [] are named reads_a reads_b = absurd are
+  read_steps (k ∷ ks) (s ∷ steps) are named reads_a reads_b = (read_step k s are.0 named.0 reads_a.0 reads_b.0, read_steps ks steps are.1 named.1 reads_a.1 reads_b.1)

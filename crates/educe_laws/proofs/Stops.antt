@@ -9,7 +9,7 @@ use Rattle.educe_attrs.specs.Stop.{Stop}
 use Rattle.educe_attrs.specs.Stop.TheVariants.{Memory, Refused}
 
 -- where each cause is one of another kind, a stop for one is a stop for that
-stop_weaker : (P Q : Cause) → ((e : EduceError) → P e → Q e) → (s : Stop) → OfStop P s → OfStop Q s
+pub stop_weaker : (P Q : Cause) → ((e : EduceError) → P e → Q e) → (s : Stop) → OfStop P s → OfStop Q s
 stop_weaker P Q weaker Memory stopped = tt
 stop_weaker P Q weaker (Refused e) stopped = weaker e stopped
 

@@ -1,20 +1,19 @@
 -- What the block of a derived trait holds.
-use Rattle.std.specs.Prelude.{ℕ, ◌≡◌, ◌<◌, true, false, List, [], ◌∷◌, ◌++◌, Some, IsPermutation, codes}
-use Rattle.std.specs.List.{AllByRecursion, AllZip}
-use Rattle.std.specs.declared.cmp.Ordering.TheVariants.{Less, Equal, Greater}
+use Rattle.std.specs.Prelude.{ℕ, ◌≡◌, ◌<◌, List, [], ◌∷◌, ◌++◌, Some, codes}
+use Rattle.std.specs.List.{AllByRecursion}
 use Rattle.educe_tokens.specs.declared.word.Word.{Word}
-use Rattle.educe_tokens.specs.Appends.{no_place}
 use Rattle.educe_tokens.specs.WrittenLexemes.{written_lexemes}
-use Rattle.educe_syntax.specs.Ident.{Ident}
-use Rattle.educe_syntax.specs.ExprPath.{ExprPath}
-use Rattle.educe_syntax.specs.Field.{Field}
 use Rattle.educe_syntax.specs.DeriveInput.{DeriveInput}
+use Rattle.educe_syntax.specs.Field.{Field}
+use Rattle.educe_syntax.specs.Shape.{Shape}
+use Rattle.educe_syntax.specs.Shape.TheVariants.{Struct, Enum}
+use Rattle.educe_syntax.specs.Variant.{Variant}
 use Rattle.educe_bound.specs.declared.traits.Trait.{Trait}
 use Rattle.educe_bound.specs.declared.traits.Trait.TheVariants as trait
 use Rattle.educe_attrs.specs.Lints.{impl_attributes}
 use Rattle.educe_body.specs.declared.comparison.Comparison.{Comparison}
 use Rattle.educe_body.specs.declared.comparison.Comparison.TheVariants.{PartialEq, PartialOrd, Ord}
-use Rattle.educe_body.specs.declared.form.Form.{Form, Reference, Call, Not, SomeOf, IfReturn, MatchOrdering}
+use Rattle.educe_body.specs.declared.form.Form.{Form}
 use Rattle.educe_body.specs.declared.form.Form as form
 use Rattle.educe_body.specs.declared.body.Body.{Body}
 use Rattle.educe_body.specs.declared.body.Function.{Function}
@@ -23,96 +22,55 @@ use Rattle.educe_body.specs.declared.body.Item.{Item}
 use Rattle.educe_body.specs.declared.body.Item.TheVariants.{Impl}
 use Rattle.educe_body.specs.declared.answers.Answers.{Answers}
 use Rattle.educe_body.specs.declared.value.Value.{Value}
-use Rattle.educe_body.specs.BuiltIn.{IsBuiltIn}
 use Rattle.educe_body.specs.Chosen.{underscored}
-use Rattle.educe_body.specs.Keys.{key_of}
 use Rattle.educe_body.specs.Meaning.{Scene, value}
 use Rattle.educe_body.specs.Words.{HasWord}
+use Rattle.educe_laws.specs.Arms.{Names, AreNames, IsEnumBlock}
 use Rattle.educe_laws.specs.Listed.{listed_in_order}
-use Rattle.educe_laws.specs.Ranks.{Rises}
-use Rattle.educe_laws.specs.Settings.{Kept, How, plainly, by_method, by_order, kept_fields}
-use Rattle.educe_laws.specs.Comparing.{comparison, neutral, Covers, meaning}
+use Rattle.educe_laws.specs.Settings.{Kept, kept_fields}
+use Rattle.educe_laws.specs.Steps.{Reading, of_base, AreSteps, IsInOrder}
+use Rattle.educe_laws.specs.Comparing.{neutral, Covers, meaning}
 
--- `& base . key` for the field at a place: the key is its name, or its place where it has none
-pub record IsReference (base : List ℕ) (place : ℕ) (field : Field) (x : Form) : Type 0 where
-  pub base_name : Ident
-  pub key : Word
-  pub is : x ≡ Reference base_name key
-  pub base_is : base_name.text ≡ base
-  pub nowhere : base_name.span ≡ no_place
-  pub key_is : key.text ≡ key_of place field
-
--- what a step tests: `eq` negates what a method answers; `partial_cmp` takes the order of a method of `Ord` in `Some`
-abbrev pub tested : Comparison → How → Form → Form
-tested PartialEq plainly call = call
-tested PartialEq (by_method path) call = Not call
-tested PartialEq (by_order path) call = Not call
-tested PartialOrd plainly call = call
-tested PartialOrd (by_method path) call = call
-tested PartialOrd (by_order path) call = SomeOf call
-tested Ord how call = call
-
--- the step for this test: `eq` returns false where the two differ; an order goes on where it is Equal, and else returns it
-abbrev pub step_of : Comparison → Form → Form
-step_of PartialEq test = IfReturn test
-step_of PartialOrd test = MatchOrdering test true Greater Less
-step_of Ord test = MatchOrdering test false Greater Less
-
--- the path that is called: that of the trait's function in the core library, or the method's as it was read
-abbrev pub IsCalled : Comparison → How → ExprPath → Type 0
-IsCalled which plainly path = IsBuiltIn (comparison which) path
-IsCalled which (by_method own) path = path ≡ own
-IsCalled which (by_order own) path = path ≡ own
-
--- `path ( & self . key , & other . key )`: a call on this field of both values and no other
-pub record IsComparison (which : Comparison) (other : List ℕ) (kept : Kept) (x : Form) : Type 0 where
-  pub path : ExprPath
-  pub own : Form
-  pub others : Form
-  pub is : x ≡ Call path (own ∷ others ∷ [])
-  pub path_is : IsCalled which kept.how path
-  pub own_is : IsReference (codes "self") kept.place kept.field own
-  pub others_is : IsReference other kept.place kept.field others
-
--- the step of a trait on a field: what it does with that call
-pub record IsStep (which : Comparison) (other : List ℕ) (kept : Kept) (x : Form) : Type 0 where
-  pub compares : Form
-  pub is : x ≡ step_of which (tested which kept.how compares)
-  pub comparison_is : IsComparison which other kept compares
-
--- the same fields, in the order of their ranks
-pub record IsByRank (kept sorted : List Kept) : Type 0 where
-  pub same : IsPermutation kept sorted
-  pub rises : Rises (λ (k : Kept). k.rank) sorted
-
--- the order in which a trait goes over the fields: `eq` as they are written, the two orders by rank
-abbrev pub IsInOrder : Comparison → List Kept → List Kept → Type 0
-IsInOrder PartialEq kept ordered = ordered ≡ kept
-IsInOrder PartialOrd kept ordered = IsByRank kept ordered
-IsInOrder Ord kept ordered = IsByRank kept ordered
-
--- one step for each of these fields, and then what is answered where no step returned
-pub record HasSteps (which : Comparison) (other : List ℕ) (ordered : List Kept) (block : List Form) : Type 0 where
-  pub steps : List Form
-  pub steps_are : AllZip (λ k step. IsStep which other k step) ordered steps
-  pub block_is : block ≡ steps ++ form.Known (neutral which) ∷ []
-
--- the name is the one that is chosen for the second value: `other` behind the fewest `_` that make it no word of the input
+-- the name is the one that is chosen for the second value of a struct: `other` behind the fewest `_` that make it no word of the input
 pub record IsParameter (definition : DeriveInput) (name : List ℕ) : Type 0 where
   pub count : ℕ
   pub is : name ≡ underscored count (codes "other")
   pub no_word : HasWord definition.tokens name → ⊥
   pub least : (fewer : ℕ) → fewer < count → HasWord definition.tokens (underscored fewer (codes "other"))
 
--- the body of a comparison: its parameter has that name, and its block has one step for each field that takes part, in the
--- order of the trait
-pub record IsBody (which : Comparison) (definition : DeriveInput) (body : Body) : Type 0 where
+-- one step for each of these fields, and then what is answered where no step returned
+pub record HasSteps (which : Comparison) (own others : Reading) (ordered : List Kept) (block : List Form) : Type 0 where
+  pub steps : List Form
+  pub steps_are : AreSteps which own others ordered steps
+  pub block_is : block ≡ steps ++ form.Known (neutral which) ∷ []
+
+-- the body of a comparison of a struct: its parameter has the chosen name, and its block has one step for each field that takes
+-- part, in the order of the trait, which reads the field of `self` and of the parameter
+pub record IsStructBody (which : Comparison) (definition : DeriveInput) (fields : List Field) (body : Body) : Type 0 where
   pub param : Word
   pub params_are : body.params ≡ param ∷ []
   pub param_is : IsParameter definition param.text
   pub ordered : List Kept
-  pub ordered_is : IsInOrder which (kept_fields which definition) ordered
-  pub block_has : HasSteps which param.text ordered body.block
+  pub ordered_is : IsInOrder which (kept_fields which definition fields) ordered
+  pub block_has : HasSteps which (of_base (codes "self")) (of_base param.text) ordered body.block
+
+-- the body of a comparison of an enum
+pub record IsEnumBody (which : Comparison) (definition : DeriveInput) (variants : List Variant) (body : Body) : Type 0 where
+  pub names : Names
+  pub names_are : AreNames definition names
+  pub param : Word
+  pub params_are : body.params ≡ param ∷ []
+  pub param_is : param.text ≡ names.other
+  pub block_is : IsEnumBlock which definition names variants body.block
+
+-- the body of a comparison
+abbrev pub IsBodyFor : Comparison → DeriveInput → Shape → Body → Type 0
+IsBodyFor which definition (Struct shape) body = IsStructBody which definition shape.fields body
+IsBodyFor which definition (Enum variants) body = IsEnumBody which definition variants body
+
+-- the same of the whole definition
+abbrev pub IsBody : Comparison → DeriveInput → Body → Type 0
+IsBody which definition body = IsBodyFor which definition definition.shape body
 
 -- the name of the one function of a comparison's trait
 abbrev pub function_name : Comparison → List ℕ

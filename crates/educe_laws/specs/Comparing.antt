@@ -1,16 +1,17 @@
 -- What the derived comparisons mean.
-use Rattle.std.specs.Prelude.{ℕ, ◌≡◌, ◌+◌, Bool, true, false, not, List, [], ◌∷◌, Option, Some, None, IsSome, unwrap_or, if◌then◌else◌}
+use Rattle.std.specs.Prelude.{ℕ, ℤ, ◌≡◌, ◌+◌, ◌==◌, Bool, true, false, not, ◌&&◌, IsTrue, List, [], ◌∷◌, Option, Some, None, IsSome, unwrap_or, slice_get, if◌then◌else◌}
 use Rattle.std.specs.List.{filter, list_all, AllByRecursion}
 use Rattle.std.specs.declared.cmp.Ordering.{Ordering}
 use Rattle.std.specs.declared.cmp.Ordering.TheVariants.{Less, Equal, Greater}
+use Rattle.std.specs.Ordering.{int_cmp}
 use Rattle.std.specs.Str.{bytes_eq}
 use Rattle.std.specs.Cmp.Lexicographic.{pointwise}
 use Rattle.educe_syntax.specs.Field.{Field}
 use Rattle.educe_syntax.specs.DeriveInput.{DeriveInput}
+use Rattle.educe_syntax.specs.Few.{all_fields}
 use Rattle.educe_syntax.specs.Ty.{out-Ty}
 use Rattle.educe_body.specs.declared.comparison.Comparison.{Comparison}
 use Rattle.educe_body.specs.declared.comparison.Comparison.TheVariants.{PartialEq, PartialOrd, Ord}
-use Rattle.educe_body.specs.Keys.{fields_of}
 use Rattle.educe_body.specs.declared.value.FieldValue.{FieldValue}
 use Rattle.educe_body.specs.declared.value.Value.{Value}
 use Rattle.educe_body.specs.declared.callee.Callee.{Callee}
@@ -19,12 +20,15 @@ use Rattle.educe_body.specs.declared.callee.BuiltIn.TheVariants.{Ne, Cmp, Partia
 use Rattle.educe_body.specs.declared.form.Known.{Known}
 use Rattle.educe_body.specs.declared.form.Known.TheVariants.{Truth, Order, PartialOrder}
 use Rattle.educe_body.specs.declared.answers.Answer.{Answer}
-use Rattle.educe_body.specs.declared.answers.Answer.TheVariants.{Truth as AnswerTruth, Order as AnswerOrder, PartialOrder as AnswerPartialOrder}
+use Rattle.educe_body.specs.declared.answers.Answer.TheVariants.{Truth as AnswerTruth, Order as AnswerOrder, PartialOrder as AnswerPartialOrder, Number as AnswerNumber}
 use Rattle.educe_body.specs.declared.answers.Answers.{Answers}
 use Rattle.educe_body.specs.declared.evaluator.Outcome.{Outcome}
 use Rattle.educe_body.specs.declared.evaluator.Outcome.TheVariants.{Truth as OutcomeTruth, Order as OutcomeOrder, PartialOrder as OutcomePartialOrder}
 use Rattle.educe_body.specs.Answering.{answer_of}
 use Rattle.educe_body.specs.Callees.{spellings, as_callee, callee_of}
+use Rattle.educe_laws.specs.Cases.{cases_of, case_of}
+use Rattle.educe_laws.specs.Comparisons.{is_order}
+use Rattle.educe_laws.specs.Discriminants.{discriminant_of, HaveDiscriminants}
 use Rattle.educe_laws.specs.Ranks.{least_by}
 use Rattle.educe_laws.specs.Settings.{Kept, How, plainly, by_method, by_order, is_kept, kept_at}
 
@@ -34,7 +38,7 @@ use Rattle.educe_laws.specs.Settings.{Kept, How, plainly, by_method, by_order, i
 abbrev pub type_spellings : Field → List (List ℕ)
 type_spellings field = spellings (out-Ty field.ty).written.tokens
 
--- the place of the first field whose type has these tokens
+-- the place of the first of these fields whose type has these tokens
 abbrev pub first_place : List Field → List (List ℕ) → ℕ
 first_place [] type = 0
 first_place (f ∷ fs) type = if pointwise bytes_eq (type_spellings f) type then 0 else first_place fs type + 1
@@ -46,10 +50,11 @@ HaveTypes all [] (x ∷ xs) = ⊥
 HaveTypes all (f ∷ fs) [] = ⊥
 HaveTypes all (f ∷ fs) (x ∷ xs) = (x.ty ≡ first_place all (type_spellings f)) × HaveTypes all fs xs
 
--- the value's variant exists, and it has the fields of the definition, each of its type
+-- the case of the value exists, and the value has a value of its type for each of its fields
 pub record HasShape (definition : DeriveInput) (value : Value) : Type 0 where
-  pub variant : value.variant ≡ 0
-  pub fields : HaveTypes (fields_of definition) (fields_of definition) value.fields
+  pub fields : List Field
+  pub exists : slice_get (cases_of definition) value.variant ≡ Some fields
+  pub types : HaveTypes (all_fields definition) fields value.fields
 
 -- ---- what a field says
 
@@ -68,9 +73,9 @@ compared_from which definition place (f ∷ fs) (x ∷ xs) (y ∷ ys) =
     if is_kept which definition f then record { kept = kept_at which definition place f; first = x; second = y } ∷ compared_from which definition (place + 1) fs xs ys
     else compared_from which definition (place + 1) fs xs ys
 
--- the fields that take part in a comparison, with their values
+-- the fields that take part in a comparison of two values of one case, with their values
 abbrev pub compared : Comparison → DeriveInput → Value → Value → List Compared
-compared which definition a b = compared_from which definition 0 (fields_of definition) a.fields b.fields
+compared which definition a b = compared_from which definition 0 (case_of definition a) a.fields b.fields
 
 -- the function of the core library by which a trait compares two values of a field
 abbrev pub comparison : Comparison → BuiltIn
@@ -90,6 +95,7 @@ said_truth opposite None = None
 said_truth opposite (Some (AnswerTruth b)) = Some (Truth (if opposite then not b else b))
 said_truth opposite (Some (AnswerOrder o)) = None
 said_truth opposite (Some (AnswerPartialOrder p)) = None
+said_truth opposite (Some (AnswerNumber n)) = None
 
 -- the order that is answered
 abbrev pub said_order : Option Answer → Option Known
@@ -97,6 +103,7 @@ said_order None = None
 said_order (Some (AnswerTruth b)) = None
 said_order (Some (AnswerOrder o)) = Some (Order o)
 said_order (Some (AnswerPartialOrder p)) = None
+said_order (Some (AnswerNumber n)) = None
 
 -- the partial order that is answered
 abbrev pub said_partial_order : Option Answer → Option Known
@@ -104,6 +111,7 @@ said_partial_order None = None
 said_partial_order (Some (AnswerTruth b)) = None
 said_partial_order (Some (AnswerOrder o)) = None
 said_partial_order (Some (AnswerPartialOrder p)) = Some (PartialOrder p)
+said_partial_order (Some (AnswerNumber n)) = None
 
 -- the order that is answered, in `Some`
 abbrev pub said_in_some : Option Answer → Option Known
@@ -111,6 +119,7 @@ said_in_some None = None
 said_in_some (Some (AnswerTruth b)) = None
 said_in_some (Some (AnswerOrder o)) = Some (PartialOrder (Some o))
 said_in_some (Some (AnswerPartialOrder p)) = None
+said_in_some (Some (AnswerNumber n)) = None
 
 -- what a field says by an answer: to `PartialEq` the opposite of what `ne` answers, or what its method does; to `Ord` the order
 -- that is answered; to `PartialOrd` the partial order, or in `Some` the order that a method of `Ord` answers
@@ -127,11 +136,13 @@ said Ord how answer = said_order answer
 abbrev pub says : Comparison → Answers → Compared → Option Known
 says which table c = said which c.kept.how (answer_of table (asked which c.kept.how) (Some c.first) (Some c.second))
 
--- both values have the definition's shape, and by the table each field that takes part says something
+-- both values have the definition's shape; where they are of one case, by the table each field that takes part says something;
+-- and for an order, by the table the variants have discriminants, which are numbers of their type and differ
 pub record Covers (which : Comparison) (table : Answers) (definition : DeriveInput) (a b : Value) : Type 0 where
   pub first : HasShape definition a
   pub second : HasShape definition b
-  pub each : AllByRecursion (λ c. IsSome (says which table c)) (compared which definition a b)
+  pub each : a.variant ≡ b.variant → AllByRecursion (λ c. IsSome (says which table c)) (compared which definition a b)
+  pub ordered : IsTrue (is_order which) → HaveDiscriminants table definition
 
 -- ---- what a derived function means
 
@@ -180,9 +191,32 @@ abbrev pub answered : Comparison → Answers → Option Compared → Known
 answered which table None = neutral which
 answered which table (Some c) = word_of which table c
 
--- the order, or partial order, of two values: what the field says that decides
+-- the order, or partial order, of two values of one case: what the field says that decides
 abbrev pub order : Comparison → Answers → List Compared → Known
 order which table cs = answered which table (deciding which table cs)
+
+-- the order of two discriminants, where there are such
+abbrev pub number_order : Option ℤ → Option ℤ → Ordering
+number_order None n = Equal
+number_order (Some m) None = Equal
+number_order (Some m) (Some n) = int_cmp m n
+
+-- an order as the answer of a comparison; `partial_cmp` has it in `Some`
+abbrev pub as_answer : Comparison → Ordering → Known
+as_answer PartialEq o = Truth true
+as_answer PartialOrd o = PartialOrder (Some o)
+as_answer Ord o = Order o
+
+-- the order of the discriminants, or where that is Equal what else is answered
+abbrev pub discriminants_first : Comparison → Ordering → Known → Known
+discriminants_first which Less answer = as_answer which Less
+discriminants_first which Equal answer = answer
+discriminants_first which Greater answer = as_answer which Greater
+
+-- the order of the discriminants of two values where these differ, or else that of their fields
+abbrev pub whole_order : Comparison → Answers → DeriveInput → Value → Value → Known
+whole_order which table definition a b =
+    discriminants_first which (number_order (discriminant_of table definition a) (discriminant_of table definition b)) (order which table (compared which definition a b))
 
 -- an answer as what a function evaluates to
 abbrev pub outcome : Known → Outcome
@@ -190,8 +224,9 @@ outcome (Truth b) = OutcomeTruth b
 outcome (Order o) = OutcomeOrder o
 outcome (PartialOrder p) = OutcomePartialOrder p
 
--- what the function of a trait means of two values: whether every field that takes part is equal in both; or their order
+-- what the function of a trait means of two values: whether they are of one case and every field that takes part is equal in
+-- both; or their order
 abbrev pub meaning : Comparison → Answers → DeriveInput → Value → Value → Outcome
-meaning PartialEq table definition a b = OutcomeTruth (equal table (compared PartialEq definition a b))
-meaning PartialOrd table definition a b = outcome (order PartialOrd table (compared PartialOrd definition a b))
-meaning Ord table definition a b = outcome (order Ord table (compared Ord definition a b))
+meaning PartialEq table definition a b = OutcomeTruth ((a.variant == b.variant) && equal table (compared PartialEq definition a b))
+meaning PartialOrd table definition a b = outcome (whole_order PartialOrd table definition a b)
+meaning Ord table definition a b = outcome (whole_order Ord table definition a b)

@@ -24,6 +24,10 @@ is_order Ord = true
 abbrev pub type_row : Row
 type_row = bound_row true true
 
+-- at a variant nothing may be said
+abbrev pub variant_row : Row
+variant_row = bound_row false false
+
 -- at a field: `ignore` and `method`, for the orders also `rank`
 abbrev pub field_row : Comparison → Row
 field_row which = compared_row true true (is_order which)

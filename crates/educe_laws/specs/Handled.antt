@@ -1,33 +1,37 @@
 -- Why the handlers of the listed traits refuse a definition.
-use Rattle.std.specs.Prelude.{◌≡◌, ℤ, IsTrue, List, [], ◌∷◌, map}
+use Rattle.std.specs.Prelude.{◌≡◌, ◌⊎◌, ℤ, IsTrue, List, [], ◌∷◌, ◌++◌}
 use Rattle.educe_tokens.specs.declared.error.EduceError.{EduceError}
 use Rattle.educe_tokens.specs.declared.error.Kind.TheVariants.{ReuseARank}
 use Rattle.educe_tokens.specs.declared.span.Span.{Span}
 use Rattle.educe_syntax.specs.Attribute.{Attribute}
 use Rattle.educe_syntax.specs.DeriveInput.{DeriveInput}
 use Rattle.educe_syntax.specs.Field.{Field}
+use Rattle.educe_syntax.specs.Shape.{Shape}
+use Rattle.educe_syntax.specs.Shape.TheVariants.{Struct, Enum}
 use Rattle.educe_bound.specs.declared.traits.Trait.{Trait}
 use Rattle.educe_bound.specs.declared.traits.Trait.TheVariants as trait
 use Rattle.educe_attrs.specs.Among.{IsAmong}
 use Rattle.educe_attrs.specs.Causes.{Cause}
-use Rattle.educe_attrs.specs.Fields.{HaveNoCauses}
+use Rattle.educe_attrs.specs.Fields.{OfFields, HaveNoCauses}
 use Rattle.educe_attrs.specs.Phases.{Handling, OfLast}
-use Rattle.educe_attrs.specs.Places.{IsFieldCause}
+use Rattle.educe_attrs.specs.Places.{IsFieldCause, OfPlace}
 use Rattle.educe_attrs.specs.Said.{IsPlaceCause, IsSaidCause}
 use Rattle.educe_body.specs.declared.comparison.Comparison.{Comparison}
 use Rattle.educe_body.specs.declared.comparison.Comparison.TheVariants.{PartialEq, PartialOrd, Ord}
-use Rattle.educe_body.specs.Keys.{fields_of}
-use Rattle.educe_laws.specs.Comparisons.{trait_of, is_order, type_row, field_row}
+use Rattle.educe_syntax.specs.Few.{variants_of, all_fields}
+use Rattle.educe_syntax.specs.Variant.{Variant}
+use Rattle.educe_laws.specs.Cases.{fields_in, cases_of, variant_attributes, field_attributes}
+use Rattle.educe_laws.specs.Comparisons.{trait_of, is_order, type_row, variant_row, field_row}
 use Rattle.educe_laws.specs.Listed.{listed}
-use Rattle.educe_laws.specs.Settings.{ReusesARank}
+use Rattle.educe_laws.specs.Settings.{Kept, kept_fields, ReusesARank}
 
 -- the error for a repeated rank
 abbrev pub reuse_of : ℤ → Span → EduceError
 reuse_of rank place = record { kind = ReuseARank rank; span = place; words = [] }
 
--- the attributes of the places of a definition: of the type, and of each field
+-- the attributes of the places of a definition: of the type, of each variant, and of each field
 abbrev pub places : DeriveInput → List (List Attribute)
-places definition = definition.attrs ∷ map (λ (f : Field). f.attrs) (fields_of definition)
+places definition = definition.attrs ∷ variant_attributes definition ++ field_attributes definition
 
 -- the `educe` lists of a place are refused, whatever the trait
 pub record IsListsCause (definition : DeriveInput) (e : EduceError) : Type 0 where
@@ -35,22 +39,43 @@ pub record IsListsCause (definition : DeriveInput) (e : EduceError) : Type 0 whe
   pub stand : IsAmong attributes (places definition)
   pub cause : IsPlaceCause (listed definition) attributes e
 
--- two fields that take part in an order have one rank, and no field says something wrong of it
-pub record IsRankCause (which : Comparison) (definition : DeriveInput) (e : EduceError) : Type 0 where
+-- two of these fields have one rank
+pub record IsReuse (kept : List Kept) (e : EduceError) : Type 0 where
   pub rank : ℤ
   pub place : Span
-  pub orders : IsTrue (is_order which)
-  pub read : HaveNoCauses (trait_of which) (field_row which) (listed definition) (fields_of definition)
-  pub reuses : ReusesARank which definition rank place
+  pub reuses : ReusesARank kept rank place
   pub is : e ≡ reuse_of rank place
 
--- why a comparison is refused: what the type says of it is; what a field says of it is; or, where it is an order, two fields
--- that take part have one rank
+-- two of these fields that take part in an order have one rank, and no field of them says something wrong of it
+pub record IsRankCause (which : Comparison) (definition : DeriveInput) (fields : List Field) (e : EduceError) : Type 0 where
+  pub orders : IsTrue (is_order which)
+  pub read : HaveNoCauses (trait_of which) (field_row which) (listed definition) fields
+  pub reuse : IsReuse (kept_fields which definition fields) e
+
+-- why a comparison is refused: what the type says of it is; what a variant says of it is; what a field says of it is; or, where
+-- it is an order, two fields of one case that take part have one rank
 pub data IsComparisonCause (which : Comparison) (definition : DeriveInput) : EduceError → Type 0 where
   by_type : {e : EduceError} → IsSaidCause (trait_of which) type_row definition.attrs e → IsComparisonCause which definition e
-  by_field : {e : EduceError} (field : Field) → IsAmong field (fields_of definition)
+  by_variant : {e : EduceError} (variant : Variant) → IsAmong variant (variants_of definition)
+      → IsSaidCause (trait_of which) variant_row variant.attrs e → IsComparisonCause which definition e
+  by_field : {e : EduceError} (field : Field) → IsAmong field (all_fields definition)
       → IsFieldCause (trait_of which) (field_row which) (listed definition) field.attrs e → IsComparisonCause which definition e
-  by_rank : {e : EduceError} → IsRankCause which definition e → IsComparisonCause which definition e
+  by_rank : {e : EduceError} (fields : List Field) → IsAmong fields (cases_of definition) → IsRankCause which definition fields e
+      → IsComparisonCause which definition e
+
+-- why the fields of a case are refused: one of them is, or a rank
+abbrev pub OfCase : Comparison → DeriveInput → List Field → Cause
+OfCase which definition fields = λ e. OfFields (trait_of which) (field_row which) (listed definition) fields e ⊎ IsRankCause which definition fields e
+
+-- why a variant is refused: its own attributes are, or its fields
+abbrev pub OfVariant : Comparison → DeriveInput → Variant → Cause
+OfVariant which definition variant =
+    λ e. OfPlace (trait_of which) variant_row (listed definition) variant.attrs e ⊎ OfCase which definition (fields_in variant) e
+
+-- why what stands behind the name of a definition is refused: the fields of a struct are, or one of the variants of an enum
+abbrev pub OfShape : Comparison → DeriveInput → Shape → Cause
+OfShape which definition (Struct shape) = OfCase which definition shape.fields
+OfShape which definition (Enum variants) = λ e. (variant : Variant) × IsAmong variant variants × OfVariant which definition variant e
 
 -- why a trait is refused; only comparisons are built so far
 abbrev pub IsTraitCause : DeriveInput → Trait → Cause

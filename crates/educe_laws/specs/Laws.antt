@@ -1,20 +1,27 @@
 -- What holds of the comparisons of a definition with no call.
-use Rattle.std.specs.Prelude.{◌≡◌, ℕ, ◌≢◌, ◌≤◌, ◌^◌, List, length, codes}
+use Rattle.std.specs.Prelude.{◌≡◌, ℕ, ℤ, ◌≢◌, ◌≤◌, ◌^◌, List, ◌∷◌, ◌++◌, length, codes}
 use Rattle.std.specs.List.{AllByRecursion}
 use Rattle.educe_syntax.specs.DeriveInput.{DeriveInput}
 use Rattle.educe_syntax.specs.Field.{Field}
+use Rattle.educe_syntax.specs.Naming.{field_names, AreApart}
 use Rattle.educe_syntax.specs.Refusal.{IsDefinition}
 use Rattle.educe_attrs.specs.Causes.{NoCause}
 use Rattle.educe_attrs.specs.FieldSettings.{FieldSettings}
 use Rattle.educe_attrs.specs.Fields.{HaveNoCauses}
 use Rattle.educe_attrs.specs.Phases.{OfHandler}
 use Rattle.educe_attrs.specs.Places.{IsFieldSaid}
+use Rattle.educe_attrs.specs.Represented.{IsDiscriminantType}
+use Rattle.educe_discriminants.specs.declared.discriminant_type.DiscriminantType.{DiscriminantType}
+use Rattle.educe_body.specs.declared.answers.Answers.{Answers}
+use Rattle.educe_body.specs.declared.key_function.Constant.{Constant}
 use Rattle.educe_body.specs.declared.body.Item.{Item}
 use Rattle.educe_body.specs.declared.comparison.Comparison.{Comparison}
-use Rattle.educe_body.specs.Keys.{fields_of}
+use Rattle.educe_syntax.specs.Few.{all_fields}
 use Rattle.educe_body.specs.Words.{HasWord}
+use Rattle.educe_laws.specs.Arms.{Names, AreNames, AreScoped, variables, AreConstants, AreNumbers}
 use Rattle.educe_laws.specs.Blocks.{IsParameter, IsComparisonBlock, EachEvaluates}
 use Rattle.educe_laws.specs.Comparisons.{trait_of, field_row}
+use Rattle.educe_laws.specs.Discriminants.{HaveNumbers}
 use Rattle.educe_laws.specs.Handled.{handling}
 use Rattle.educe_laws.specs.Listed.{listed}
 use Rattle.educe_laws.specs.Settings.{settings_of, AreSaid}
@@ -25,11 +32,18 @@ pub record ComparisonLaws : Type 0 where
   pub said : (which : Comparison) (definition : DeriveInput) → NoCause (OfHandler (handling definition) (trait_of which)) → AreSaid which definition
   -- and no other settings are
   pub only : (which : Comparison) (definition : DeriveInput) → NoCause (OfHandler (handling definition) (trait_of which)) → (settings : Field → FieldSettings)
-      → AllByRecursion (λ field. IsFieldSaid (trait_of which) (field_row which) (listed definition) field.attrs (settings field)) (fields_of definition)
-      → AllByRecursion (λ field. settings field ≡ settings_of which definition field) (fields_of definition)
-  -- the names in the scope of a comparison's function, `self` and its parameter, are two, and the parameter is no word of the input
+      → AllByRecursion (λ field. IsFieldSaid (trait_of which) (field_row which) (listed definition) field.attrs (settings field)) (all_fields definition)
+      → AllByRecursion (λ field. settings field ≡ settings_of which definition field) (all_fields definition)
+  -- the names in the scope of a struct's function, `self` and its parameter, are two, and the parameter is no word of the input
   pub scope : (definition : DeriveInput) (name : List ℕ) → IsParameter definition name → (name ≢ codes "self") × (HasWord definition.tokens name → ⊥)
+  -- of the names in the scope of an arm of an enum's function no two are the same, and none but `self` is a word of the input: `self`,
+  -- the second value, the key function, and the variables of the variant's fields that take part
+  pub arm_scope : (which : Comparison) (definition : DeriveInput) (names : Names) (fields : List Field) → AreNames definition names → AreApart (field_names fields)
+      → length fields ≤ 2 ^ 64 → AreScoped definition (names.other ∷ names.discriminant ∷ variables names.own which definition fields ++ variables names.others which definition fields)
+  -- where the discriminants are numbers of the type, they are the numbers of the constants
+  pub constants : (table : Answers) (definition : DeriveInput) (ty : DiscriminantType) (numbers : List ℤ) (constants : List Constant)
+      → HaveNumbers table definition numbers → IsDiscriminantType definition.attrs ty → AreConstants definition ty constants → AreNumbers table numbers constants
   -- where no field of a definition says something wrong of the comparison, the functions of its block evaluate to what it means
-  pub evaluates : (which : Comparison) (definition : DeriveInput) (items : List Item) → IsDefinition definition.tokens definition → length (fields_of definition) ≤ 2 ^ 64
-      → HaveNoCauses (trait_of which) (field_row which) (listed definition) (fields_of definition)
+  pub evaluates : (which : Comparison) (definition : DeriveInput) (items : List Item) → IsDefinition definition.tokens definition → length definition.tokens ≤ 2 ^ 64
+      → HaveNoCauses (trait_of which) (field_row which) (listed definition) (all_fields definition)
       → IsComparisonBlock which definition items → AllByRecursion (EachEvaluates definition) items

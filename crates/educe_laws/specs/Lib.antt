@@ -1,12 +1,17 @@
 -- The comparisons, and the traits that a definition lists.
 pub mod Comparisons
 pub mod Listed
+-- The fields of each case, and the discriminants of variants.
+pub mod Cases
+pub mod Discriminants
 -- What attributes say of a field, and the order of ranks.
 pub mod Ranks
 pub mod Settings
 -- What a comparison means of two values.
 pub mod Comparing
 -- What the items of a trait hold, and what their functions evaluate to.
+pub mod Steps
+pub mod Arms
 pub mod Blocks
 -- The form of definitions that is built so far, and why a trait is refused.
 pub mod Built

@@ -1,5 +1,5 @@
 -- What the attributes of a field say of it to a comparison.
-use Rattle.std.specs.Prelude.{ℕ, ℤ, pos, ◌-ℤ◌, ◌+◌, ◌^◌, ◌<◌, ◌≤◌, ◌≡◌, Bool, true, false, not, List, [], ◌∷◌, Option, None, Some, if◌then◌else◌, unwrap_or}
+use Rattle.std.specs.Prelude.{ℕ, ℤ, pos, ◌-ℤ◌, ◌+◌, ◌^◌, ◌<◌, ◌≤◌, ◌≡◌, Bool, true, false, not, List, [], ◌∷◌, map, Option, None, Some, if◌then◌else◌, unwrap_or}
 use Rattle.std.specs.List.{AllByRecursion, Contains}
 use Rattle.educe_tokens.specs.declared.span.Span.{Span}
 use Rattle.educe_syntax.specs.ExprPath.{ExprPath}
@@ -11,7 +11,7 @@ use Rattle.educe_attrs.specs.Compared.{number_of, place_of}
 use Rattle.educe_attrs.specs.Places.{IsFieldSaid}
 use Rattle.educe_bound.specs.Traits.{is_listed}
 use Rattle.educe_body.specs.declared.comparison.Comparison.{Comparison}
-use Rattle.educe_body.specs.Keys.{fields_of}
+use Rattle.educe_syntax.specs.Few.{all_fields}
 use Rattle.educe_laws.specs.Comparisons.{trait_of, field_row}
 use Rattle.educe_laws.specs.Listed.{listed}
 use Rattle.educe_laws.specs.Ranks.{AreRanksApart}
@@ -26,7 +26,7 @@ settings_of which definition = settings_at (trait_of which) (field_row which) (l
 -- none of its own, of the other
 abbrev pub AreSaid : Comparison → DeriveInput → Type 0
 AreSaid which definition =
-    AllByRecursion (λ field. IsFieldSaid (trait_of which) (field_row which) (listed definition) field.attrs (settings_of which definition field)) (fields_of definition)
+    AllByRecursion (λ field. IsFieldSaid (trait_of which) (field_row which) (listed definition) field.attrs (settings_of which definition field)) (all_fields definition)
 
 -- that of each listed comparison
 abbrev pub AreAllSaid : DeriveInput → Type 0
@@ -71,19 +71,11 @@ how_by settings = how_with settings.method_returns_ordering settings.values.meth
 abbrev pub is_kept : Comparison → DeriveInput → Field → Bool
 is_kept which definition field = keeps (settings_of which definition field)
 
--- the rank that is set, or else the default one
-abbrev pub rank_of : Comparison → DeriveInput → ℕ → Field → ℤ
-rank_of which definition place field = rank_by place (settings_of which definition field)
-
 -- where the rank stands: the parameter, or the field where it has none
 abbrev pub rank_span_of : Comparison → DeriveInput → Field → Span
 rank_span_of which definition field = rank_span_by (settings_of which definition field) field.span
 
--- how it is compared
-abbrev pub how_of : Comparison → DeriveInput → Field → How
-how_of which definition field = how_by (settings_of which definition field)
-
--- a field that takes part, its place among all fields, counted from 0, its rank, where that stands, and how it is compared
+-- a field that takes part, its place among the fields of its case, counted from 0, its rank, where that stands, and how it is compared
 pub record Kept : Type 0 where
   pub field : Field
   pub place : ℕ
@@ -91,46 +83,52 @@ pub record Kept : Type 0 where
   pub rank_span : Span
   pub how : How
 
--- the field at a place, as it takes part
-abbrev pub kept_at : Comparison → DeriveInput → ℕ → Field → Kept
-kept_at which definition place field = record {
+-- the field at a place, as it takes part with these settings
+abbrev pub kept_with : FieldSettings → ℕ → Field → Kept
+kept_with settings place field = record {
   field = field;
   place = place;
-  rank = rank_of which definition place field;
-  rank_span = rank_span_of which definition field;
-  how = how_of which definition field;
+  rank = rank_by place settings;
+  rank_span = rank_span_by settings field.span;
+  how = how_by settings;
 }
+
+-- those that take part among fields with these settings, of which the first has this place
+abbrev pub kept_by : ℕ → List Field → List FieldSettings → List Kept
+kept_by place [] all = []
+kept_by place (f ∷ fs) [] = []
+kept_by place (f ∷ fs) (s ∷ all) = if keeps s then kept_with s place f ∷ kept_by (place + 1) fs all else kept_by (place + 1) fs all
+
+-- the field at a place, as it takes part
+abbrev pub kept_at : Comparison → DeriveInput → ℕ → Field → Kept
+kept_at which definition place field = kept_with (settings_of which definition field) place field
 
 -- those that take part among fields of which the first has this place
 abbrev pub kept_from : Comparison → DeriveInput → ℕ → List Field → List Kept
-kept_from which definition place [] = []
-kept_from which definition place (f ∷ fs) =
-    if is_kept which definition f then kept_at which definition place f ∷ kept_from which definition (place + 1) fs
-    else kept_from which definition (place + 1) fs
+kept_from which definition place fields = kept_by place fields (map (settings_of which definition) fields)
 
--- the fields that take part, in written order
-abbrev pub kept_fields : Comparison → DeriveInput → List Kept
-kept_fields which definition = kept_from which definition 0 (fields_of definition)
+-- those that take part among the fields of one case, in written order
+abbrev pub kept_fields : Comparison → DeriveInput → List Field → List Kept
+kept_fields which definition fields = kept_from which definition 0 fields
 
--- no two fields that take part have one rank
-abbrev pub RanksDiffer : Comparison → DeriveInput → Type 0
-RanksDiffer which definition = AreRanksApart (λ k. k.rank) (kept_fields which definition)
+-- no two of the fields have one rank
+abbrev pub RanksDiffer : List Kept → Type 0
+RanksDiffer kept = AreRanksApart (λ k. k.rank) kept
 
--- where two fields that take part have one rank, the later of them is not written before this place
-abbrev pub IsEarliest : Comparison → DeriveInput → ℕ → Type 0
-IsEarliest which definition place =
-    (first later : Kept) → Contains (kept_fields which definition) first → Contains (kept_fields which definition) later
-    → first.place < later.place → first.rank ≡ later.rank → place ≤ later.place
+-- where two of the fields have one rank, the later of them is not written before this place
+abbrev pub IsEarliest : List Kept → ℕ → Type 0
+IsEarliest kept place =
+    (first later : Kept) → Contains kept first → Contains kept later → first.place < later.place → first.rank ≡ later.rank → place ≤ later.place
 
--- two fields that take part have this rank, and this is the place of the later one's; of such later fields it is the
--- one that is written first
-pub record ReusesARank (which : Comparison) (definition : DeriveInput) (rank : ℤ) (place : Span) : Type 0 where
+-- two of the fields have this rank, and this is the place of the later one's; of such later fields it is the one that is written
+-- first
+pub record ReusesARank (kept : List Kept) (rank : ℤ) (place : Span) : Type 0 where
   pub first : Kept
   pub later : Kept
-  pub first_kept : Contains (kept_fields which definition) first
-  pub later_kept : Contains (kept_fields which definition) later
+  pub first_kept : Contains kept first
+  pub later_kept : Contains kept later
   pub written : first.place < later.place
   pub first_rank : first.rank ≡ rank
   pub later_rank : later.rank ≡ rank
   pub place_is : place ≡ later.rank_span
-  pub earliest : IsEarliest which definition later.place
+  pub earliest : IsEarliest kept later.place

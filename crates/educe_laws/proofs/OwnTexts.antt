@@ -1,5 +1,5 @@
--- The identifiers in the methods of a definition are words of its tokens.
-use Rattle.std.proofs.Common.{◌≡◌, ℕ, ◌+◌, Bool, true, false, inl, inr, List, [], ◌∷◌, Option, Some, None, refl, sym, ap, ◌∙◌, subst}
+-- The identifiers in the methods and in the discriminants of a definition are words of its tokens.
+use Rattle.std.proofs.Common.{◌≡◌, ℕ, ◌+◌, Bool, true, false, inl, inr, List, [], ◌∷◌, Option, Some, None, refl, sym, subst}
 use Rattle.std.specs.Prelude.{if◌then◌else◌, Contains}
 use Rattle.std.specs.List.{AllByRecursion}
 use Rattle.std.proofs.lemmas.Bool.{false≢true}
@@ -7,31 +7,34 @@ use Rattle.educe_tokens.specs.TokenKind.{TokenKind}
 use Rattle.educe_tokens.specs.TokenKind.TheVariants.{Ident, Lifetime, Literal, Punct, Start, Stop, Doc}
 use Rattle.educe_tokens.specs.declared.token.Token.{Token}
 use Rattle.educe_tokens.specs.Lexes.{lexeme_of}
-use Rattle.educe_tokens.specs.Steps.{IsReading}
-use Rattle.educe_tokens.specs.StringValue.{IsStringValue}
 use Rattle.educe_syntax.specs.Definitions as grammar
 use Rattle.educe_syntax.specs.DeriveInput.{DeriveInput}
+use Rattle.educe_syntax.specs.Expr.{Expr}
 use Rattle.educe_syntax.specs.ExprPath.{ExprPath}
+use Rattle.educe_syntax.specs.Few.{shape_variants, variants_of, shape_fields, all_fields}
 use Rattle.educe_syntax.specs.Field.{Field}
 use Rattle.educe_syntax.specs.Laws.{lawful_parts}
 use Rattle.educe_syntax.specs.Keywords.{unraw}
 use Rattle.educe_syntax.specs.Parsed.{IsWhole}
 use Rattle.educe_syntax.specs.Shape.{Shape}
 use Rattle.educe_syntax.specs.Shape.TheVariants.{Struct, Enum}
-use Rattle.educe_syntax.specs.Within.{FieldWithin, ShapeWithin}
+use Rattle.educe_syntax.specs.Variant.{Variant}
+use Rattle.educe_syntax.specs.Within.{FieldWithin, WrittenWithin, VariantWithin, ShapeWithin}
+use Rattle.educe_attrs.specs.Causes.{NoCause}
 use Rattle.educe_attrs.specs.Fields.{HaveNoCauses}
+use Rattle.educe_attrs.specs.Places.{OfField}
 use Rattle.educe_attrs.specs.Laws.{lawful_settings}
 use Rattle.educe_attrs.specs.Methods.{IsTextOf, standing, quoted}
 use Rattle.educe_body.specs.declared.comparison.Comparison.{Comparison}
-use Rattle.educe_body.specs.Keys.{fields_of, shape_fields}
 use Rattle.educe_body.specs.NameLaws.{lawful_names}
 use Rattle.educe_body.specs.Scoping.{is_ident, AreOwnNames}
 use Rattle.educe_body.specs.Words.{IsWordOf, ident, HasWord}
+use Rattle.educe_laws.specs.Cases.{fields_in, shape_cases, cases_of}
 use Rattle.educe_laws.specs.Comparisons.{trait_of, field_row}
 use Rattle.educe_laws.specs.Listed.{listed}
 use Rattle.educe_laws.specs.Settings.{Kept, how_with, is_kept, kept_at, kept_from, settings_of}
-use Rattle.educe_laws.proofs.Comparisons.{HaveOwnMethods}
-use Rattle.educe_laws.proofs.Elements.{In, In-from_Contains, Contains-from_In, each_in, each_weaker}
+use Rattle.educe_laws.proofs.Structs.{HaveOwnMethods}
+use Rattle.educe_laws.proofs.Elements.{In, In-from_Contains, Contains-from_In, each_in, each_weaker, each_mapped, each_apart}
 use Rattle.educe_laws.proofs.Stepping.{HasOwnPath}
 
 -- ---- the identifiers of a text
@@ -78,10 +81,7 @@ own_how tokens ordering None own = tt
 own_how tokens false (Some path) own = own path refl
 own_how tokens true (Some path) own = own path refl
 
--- where P holds of the tokens in a definition, it does of those in each field
-each_field : (P : Token → Type 0) (shape : Shape) → ShapeWithin P shape → AllByRecursion (FieldWithin P) (shape_fields shape)
-each_field P (Struct fields) within = within
-each_field P (Enum variants) within = tt
+-- ---- the methods of a definition
 
 module _ (which : Comparison) (d : DeriveInput) where
   abbrev HasOwn : Kept → Type 0
@@ -102,6 +102,43 @@ module _ (which : Comparison) (d : DeriveInput) where
       own_step (kept_at which d place f) (kept_from which d (place + 1) fs) (is_kept which d f) (own_how d.tokens settings.method_returns_ordering settings.values.method own)
       (own_from (place + 1) fs within.1 uncaused.1)
 
-  -- the methods of the fields that take part have names of the definition alone
-  pub own_methods : IsWhole grammar.definition d.tokens d → HaveNoCauses (trait_of which) (field_row which) (listed d) (fields_of d) → HaveOwnMethods which d
-  own_methods whole uncaused = own_from 0 (fields_of d) (each_field (λ t. Contains d.tokens t) d.shape (lawful_parts.definition d.tokens d whole)) uncaused
+  -- what holds of the fields of a variant
+  abbrev NoCauses : List Field → Type 0
+  NoCauses fields = HaveNoCauses (trait_of which) (field_row which) (listed d) fields
+
+  variants_own : (variants : List Variant) → AllByRecursion (VariantWithin (λ t. Contains d.tokens t)) variants → AllByRecursion (λ v. NoCauses (fields_in v)) variants
+      → AllByRecursion (λ v. HaveOwnMethods which d (fields_in v)) variants
+  variants_own [] within uncaused = tt
+  variants_own (v ∷ vs) within uncaused = (own_from 0 (fields_in v) within.0.1 uncaused.0, variants_own vs within.1 uncaused.1)
+
+  cases_own : (shape : Shape) → ShapeWithin (λ t. Contains d.tokens t) shape → NoCauses (shape_fields shape) → AllByRecursion (HaveOwnMethods which d) (shape_cases shape)
+  cases_own (Struct shape) within uncaused = (own_from 0 shape.fields within uncaused, tt)
+  cases_own (Enum variants) within uncaused =
+      each_mapped (HaveOwnMethods which d) fields_in variants (variants_own variants within (each_apart (λ (f : Field). NoCause (OfField (trait_of which) (field_row which) (listed d) f.attrs)) fields_in variants uncaused))
+
+  -- the methods of the fields that take part, in each case, have names of the definition alone
+  pub own_methods : IsWhole grammar.definition d.tokens d → NoCauses (all_fields d) → AllByRecursion (HaveOwnMethods which d) (cases_of d)
+  own_methods whole uncaused = cases_own d.shape (lawful_parts.definition d.tokens d whole) uncaused
+
+-- ---- the discriminants of variants
+
+-- the identifiers of the expression, if there is one, are words of the tokens
+abbrev pub HasOwnNumber : List Token → Option Expr → Type 0
+HasOwnNumber tokens None = Unit {0}
+HasOwnNumber tokens (Some value) = AreOwnNames tokens value.written.tokens
+
+own_number : (tokens : List Token) (written : Option Expr) → WrittenWithin (λ t. Contains tokens t) written → HasOwnNumber tokens written
+own_number tokens None within = tt
+own_number tokens (Some value) within = text_own tokens value.written.tokens (standing within)
+
+numbers_own : (tokens : List Token) (variants : List Variant) → AllByRecursion (VariantWithin (λ t. Contains tokens t)) variants → AllByRecursion (λ (v : Variant). HasOwnNumber tokens v.discriminant) variants
+numbers_own tokens [] within = tt
+numbers_own tokens (v ∷ vs) within = (own_number tokens v.discriminant within.0.2, numbers_own tokens vs within.1)
+
+-- the discriminants that are written have names of the definition alone
+pub own_numbers : (d : DeriveInput) → IsWhole grammar.definition d.tokens d → AllByRecursion (λ (v : Variant). HasOwnNumber d.tokens v.discriminant) (variants_of d)
+own_numbers d whole = by_shape d.shape (lawful_parts.definition d.tokens d whole)
+  where
+    by_shape : (shape : Shape) → ShapeWithin (λ t. Contains d.tokens t) shape → AllByRecursion (λ (v : Variant). HasOwnNumber d.tokens v.discriminant) (shape_variants shape)
+    by_shape (Struct shape) within = tt
+    by_shape (Enum variants) within = numbers_own d.tokens variants within

@@ -1,0 +1,369 @@
+-- What the match on a value of an enum comes to: its arm compares the fields that take part.
+use Rattle.std.proofs.Common.{◌≡◌, ◌≢◌, ◌≤◌, ◌^◌, ◌+◌, ℕ, zero, suc, Bool, true, false, List, [], ◌∷◌, ◌++◌, Option, Some, None, map, length, take, take_at, append-nil, refl, sym, ap, ◌∙◌, subst}
+use Rattle.std.specs.Prelude.{if◌then◌else◌, IsSome, slice_get, unwrap_or}
+use Rattle.std.specs.List.{AllByRecursion, AllZip}
+use Rattle.std.specs.Option.{option_map}
+use Rattle.std.proofs.lemmas.List.{length-map}
+use Rattle.std.proofs.lemmas.Option.{same_Some}
+use Rattle.std.proofs.lemmas.Slice.Eq.{bytes_eq-Decides}
+use Rattle.educe_tokens.specs.declared.word.Word.{Word}
+use Rattle.educe_syntax.specs.DeriveInput.{DeriveInput}
+use Rattle.educe_syntax.specs.Few.{shape_variants, all_fields}
+use Rattle.educe_syntax.specs.Field.{Field}
+use Rattle.educe_syntax.specs.Ident.{Ident}
+use Rattle.educe_syntax.specs.Keywords.{unraw}
+use Rattle.educe_syntax.specs.Naming.{Named, ident_named, field_names, variant_names, AreApart}
+use Rattle.educe_syntax.specs.Shape.{Shape}
+use Rattle.educe_syntax.specs.Variant.{Variant}
+use Rattle.educe_attrs.specs.FieldSettings.{FieldSettings}
+use Rattle.educe_body.specs.declared.answers.Answers.{Answers}
+use Rattle.educe_body.specs.declared.comparison.Comparison.{Comparison}
+use Rattle.educe_body.specs.declared.comparison.Comparison.TheVariants.{PartialEq}
+use Rattle.educe_body.specs.declared.environment.Binding.{Binding}
+use Rattle.educe_body.specs.declared.environment.Env.{Env}
+use Rattle.educe_body.specs.declared.environment.Referent.{Referent}
+use Rattle.educe_body.specs.declared.environment.Referent.TheVariants.{Bound}
+use Rattle.educe_body.specs.declared.evaluator.Outcome.TheVariants.{Truth as OutcomeTruth}
+use Rattle.educe_body.specs.declared.flow.Flow.{Flow}
+use Rattle.educe_body.specs.declared.flow.Flow.TheVariants.{Gives, Returns, Stuck}
+use Rattle.educe_body.specs.declared.flow.Thing.TheVariants.{Nothing}
+use Rattle.educe_body.specs.declared.form.Arm.{Arm}
+use Rattle.educe_body.specs.declared.form.Form.{Form, IfLet}
+use Rattle.educe_body.specs.declared.form.Form as form
+use Rattle.educe_body.specs.declared.form.Known.TheVariants.{Truth}
+use Rattle.educe_body.specs.declared.pattern.Pattern.{Pattern}
+use Rattle.educe_body.specs.declared.pattern.PatternField.{PatternField}
+use Rattle.educe_body.specs.declared.value.FieldValue.{FieldValue}
+use Rattle.educe_body.specs.declared.value.Value.{Value}
+use Rattle.educe_body.specs.Keys.{AreDifferent, keys_from, binding_key}
+use Rattle.educe_body.specs.Laws.{KeysGive}
+use Rattle.educe_body.specs.Matching.{variant_of, is_named, fits, has_key, bound_to, fields_bound, bound_of, bindings_of}
+use Rattle.educe_body.specs.Meaning.{Scene, look_up, part_of, local_value, value_named, part_flow, with_value, go_on, leave, within, or_nothing, known_thing, form_value, list_value, held_list, taken, if_let_value, arms_list, outcome_of}
+use Rattle.educe_body.specs.Scoping.{IsApart}
+use Rattle.educe_body.proofs.Fields.{bytes_eq-differ}
+use Rattle.educe_laws.specs.Arms.{Names, AreNames, IsKey, IsBound, ArePatternFields, IsPattern, IsArm, IsMatch}
+use Rattle.educe_laws.specs.Blocks.{scene_of}
+use Rattle.educe_laws.specs.BodyLaws.{lawful_forms, lawful_keys}
+use Rattle.educe_laws.specs.Cases.{fields_in, shape_cases, case_of}
+use Rattle.educe_laws.specs.Comparing.{Compared, HasShape, says, neutral, compared_from, compared, differs, word_of}
+use Rattle.educe_laws.specs.Settings.{Kept, keeps, settings_of, kept_with, kept_from, kept_fields}
+use Rattle.educe_laws.specs.Steps.{bound}
+use Rattle.educe_laws.proofs.Elements.{In, In-all, In-found, map_at, each_in, each_map, each_mapped, each_weaker}
+use Rattle.educe_laws.proofs.Facts.{AreFit, IsOuter}
+use Rattle.educe_laws.proofs.Least.{first_where}
+use Rattle.educe_laws.proofs.Meanings.{each_in_order, fields_meaning, means_in_order, ended}
+use Rattle.educe_laws.proofs.Pairing.{Look, FieldsGive, part_in, seen, compared-seen, length_from_types}
+use Rattle.educe_laws.proofs.Stepping.{HasOwnPath, decided, steps-value, Reads, read_steps}
+use Rattle.educe_laws.proofs.Structs.{length_keys}
+use Rattle.educe_laws.proofs.Variables.{kept_key, fields_different, own_binding, with_variables, outer_apart, other_found, own_found, others_found, arm_apart}
+
+-- ---- what a pattern binds
+
+-- the key of a field of a pattern is that of the variant's field
+key_fits : (ident : Option Ident) (key : Option Word) → IsKey ident key → has_key key ident ≡ true
+key_fits None None is = refl
+key_fits None (Some key) is = absurd is
+key_fits (Some ident) None is = absurd is
+key_fits (Some ident) (Some key) is = (bytes_eq-Decides ident.text key.text).1 (sym is)
+
+module _ (prefix : List ℕ) (look : Look) where
+  -- a field is bound to its variable if it takes part
+  binds_one : (s : FieldSettings) (keeps : Bool) (place : ℕ) (f : Field) (x : FieldValue) (kept : List Kept) (name : Option Ident) → IsBound keeps (prefix ++ binding_key place f) name
+      → look place f ≡ Some x → bound_to name x (map (own_binding prefix look) kept) ≡ map (own_binding prefix look) (if keeps then kept_with s place f ∷ kept else kept)
+  binds_one s false place f x kept name is at = ap (λ (name : Option Ident). bound_to name x (map (own_binding prefix look) kept)) is
+  binds_one s true place f x kept None is at = absurd is
+  binds_one s true place f x kept (Some name) is at = λ i. record { name = is.is i; referent = Bound (part_in (sym at i)) } ∷ map (own_binding prefix look) kept
+
+  -- the fields that take part are bound to their variables
+  pub binds : (which : Comparison) (d : DeriveInput) (place : ℕ) (fs : List Field) (xs : List FieldValue) (ps : List PatternField) → FieldsGive look place fs xs
+      → ArePatternFields prefix place fs (map (settings_of which d) fs) ps → fields_bound fs ps xs ≡ Some (map (own_binding prefix look) (kept_from which d place fs))
+  binds which d place [] [] [] give are = refl
+  binds which d place [] [] (p ∷ ps) give are = absurd are
+  binds which d place [] (x ∷ xs) ps give are = absurd give
+  binds which d place (f ∷ fs) [] ps give are = absurd give
+  binds which d place (f ∷ fs) (x ∷ xs) [] give are = absurd are
+  binds which d place (f ∷ fs) (x ∷ xs) (p ∷ ps) give are =
+      ap (λ (b : Bool). if b then option_map (bound_to p.name x) (fields_bound fs ps xs) else None) (key_fits f.ident p.key are.0.key_is)
+      ∙ ap (option_map (bound_to p.name x)) (binds which d (place + 1) fs xs ps give.1 are.1)
+      ∙ ap Some (binds_one (settings_of which d f) (keeps (settings_of which d f)) place f x (kept_from which d (place + 1) fs) p.name are.0.name_is give.0)
+
+  -- so a pattern binds them of a value of its variant
+  pattern_binds : (which : Comparison) (d : DeriveInput) (v : Variant) (value : Value) (pattern : Pattern) → variant_of d value ≡ Some v → FieldsGive look 0 (fields_in v) value.fields
+      → IsPattern which d prefix v pattern → bindings_of d pattern value ≡ Some (map (own_binding prefix look) (kept_from which d 0 (fields_in v)))
+  pattern_binds which d v value pattern found give is =
+      ap (λ (o : Option Variant). bound_of o pattern value) found
+      ∙ ap (λ (b : Bool). if b then Some [] else fields_bound (fields_in v) pattern.fields value.fields) is.whole
+      ∙ binds which d 0 (fields_in v) value.fields pattern.fields give is.fields_are
+
+-- ---- the variant of a value
+
+-- the look-up of the fields of a variant by their keys without `r#`
+abbrev pub look_in : Variant → Value → Look
+look_in v value place f = part_of (map unraw (keys_from 0 (fields_in v))) value.fields (binding_key place f)
+
+-- what keys give without `r#`, the fields of these keys have
+fields_give : (look : List ℕ → Option FieldValue) (place : ℕ) (fs : List Field) (xs : List FieldValue) → KeysGive look (map unraw (keys_from place fs)) xs
+    → FieldsGive (λ place f. look (binding_key place f)) place fs xs
+fields_give look place [] [] give = tt
+fields_give look place [] (x ∷ xs) give = absurd give
+fields_give look place (f ∷ fs) [] give = absurd give
+fields_give look place (f ∷ fs) (x ∷ xs) give = (give.0, fields_give look (place + 1) fs xs give.1)
+
+-- the value is of this variant, whose fields have names that are apart; and by their keys these have the fields of the value
+pub record IsOf (d : DeriveInput) (variants : List Variant) (value : Value) : Type 0 where
+  pub variant : Variant
+  pub at : slice_get variants value.variant ≡ Some variant
+  pub found : variant_of d value ≡ Some variant
+  pub inside : In variant variants
+  pub case_is : case_of d value ≡ fields_in variant
+  pub names : AreApart (field_names (fields_in variant))
+  pub few : length (fields_in variant) ≤ 2 ^ 64
+  pub give : FieldsGive (look_in variant value) 0 (fields_in variant) value.fields
+
+-- a value that has the shape of an enum is of one of its variants
+pub is_of : (which : Comparison) (d : DeriveInput) (variants : List Variant) → AreFit which d variants → (value : Value) → HasShape d value → IsOf d variants value
+is_of which d variants fit value shape =
+    let there = map_at fields_in variants value.variant shape.fields (ap (λ (s : Shape). slice_get (shape_cases s) value.variant) (sym fit.is) ∙ shape.exists) in
+    let v = there.0 in
+    let fs = fields_in v in
+    let inside : In v variants = In-found variants value.variant v there.1 in
+    let names = In-all (λ (v : Variant). AreApart (field_names (fields_in v))) variants v fit.fields inside in
+    let few = In-all (λ (v : Variant). length (fields_in v) ≤ 2 ^ 64) variants v fit.few inside in
+    let long : length (map unraw (keys_from 0 fs)) ≡ length value.fields =
+    length-map (keys_from 0 fs) unraw ∙ length_keys 0 fs ∙ ap length there.2 ∙ length_from_types (all_fields d) shape.fields value.fields shape.types in
+    record {
+      variant = v;
+      at = there.1;
+      found = ap (λ (s : Shape). slice_get (shape_variants s) value.variant) fit.is ∙ there.1;
+      inside = inside;
+      case_is = ap (λ (o : Option (List Field)). unwrap_or o []) shape.exists ∙ sym there.2;
+      names = names;
+      few = few;
+      give = fields_give (part_of (map unraw (keys_from 0 fs)) value.fields) 0 fs value.fields
+          (lawful_keys.select (map unraw (keys_from 0 fs)) value.fields (lawful_keys.apart fs names few) long);
+    }
+
+-- ---- the arm of a variant
+
+-- the first variant has another name than a later one
+pub apart_first : (w : Variant) (vs : List Variant) (k : ℕ) (v : Variant) → AllByRecursion (λ (later : Named). unraw w.ident.text ≢ unraw later.text) (variant_names vs) → slice_get vs k ≡ Some v
+    → unraw w.ident.text ≢ unraw v.ident.text
+apart_first w vs k v apart at =
+    In-all (λ (v : Variant). unraw w.ident.text ≢ unraw v.ident.text) vs v (each_map (λ (later : Named). unraw w.ident.text ≢ unraw later.text) (λ (v : Variant). ident_named v.ident) vs apart)
+    (In-found vs k v at)
+
+-- variants at different places have different names
+apart_at : (vs : List Variant) (k j : ℕ) (v w : Variant) → AreApart (variant_names vs) → slice_get vs k ≡ Some v → slice_get vs j ≡ Some w → k ≢ j → unraw v.ident.text ≢ unraw w.ident.text
+apart_at [] k j v w apart at there differ = absurd (cc)
+apart_at (x ∷ vs) zero zero v w apart at there differ = absurd (differ refl)
+apart_at (x ∷ vs) zero (suc j) v w apart at there differ = subst (λ (y : Variant). unraw y.ident.text ≢ unraw w.ident.text) (same_Some x v at) (apart_first x vs j w apart.0 there)
+apart_at (x ∷ vs) (suc k) zero v w apart at there differ =
+    subst (λ (y : Variant). unraw v.ident.text ≢ unraw y.ident.text) (same_Some x w there) (λ same. apart_first x vs k v apart.0 at (sym same))
+apart_at (x ∷ vs) (suc k) (suc j) v w apart at there differ = apart_at vs k j v w apart.1 at there (λ same. differ (ap suc same))
+
+module _ (d : DeriveInput) (value : Value) (v : Variant) (found : variant_of d value ≡ Some v) where
+  -- a value fits the patterns of its variant
+  pub fits_own : (pattern : Pattern) → pattern.variant ≡ v.ident → fits d pattern value ≡ true
+  fits_own pattern is = ap (is_named pattern.variant.text) found ∙ (bytes_eq-Decides v.ident.text pattern.variant.text).1 (sym (ap (λ (i : Ident). i.text) is))
+
+  -- and none of a variant of another name
+  pub fits_no_other : (w : Variant) (pattern : Pattern) → pattern.variant ≡ w.ident → unraw w.ident.text ≢ unraw v.ident.text → fits d pattern value ≡ false
+  fits_no_other w pattern is apart =
+      ap (is_named pattern.variant.text) found ∙ bytes_eq-differ v.ident.text pattern.variant.text (λ same. apart (ap unraw (sym (same ∙ ap (λ (i : Ident). i.text) is))))
+
+module _ (which : Comparison) (names : Names) (scene : Scene) (env : Env) (value : Value) (v : Variant) (found : variant_of scene.definition value ≡ Some v) where
+  -- the first arm, if it fits, or the others
+  abbrev picks : Arm → List Arm → Bool → Flow
+  picks arm arms b = if b then taken scene env arm.pattern value arm.block else arms_list scene env arms value
+
+  -- the arm of the variant, which is taken for the value
+  record IsTaken (arms : List Arm) : Type 0 where
+    arm : Arm
+    is : IsArm which scene.definition names v arm
+    value_is : arms_list scene env arms value ≡ taken scene env arm.pattern value arm.block
+
+  -- it is among the arms
+  arm_at : (vs : List Variant) (arms : List Arm) (k : ℕ) → AllZip (IsArm which scene.definition names) vs arms → AreApart (variant_names vs) → slice_get vs k ≡ Some v → IsTaken arms
+  arm_at [] arms k are apart at = absurd (cc)
+  arm_at (w ∷ vs) [] k are apart at = absurd are
+  arm_at (w ∷ vs) (arm ∷ arms) zero are apart at =
+      let is = subst (λ (v : Variant). IsArm which scene.definition names v arm) (same_Some w v at) are.0 in
+      record { arm = arm; is = is; value_is = ap (picks arm arms) (fits_own scene.definition value v found arm.pattern is.own_is.variant_is) }
+  arm_at (w ∷ vs) (arm ∷ arms) (suc k) are apart at =
+      let later = arm_at vs arms k are.1 apart.1 at in
+      let past = fits_no_other scene.definition value v found w arm.pattern are.0.own_is.variant_is (apart_first w vs k v apart.0 at) in
+      record { arm = later.arm; is = later.is; value_is = ap (picks arm arms) past ∙ later.value_is }
+
+-- ---- what an arm comes to
+
+-- nothing follows the last form
+pub go_on-end : (flow : Flow) → go_on flow (λ env thing. Gives env thing) ≡ flow
+go_on-end (Gives env thing) = refl
+go_on-end (Returns env thing) = refl
+go_on-end Stuck = refl
+
+module _ (which : Comparison) (d : DeriveInput) (table : Answers) (a b : Value) (names : Names) (are : AreNames d names) (outer : List Binding) (around : IsOuter names outer) where
+  -- the scene, and the names around the match, which hide no word of the definition
+  abbrev scene : Scene
+  scene = scene_of d a b table
+
+  abbrev env : Env
+  env = record { names = outer }
+
+  abbrev env_apart : AllByRecursion (IsApart d.tokens) outer
+  env_apart = outer_apart d names are outer around.known
+
+  module _ (kept : List Kept) (differ : AreDifferent (map kept_key kept)) (look_a look_b : Look) where
+    -- the names behind the pattern for the first value, and behind that for the second
+    abbrev own_env : Env
+    own_env = record { names = with_variables outer names.own look_a kept }
+
+    abbrev arm_env : Env
+    arm_env = record { names = with_variables own_env.names names.others look_b kept }
+
+    abbrev apart : AllByRecursion (IsApart d.tokens) arm_env.names
+    apart = arm_apart d names are kept differ outer around look_a look_b
+
+    -- the variables for the first value give the values of their fields
+    reads_own : (k : Kept) → In k kept → Reads scene arm_env d.tokens apart which (bound names.own) (bound names.others) look_a look_b (bound names.own) look_a k
+    reads_own k found x r =
+        ap (form_value scene arm_env) r.is ∙ ap (λ (text : List ℕ). part_flow arm_env (local_value scene (look_up arm_env.names text))) r.name_is
+        ∙ ap (λ (o : Option Referent). part_flow arm_env (local_value scene o)) (own_found d names are kept differ outer around look_a look_b k found)
+
+    -- so do those for the second value
+    reads_others : (k : Kept) → In k kept → Reads scene arm_env d.tokens apart which (bound names.own) (bound names.others) look_a look_b (bound names.others) look_b k
+    reads_others k found x r =
+        ap (form_value scene arm_env) r.is ∙ ap (λ (text : List ℕ). part_flow arm_env (local_value scene (look_up arm_env.names text))) r.name_is
+        ∙ ap (λ (o : Option Referent). part_flow arm_env (local_value scene o)) (others_found d names are kept differ outer around look_a look_b k found)
+
+    -- the names end with the block
+    cut : take (length outer) (take (length own_env.names) arm_env.names) ≡ outer
+    cut =
+        ap (take (length outer)) (take_at own_env.names (map (own_binding names.others look_b) kept) (length own_env.names) refl)
+        ∙ take_at outer (map (own_binding names.own look_a) kept) (length outer) refl
+
+    -- what is decided is so outside
+    left : (o : Option Compared) → leave outer (leave own_env.names (decided scene arm_env d.tokens apart which o)) ≡ decided scene env d.tokens env_apart which o
+    left None = λ i. Gives (record { names = cut i }) Nothing
+    left (Some c) = λ i. Returns (record { names = cut i }) (known_thing (word_of which table c))
+
+    module _ (v : Variant) (arm : Arm) (is : IsArm which d names v arm) (binds_a : bindings_of d arm.pattern a ≡ Some (map (own_binding names.own look_a) kept)) where
+      -- an arm is its `if let` on the second value
+      arm_is : taken scene env arm.pattern a arm.block ≡ leave outer (if_let_value scene own_env is.inner is.steps is.others b)
+      arm_is =
+          let next = if_let_value scene own_env is.inner is.steps is.others in
+          ap (λ (o : Option (List Binding)). within env o (λ inner. list_value scene inner Nothing arm.block)) binds_a
+          ∙ ap (λ (block : List Form). leave outer (list_value scene own_env Nothing block)) is.block_is
+          ∙ ap (leave outer) (go_on-end (form_value scene own_env (IfLet is.inner is.value is.steps is.others))
+          ∙ lawful_forms.if_let scene own_env is.inner is.value is.steps is.others
+          ∙ ap (λ (text : List ℕ). with_value (value_named scene (look_up own_env.names text)) next) is.value_is.is
+          ∙ ap (λ (o : Option Referent). with_value (value_named scene o) next) (other_found d names are kept differ outer around look_a look_b))
+
+      -- the steps, if the second value fits the inner pattern, or the `else`
+      abbrev inner_or_else : Bool → Flow
+      inner_or_else t = if t then taken scene own_env is.inner b is.steps else or_nothing own_env (held_list scene is.others)
+
+      -- where that is of another variant, the arm comes to its `else`
+      arm_differs : fits d is.inner b ≡ false → taken scene env arm.pattern a arm.block ≡ leave outer (or_nothing own_env (held_list scene is.others))
+      arm_differs fails = arm_is ∙ ap (λ (t : Bool). leave outer (inner_or_else t)) fails
+
+      module _ (inside : AllByRecursion (λ k. In k kept) is.ordered) (named : AllByRecursion (λ k. HasOwnPath d.tokens k.how) is.ordered)
+          (known : AllByRecursion (λ c. IsSome (says which table c)) (map (seen look_a look_b) is.ordered)) where
+        -- the first field, in the order of the steps, that tells the two values apart
+        abbrev first : Option Compared
+        first = first_where (differs which table) (map (seen look_a look_b) is.ordered)
+
+        -- its steps go on, or return what the first field says that tells the two values apart
+        steps_value : list_value scene arm_env Nothing is.steps ≡ decided scene arm_env d.tokens apart which first
+        steps_value =
+            let own = bound names.own in
+            let others = bound names.others in
+            let reads_a = each_weaker (λ k. In k kept) (Reads scene arm_env d.tokens apart which own others look_a look_b own look_a) reads_own is.ordered inside in
+            let reads_b = each_weaker (λ k. In k kept) (Reads scene arm_env d.tokens apart which own others look_a look_b others look_b) reads_others is.ordered inside in
+            ap (list_value scene arm_env Nothing) (sym (append-nil is.steps))
+            ∙ steps-value scene arm_env d.tokens apart which [] (map (seen look_a look_b) is.ordered) is.steps
+            (read_steps scene arm_env d.tokens apart which own others look_a look_b is.ordered is.steps is.steps_are named reads_a reads_b) known
+            ∙ go_on-end (decided scene arm_env d.tokens apart which first)
+
+        -- so does the arm where the second value is of the same variant
+        arm_same : fits d is.inner b ≡ true → bindings_of d is.inner b ≡ Some (map (own_binding names.others look_b) kept)
+            → taken scene env arm.pattern a arm.block ≡ decided scene env d.tokens env_apart which first
+        arm_same passes binds_b =
+            arm_is ∙ ap (λ (t : Bool). leave outer (inner_or_else t)) passes
+            ∙ ap (λ (o : Option (List Binding)). leave outer (within own_env o (λ inner. list_value scene inner Nothing is.steps))) binds_b
+            ∙ ap (λ (flow : Flow). leave outer (leave own_env.names flow)) steps_value ∙ left first
+
+  -- ---- the match
+
+  module _ (variants : List Variant) (block : List Form) (m : IsMatch which d names variants block) where
+    -- what follows the match
+    abbrev then_neutral : Flow → Flow
+    then_neutral flow = go_on flow (λ env thing. list_value scene env thing (form.Known (neutral which) ∷ []))
+
+    -- a match on `self` comes to the arms, and then to what is answered where none returned
+    matched : list_value scene env Nothing block ≡ then_neutral (arms_list scene env m.arms a)
+    matched =
+        ap (list_value scene env Nothing) m.block_is
+        ∙ ap then_neutral (lawful_forms.match_value scene env m.value m.arms
+        ∙ ap (λ (text : List ℕ). with_value (value_named scene (look_up outer text)) (arms_list scene env m.arms)) m.value_is.is
+        ∙ ap (λ (o : Option Referent). with_value (value_named scene o) (arms_list scene env m.arms)) around.own)
+
+-- on two values of one variant, a match means what the fields that take part mean
+pub match_same : (which : Comparison) (d : DeriveInput) (table : Answers) (a b : Value) (names : Names) (variants : List Variant) → AreNames d names → AreFit which d variants
+    → (outer : List Binding) → IsOuter names outer → (block : List Form) → IsMatch which d names variants block → HasShape d a → HasShape d b → a.variant ≡ b.variant
+    → AllByRecursion (λ c. IsSome (says which table c)) (compared which d a b)
+    → outcome_of (list_value (scene_of d a b table) (record { names = outer }) Nothing block) ≡ fields_meaning which table (compared which d a b)
+match_same which d table a b names variants are fit outer around block m shape_a shape_b same known =
+    let sc = scene_of d a b table in
+    let outside : Env = record { names = outer } in
+    let of_a = is_of which d variants fit a shape_a in
+    let of_b = is_of which d variants fit b shape_b in
+    let v = of_a.variant in
+    let fs = fields_in v in
+    let kept = kept_fields which d fs in
+    let one : of_b.variant ≡ v = same_Some of_b.variant v (sym of_b.at ∙ ap (slice_get variants) (sym same) ∙ of_a.at) in
+    let found_b : variant_of d b ≡ Some v = of_b.found ∙ ap Some one in
+    let look_a = look_in v a in
+    let look_b = look_in v b in
+    let give_b : FieldsGive look_b 0 fs b.fields = subst (λ (v : Variant). FieldsGive (look_in v b) 0 (fields_in v) b.fields) one of_b.give in
+    let differ = fields_different which d fs of_a.names of_a.few in
+    let picked = arm_at which names sc outside a v of_a.found variants m.arms a.variant m.arms_are fit.names of_a.at in
+    let is = picked.is in
+    let paired : compared which d a b ≡ map (seen look_a look_b) kept =
+    ap (λ (own : List Field). compared_from which d 0 own a.fields b.fields) of_a.case_is ∙ compared-seen look_a look_b which d 0 fs a.fields b.fields of_a.give give_b in
+    let Known : Compared → Type 0 = λ c. IsSome (says which table c) in
+    let each = each_map Known (seen look_a look_b) kept (subst (AllByRecursion Known) paired known) in
+    let named = In-all (λ (v : Variant). AllByRecursion (λ k. HasOwnPath d.tokens k.how) (kept_fields which d (fields_in v))) variants v fit.methods of_a.inside in
+    let arm_value = arm_same which d table a b names are outer around kept differ look_a look_b v picked.arm is
+    (pattern_binds names.own look_a which d v a picked.arm.pattern of_a.found of_a.give is.own_is)
+    (each_in_order which (λ k. In k kept) kept is.ordered is.ordered_is (each_in kept)) (each_in_order which (λ k. HasOwnPath d.tokens k.how) kept is.ordered is.ordered_is named)
+    (each_mapped Known (seen look_a look_b) is.ordered (each_in_order which (λ k. Known (seen look_a look_b k)) kept is.ordered is.ordered_is each))
+    (fits_own d b v found_b is.inner is.inner_is.variant_is) (pattern_binds names.others look_b which d v b is.inner found_b give_b is.inner_is) in
+    ap outcome_of (matched which d table a b names are outer around variants block m
+    ∙ ap (then_neutral which d table a b names are outer around variants block m) (picked.value_is ∙ arm_value))
+    ∙ ended sc outside d.tokens (outer_apart d names are outer around.known) which (first_where (differs which table) (map (seen look_a look_b) is.ordered))
+    ∙ means_in_order which table look_a look_b kept is.ordered (compared which d a b) is.ordered_is paired known
+
+-- on values of two variants, the match of `eq` means false
+pub match_differs : (d : DeriveInput) (table : Answers) (a b : Value) (names : Names) (variants : List Variant) → AreNames d names → AreFit PartialEq d variants
+    → (outer : List Binding) → IsOuter names outer → (block : List Form) → IsMatch PartialEq d names variants block → HasShape d a → HasShape d b → (a.variant ≡ b.variant → ⊥)
+    → outcome_of (list_value (scene_of d a b table) (record { names = outer }) Nothing block) ≡ OutcomeTruth false
+match_differs d table a b names variants are fit outer around block m shape_a shape_b other =
+    let sc = scene_of d a b table in
+    let outside : Env = record { names = outer } in
+    let of_a = is_of PartialEq d variants fit a shape_a in
+    let of_b = is_of PartialEq d variants fit b shape_b in
+    let v = of_a.variant in
+    let kept = kept_fields PartialEq d (fields_in v) in
+    let look_a = look_in v a in
+    let differ = fields_different PartialEq d (fields_in v) of_a.names of_a.few in
+    let picked = arm_at PartialEq names sc outside a v of_a.found variants m.arms a.variant m.arms_are fit.names of_a.at in
+    let is = picked.is in
+    let fails = fits_no_other d b of_b.variant of_b.found v is.inner is.inner_is.variant_is (apart_at variants a.variant b.variant v of_b.variant fit.names of_a.at of_b.at other) in
+    let arm_value = arm_differs PartialEq d table a b names are outer around kept differ look_a look_a v picked.arm is
+    (pattern_binds names.own look_a PartialEq d v a picked.arm.pattern of_a.found of_a.give is.own_is) fails in
+    let own_env : Env = record { names = with_variables outer names.own look_a kept } in
+    let end : Flow → Flow = then_neutral PartialEq d table a b names are outer around variants block m in
+    ap outcome_of (matched PartialEq d table a b names are outer around variants block m ∙ ap end (picked.value_is ∙ arm_value)
+    ∙ ap (λ (o : Option (List Form)). end (leave outer (or_nothing own_env (held_list sc o)))) is.others_are
+    ∙ ap (λ (flow : Flow). end (leave outer (leave own_env.names (go_on flow (λ env thing. Gives env thing))))) (lawful_forms.returned sc own_env (form.Known (Truth false))))

@@ -1,0 +1,76 @@
+-- Fields that take part, with the values that a way to look them up gives.
+use Rattle.std.proofs.Common.{◌≡◌, ℕ, suc, ◌+◌, Bool, true, false, List, [], ◌∷◌, Option, Some, map, length, refl, sym, ap, ◌∙◌, pos}
+use Rattle.std.specs.Prelude.{if◌then◌else◌, unwrap_or}
+use Rattle.std.specs.List.{AllByRecursion}
+use Rattle.educe_syntax.specs.Field.{Field}
+use Rattle.educe_syntax.specs.DeriveInput.{DeriveInput}
+use Rattle.educe_body.specs.declared.comparison.Comparison.{Comparison}
+use Rattle.educe_body.specs.declared.value.FieldValue.{FieldValue}
+use Rattle.educe_laws.specs.Settings.{Kept, is_kept, kept_at, kept_from}
+use Rattle.educe_laws.specs.Comparing.{Compared, compared_from, HaveTypes}
+
+-- the field value that a look-up gives
+abbrev pub part_in : Option FieldValue → FieldValue
+part_in found = unwrap_or found (record { ty = 0; number = pos 0 })
+
+-- a way to look up the value of the field at a place
+abbrev pub Look : Type 0
+Look = ℕ → Field → Option FieldValue
+
+-- by this look-up the fields, of which the first has this place, have these values, one for each
+abbrev pub FieldsGive : Look → ℕ → List Field → List FieldValue → Type 0
+FieldsGive look place [] [] = Unit {0}
+FieldsGive look place [] (x ∷ xs) = ⊥
+FieldsGive look place (f ∷ fs) [] = ⊥
+FieldsGive look place (f ∷ fs) (x ∷ xs) = (look place f ≡ Some x) × FieldsGive look (place + 1) fs xs
+
+-- the value of a field that takes part
+abbrev pub value_in : Look → Kept → FieldValue
+value_in look k = part_in (look k.place k.field)
+
+-- the look-up gives a value for the field
+abbrev pub IsGiven : Look → Kept → Type 0
+IsGiven look k = look k.place k.field ≡ Some (value_in look k)
+
+module _ (look_a look_b : Look) where
+  -- a field with its values in two values
+  abbrev pub seen : Kept → Compared
+  seen k = record { kept = k; first = value_in look_a k; second = value_in look_b k }
+
+  seen_step : (which : Comparison) (d : DeriveInput) (place : ℕ) (f : Field) (x y : FieldValue) (rest : List Compared) (kept : List Kept) (keeps : Bool)
+      → look_a place f ≡ Some x → look_b place f ≡ Some y → rest ≡ map seen kept
+      → (if keeps then record { kept = kept_at which d place f; first = x; second = y } ∷ rest else rest) ≡ map seen (if keeps then kept_at which d place f ∷ kept else kept)
+  seen_step which d place f x y rest kept true at_a at_b same = λ i. record { kept = kept_at which d place f; first = part_in (sym at_a i); second = part_in (sym at_b i) } ∷ same i
+  seen_step which d place f x y rest kept false at_a at_b same = same
+
+  -- the fields that take part in a comparison, with their values
+  pub compared-seen : (which : Comparison) (d : DeriveInput) (place : ℕ) (fs : List Field) (xs ys : List FieldValue) → FieldsGive look_a place fs xs → FieldsGive look_b place fs ys
+      → compared_from which d place fs xs ys ≡ map seen (kept_from which d place fs)
+  compared-seen which d place [] xs ys give_a give_b = refl
+  compared-seen which d place (f ∷ fs) [] ys give_a give_b = absurd give_a
+  compared-seen which d place (f ∷ fs) (x ∷ xs) [] give_a give_b = absurd give_b
+  compared-seen which d place (f ∷ fs) (x ∷ xs) (y ∷ ys) give_a give_b =
+      seen_step which d place f x y (compared_from which d (place + 1) fs xs ys) (kept_from which d (place + 1) fs) (is_kept which d f) give_a.0 give_b.0
+      (compared-seen which d (place + 1) fs xs ys give_a.1 give_b.1)
+
+given_one : (look : Look) (place : ℕ) (f : Field) (x : FieldValue) → look place f ≡ Some x → look place f ≡ Some (part_in (look place f))
+given_one look place f x at = at ∙ ap (λ found. Some (part_in found)) (sym at)
+
+given_step : (look : Look) (which : Comparison) (d : DeriveInput) (place : ℕ) (f : Field) (x : FieldValue) (kept : List Kept) (keeps : Bool) → look place f ≡ Some x
+    → AllByRecursion (IsGiven look) kept → AllByRecursion (IsGiven look) (if keeps then kept_at which d place f ∷ kept else kept)
+given_step look which d place f x kept true at given = (given_one look place f x at, given)
+given_step look which d place f x kept false at given = given
+
+-- each field that takes part has a value
+pub each_given : (look : Look) (which : Comparison) (d : DeriveInput) (place : ℕ) (fs : List Field) (xs : List FieldValue) → FieldsGive look place fs xs
+    → AllByRecursion (IsGiven look) (kept_from which d place fs)
+each_given look which d place [] xs give = tt
+each_given look which d place (f ∷ fs) [] give = absurd give
+each_given look which d place (f ∷ fs) (x ∷ xs) give = given_step look which d place f x (kept_from which d (place + 1) fs) (is_kept which d f) give.0 (each_given look which d (place + 1) fs xs give.1)
+
+-- as many values as fields
+pub length_from_types : (all fs : List Field) (xs : List FieldValue) → HaveTypes all fs xs → length fs ≡ length xs
+length_from_types all [] [] h = refl
+length_from_types all [] (x ∷ xs) h = absurd h
+length_from_types all (f ∷ fs) [] h = absurd h
+length_from_types all (f ∷ fs) (x ∷ xs) h = ap suc (length_from_types all fs xs h.1)

@@ -1,0 +1,189 @@
+-- What the bodies of the comparisons of structs evaluate to.
+use Rattle.std.proofs.Common.{◌≡◌, ◌≢◌, ℕ, zero, suc, ◌+◌, Bool, false, List, [], ◌∷◌, ◌++◌, Option, Some, None, map, length, refl, sym, ap, ◌∙◌, subst}
+use Rattle.std.specs.Prelude.{if◌then◌else◌, IsSome, codes, slice_get, unwrap_or}
+use Rattle.std.specs.List.{AllByRecursion}
+use Rattle.std.specs.Str.{bytes_eq}
+use Rattle.std.proofs.lemmas.Bool.{true≢false}
+use Rattle.std.proofs.lemmas.Option.{same_Some}
+use Rattle.std.proofs.lemmas.Slice.Eq.{bytes_eq-Decides}
+use Rattle.educe_syntax.specs.Field.{Field}
+use Rattle.educe_syntax.specs.FieldShape.{FieldShape}
+use Rattle.educe_syntax.specs.DeriveInput.{DeriveInput}
+use Rattle.educe_syntax.specs.Keywords.{unraw}
+use Rattle.educe_syntax.specs.Few.{shape_variants, all_fields}
+use Rattle.educe_syntax.specs.Shape.{Shape}
+use Rattle.educe_syntax.specs.Shape.TheVariants.{Struct}
+use Rattle.educe_body.specs.declared.comparison.Comparison.{Comparison}
+use Rattle.educe_body.specs.declared.value.FieldValue.{FieldValue}
+use Rattle.educe_body.specs.declared.value.Value.{Value}
+use Rattle.educe_body.specs.declared.answers.Answers.{Answers}
+use Rattle.educe_body.specs.declared.body.Body.{Body}
+use Rattle.educe_body.specs.declared.environment.Binding.{Binding}
+use Rattle.educe_body.specs.declared.environment.Env.{Env}
+use Rattle.educe_body.specs.declared.environment.Referent.{Referent}
+use Rattle.educe_body.specs.declared.environment.Referent.TheVariants.{This, Other}
+use Rattle.educe_body.specs.declared.flow.Flow.TheVariants.{Gives}
+use Rattle.educe_body.specs.declared.flow.Thing.TheVariants.{Nothing, Part}
+use Rattle.educe_body.specs.declared.form.Form.{Form}
+use Rattle.educe_body.specs.declared.form.Form as form
+use Rattle.educe_body.specs.Chosen.{underscored}
+use Rattle.educe_body.specs.Keys.{AreDifferent, key_of, keys_from, shape_fields, fields_of, keys_of}
+use Rattle.educe_body.specs.Laws.{KeysGive}
+use Rattle.educe_body.specs.Meaning.{Scene, start, innermost, look_up, part_of, part_flow, reference_value, form_value, list_value, outcome_of}
+use Rattle.educe_body.specs.Scoping.{IsApart, own_self, apart}
+use Rattle.educe_body.specs.Words.{HasWord}
+use Rattle.educe_laws.specs.Settings.{Kept, kept_fields}
+use Rattle.educe_laws.specs.Cases.{shape_cases, cases_of, case_of}
+use Rattle.educe_laws.specs.Comparing.{Compared, compared_from, compared, says, neutral, differs, answered, outcome, number_order}
+use Rattle.educe_laws.specs.Discriminants.{counted_from, discriminant, flat, discriminant_of}
+use Rattle.educe_laws.specs.BodyLaws.{lawful_keys}
+use Rattle.educe_laws.specs.Blocks.{IsParameter, IsStructBody, Evaluates, scene_of}
+use Rattle.educe_laws.specs.Steps.{of_base, IsReference, AreSteps}
+use Rattle.educe_laws.proofs.Elements.{each_map, each_mapped, each_weaker}
+use Rattle.educe_laws.proofs.Least.{first_where}
+use Rattle.educe_laws.proofs.Meanings.{each_in_order, means_in_order, same_case, ended}
+use Rattle.educe_laws.proofs.Pairing.{Look, FieldsGive, value_in, IsGiven, seen, compared-seen, each_given, length_from_types}
+use Rattle.educe_laws.proofs.Stepping.{HasOwnPath, steps-value, Reads, read_steps}
+
+-- ---- the parameter
+
+-- what begins with `_` has no `r#`
+pub unraw_mark : (text : List ℕ) → unraw (95 ∷ text) ≡ 95 ∷ text
+unraw_mark [] = refl
+unraw_mark (c ∷ cs) = refl
+
+-- behind `_` a name has no `r#` if it has none without
+pub unraw_behind : (count : ℕ) (text : List ℕ) → unraw text ≡ text → unraw (underscored count text) ≡ underscored count text
+unraw_behind zero text plain = plain
+unraw_behind (suc count) text plain = unraw_mark (underscored count text)
+
+-- behind `_` a name is told apart from `self` if it is without
+pub behind_not_self : (count : ℕ) (text : List ℕ) → bytes_eq text (codes "self") ≡ false → bytes_eq (underscored count text) (codes "self") ≡ false
+behind_not_self zero text differs = differs
+behind_not_self (suc count) text differs = refl
+
+-- what is told apart from `self` is another text
+pub not_self : (text : List ℕ) → bytes_eq text (codes "self") ≡ false → text ≢ codes "self"
+not_self text differs same = true≢false (sym ((bytes_eq-Decides text (codes "self")).1 same) ∙ differs)
+
+-- the names in the scope of a function are two, and the one that is chosen is no word of the input
+pub scope_apart : (d : DeriveInput) (name : List ℕ) → IsParameter d name → (name ≢ codes "self") × (HasWord d.tokens name → ⊥)
+scope_apart d name is = (
+  not_self name (ap (λ text. bytes_eq text (codes "self")) is.is ∙ behind_not_self is.count (codes "other") refl),
+  is.no_word,
+)
+
+-- the names in scope as a function of this parameter begins
+abbrev pub names_for : List ℕ → List Binding
+names_for param = record { name = codes "self"; referent = This } ∷ record { name = param; referent = Other } ∷ []
+
+module _ (d : DeriveInput) (a b : Value) (table : Answers) (param : List ℕ) (is : IsParameter d param) where
+  abbrev scene : Scene
+  scene = scene_of d a b table
+
+  abbrev env : Env
+  env = record { names = names_for param }
+
+  -- the values of a field, by its key
+  abbrev look_a : Look
+  look_a place f = part_of (keys_of d) a.fields (key_of place f)
+
+  abbrev look_b : Look
+  look_b place f = part_of (keys_of d) b.fields (key_of place f)
+
+  self_found : look_up env.names (codes "self") ≡ Some This
+  self_found =
+      ap (λ (b : Bool). innermost (Some This) (innermost (if b then Some Other else None) None))
+      (ap (λ text. bytes_eq text (codes "self")) is.is ∙ behind_not_self is.count (codes "other") refl)
+
+  other_found : look_up env.names param ≡ Some Other
+  other_found =
+      ap (λ (b : Bool). innermost (if bytes_eq (codes "self") param then Some This else None) (innermost (if b then Some Other else None) None))
+      ((bytes_eq-Decides param param).1 refl)
+
+  -- no name in scope is a word of the input, `self` aside
+  names_apart : AllByRecursion (IsApart d.tokens) env.names
+  names_apart =
+      let plain : unraw param ≡ param = ap unraw is.is ∙ unraw_behind is.count (codes "other") refl ∙ sym is.is in
+      (own_self refl, (apart (λ has. is.no_word (subst (HasWord d.tokens) plain has)), tt))
+
+  -- a reference gives the field of the value that its base stands for
+  reads_own : (k : Kept) → IsGiven look_a k → (x : Form) → IsReference (codes "self") k.place k.field x → form_value scene env x ≡ Gives env (Part (value_in look_a k))
+  reads_own k given x r =
+      ap (form_value scene env) r.is ∙ (λ i. part_flow env (reference_value scene (look_up env.names (r.base_is i)) (r.key_is i)))
+      ∙ ap (λ (o : Option Referent). part_flow env (reference_value scene o (key_of k.place k.field))) self_found ∙ ap (part_flow env) given
+
+  reads_others : (k : Kept) → IsGiven look_b k → (x : Form) → IsReference param k.place k.field x → form_value scene env x ≡ Gives env (Part (value_in look_b k))
+  reads_others k given x r =
+      ap (form_value scene env) r.is ∙ (λ i. part_flow env (reference_value scene (look_up env.names (r.base_is i)) (r.key_is i)))
+      ∙ ap (λ (o : Option Referent). part_flow env (reference_value scene o (key_of k.place k.field))) other_found ∙ ap (part_flow env) given
+
+  -- the steps of the function, and what is answered where none returned
+  steps_value : (which : Comparison) (ks : List Kept) (steps : List Form) → AreSteps which (of_base (codes "self")) (of_base param) ks steps → AllByRecursion (λ k. HasOwnPath d.tokens k.how) ks
+      → AllByRecursion (IsGiven look_a) ks → AllByRecursion (IsGiven look_b) ks → AllByRecursion (λ c. IsSome (says which table c)) (map (seen look_a look_b) ks)
+      → outcome_of (list_value scene env Nothing (steps ++ form.Known (neutral which) ∷ [])) ≡ outcome (answered which table (first_where (differs which table) (map (seen look_a look_b) ks)))
+  steps_value which ks steps are named given_a given_b known =
+      let own = of_base (codes "self") in
+      let others = of_base param in
+      let reads_a = each_weaker (IsGiven look_a) (Reads scene env d.tokens names_apart which own others look_a look_b own look_a) reads_own ks given_a in
+      let reads_b = each_weaker (IsGiven look_b) (Reads scene env d.tokens names_apart which own others look_a look_b others look_b) reads_others ks given_b in
+      ap outcome_of (steps-value scene env d.tokens names_apart which (form.Known (neutral which) ∷ []) (map (seen look_a look_b) ks) steps
+      (read_steps scene env d.tokens names_apart which own others look_a look_b ks steps are named reads_a reads_b) known)
+      ∙ ended scene env d.tokens names_apart which (first_where (differs which table) (map (seen look_a look_b) ks))
+
+-- ---- the values of a struct
+
+-- as many keys as fields
+pub length_keys : (place : ℕ) (fs : List Field) → length (keys_from place fs) ≡ length fs
+length_keys place [] = refl
+length_keys place (f ∷ fs) = ap suc (length_keys (place + 1) fs)
+
+-- what keys give, the fields of these keys have
+fields_give : (look : List ℕ → Option FieldValue) (place : ℕ) (fs : List Field) (xs : List FieldValue) → KeysGive look (keys_from place fs) xs → FieldsGive (λ place f. look (key_of place f)) place fs xs
+fields_give look place [] [] give = tt
+fields_give look place [] (x ∷ xs) give = absurd give
+fields_give look place (f ∷ fs) [] give = absurd give
+fields_give look place (f ∷ fs) (x ∷ xs) give = (give.0, fields_give look (place + 1) fs xs give.1)
+
+-- there is one case
+one_case : (fs found : List Field) (n : ℕ) → slice_get (fs ∷ []) n ≡ Some found → (n ≡ 0) × (found ≡ fs)
+one_case fs found zero at = (refl, sym (same_Some fs found at))
+one_case fs found (suc n) at = absurd (cc)
+
+-- the identifiers of methods are words of the definition
+abbrev pub HaveOwnMethods : Comparison → DeriveInput → List Field → Type 0
+HaveOwnMethods which d fields = AllByRecursion (λ k. HasOwnPath d.tokens k.how) (kept_fields which d fields)
+
+-- the body of a comparison of a struct evaluates to what its trait means
+pub struct_evaluates : (which : Comparison) (d : DeriveInput) (shape : FieldShape) (body : Body) → d.shape ≡ Struct shape → AreDifferent (keys_of d) → HaveOwnMethods which d shape.fields
+    → IsStructBody which d shape.fields body → Evaluates which d body
+struct_evaluates which d shape body is differ named k table a b covers =
+    let fs = shape.fields in
+    let kept = kept_fields which d fs in
+    let at_a = look_a d a b table k.param.text k.param_is in
+    let at_b = look_b d a b table k.param.text k.param_is in
+    let cases : cases_of d ≡ fs ∷ [] = ap shape_cases is in
+    let fields : fields_of d ≡ fs = ap shape_fields is in
+    let case_a = one_case fs covers.first.fields a.variant (ap (λ cs. slice_get cs a.variant) (sym cases) ∙ covers.first.exists) in
+    let case_b = one_case fs covers.second.fields b.variant (ap (λ cs. slice_get cs b.variant) (sym cases) ∙ covers.second.exists) in
+    let same : a.variant ≡ b.variant = case_a.0 ∙ sym case_b.0 in
+    let give : (v : Value) → length fs ≡ length v.fields → FieldsGive (λ place f. part_of (keys_of d) v.fields (key_of place f)) 0 fs v.fields =
+    λ v long. subst (λ (own : List Field). FieldsGive (λ place f. part_of (keys_of d) v.fields (key_of place f)) 0 own v.fields) fields
+    (fields_give (part_of (keys_of d) v.fields) 0 (fields_of d) v.fields (lawful_keys.select (keys_of d) v.fields differ (length_keys 0 (fields_of d) ∙ ap length fields ∙ long))) in
+    let give_a = give a (ap length (sym case_a.1) ∙ length_from_types (all_fields d) covers.first.fields a.fields covers.first.types) in
+    let give_b = give b (ap length (sym case_b.1) ∙ length_from_types (all_fields d) covers.second.fields b.fields covers.second.types) in
+    let own_case : case_of d a ≡ fs = ap (λ (o : Option (List Field)). unwrap_or o []) covers.first.exists ∙ case_a.1 in
+    let paired : compared which d a b ≡ map (seen at_a at_b) kept =
+    ap (λ (own : List Field). compared_from which d 0 own a.fields b.fields) own_case ∙ compared-seen at_a at_b which d 0 fs a.fields b.fields give_a give_b in
+    let Known : Compared → Type 0 = λ c. IsSome (says which table c) in
+    let each = covers.each same in
+    let known = each_map Known (seen at_a at_b) kept (subst (AllByRecursion Known) paired each) in
+    let none : (v : Value) → discriminant_of table d v ≡ None = λ v. ap (λ (s : Shape). flat (slice_get (map (discriminant table) (counted_from None 0 (shape_variants s))) v.variant)) is in
+    (λ i. outcome_of (list_value (scene_of d a b table) (start (k.params_are i)) Nothing (k.block_has.block_is i)))
+    ∙ steps_value d a b table k.param.text k.param_is which k.ordered k.block_has.steps k.block_has.steps_are
+    (each_in_order which (λ k. HasOwnPath d.tokens k.how) kept k.ordered k.ordered_is named)
+    (each_in_order which (IsGiven at_a) kept k.ordered k.ordered_is (each_given at_a which d 0 fs a.fields give_a))
+    (each_in_order which (IsGiven at_b) kept k.ordered k.ordered_is (each_given at_b which d 0 fs b.fields give_b))
+    (each_mapped Known (seen at_a at_b) k.ordered (each_in_order which (λ k. Known (seen at_a at_b k)) kept k.ordered k.ordered_is known))
+    ∙ means_in_order which table at_a at_b kept k.ordered (compared which d a b) k.ordered_is paired each
+    ∙ same_case which table d a b same (λ i. number_order (none a i) (none b i))

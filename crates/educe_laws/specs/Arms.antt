@@ -1,0 +1,280 @@
+-- The arms of an enum's functions, the names that these declare, and the functions that give the keys of values.
+use Rattle.std.specs.Prelude.{ℕ, ℤ, zero, suc, ◌+◌, ◌≡◌, Bool, true, false, not, ◌&&◌, ◌==◌, length, List, [], ◌∷◌, ◌++◌, map, Option, Some, None, codes}
+use Rattle.std.specs.List.{AllByRecursion, AllZip, list_all}
+use Rattle.std.specs.declared.cmp.Ordering.TheVariants.{Less, Greater}
+use Rattle.educe_tokens.specs.declared.word.Word.{Word}
+use Rattle.educe_tokens.specs.Appends.{no_place}
+use Rattle.educe_tokens.specs.Lexes.{lexemes}
+use Rattle.educe_tokens.specs.Quote.{word_lexeme}
+use Rattle.educe_syntax.specs.DeriveInput.{DeriveInput}
+use Rattle.educe_syntax.specs.Expr.{Expr}
+use Rattle.educe_syntax.specs.ExprPath.{ExprPath}
+use Rattle.educe_syntax.specs.Field.{Field}
+use Rattle.educe_syntax.specs.FieldForm.{FieldForm}
+use Rattle.educe_syntax.specs.FieldForm.TheVariants.{Named, Unnamed, Unit as NoFields}
+use Rattle.educe_syntax.specs.Ident.{Ident}
+use Rattle.educe_syntax.specs.Variant.{Variant}
+use Rattle.educe_discriminants.specs.declared.discriminant_type.DiscriminantType.{DiscriminantType}
+use Rattle.educe_attrs.specs.FieldSettings.{FieldSettings}
+use Rattle.educe_attrs.specs.Represented.{IsDiscriminantType}
+use Rattle.educe_body.specs.BuiltIn.{IsBuiltIn}
+use Rattle.educe_body.specs.Constants.{constant_number}
+use Rattle.educe_body.specs.declared.answers.Answers.{Answers}
+use Rattle.educe_body.specs.Chosen.{is_held, IsPrefix, AreChosen, AreApart}
+use Rattle.educe_body.specs.Held.{AreWordsOf}
+use Rattle.educe_body.specs.Keys.{binding_key}
+use Rattle.educe_body.specs.Words.{HasWord}
+use Rattle.educe_body.specs.declared.callee.BuiltIn.TheVariants.{Cmp}
+use Rattle.educe_body.specs.declared.comparison.Comparison.{Comparison}
+use Rattle.educe_body.specs.declared.comparison.Comparison.TheVariants.{PartialEq, PartialOrd, Ord}
+use Rattle.educe_body.specs.declared.form.Arm.{Arm}
+use Rattle.educe_body.specs.declared.form.Form.{Form, Key, Call, SomeOf, Return, MatchOrdering, MatchValue, IfLet, KeyFunction}
+use Rattle.educe_body.specs.declared.form.Form as form
+use Rattle.educe_body.specs.declared.form.Known.TheVariants.{Truth}
+use Rattle.educe_body.specs.declared.key_function.Constant.{Constant}
+use Rattle.educe_body.specs.declared.key_function.Distance.{Distance}
+use Rattle.educe_body.specs.declared.key_function.KeyArm.{KeyArm}
+use Rattle.educe_body.specs.declared.pattern.Pattern.{Pattern}
+use Rattle.educe_body.specs.declared.pattern.PatternField.{PatternField}
+use Rattle.educe_laws.specs.Cases.{fields_in}
+use Rattle.educe_laws.specs.Comparing.{neutral}
+use Rattle.educe_laws.specs.Discriminants.{Counted, counted}
+use Rattle.educe_laws.specs.Settings.{Kept, keeps, settings_of, kept_fields}
+use Rattle.educe_laws.specs.Steps.{bound, AreSteps, IsInOrder}
+
+-- ---- names
+
+-- the names that the functions of an enum declare: that of the second value, of the key function, of its parameter, and of the
+-- value that a distance is added to; and the prefixes of the variables for the fields of the first value and of the second
+pub record Names : Type 0 where
+  pub other : List ℕ
+  pub discriminant : List ℕ
+  pub this : List ℕ
+  pub base : List ℕ
+  pub own : List ℕ
+  pub others : List ℕ
+
+-- the names among them, as they are written where nothing is in their way
+abbrev pub plain_names : List (List ℕ)
+plain_names = codes "other" ∷ codes "discriminant" ∷ codes "this" ∷ codes "base" ∷ []
+
+-- the names that are chosen for these
+abbrev pub chosen_names : Names → List (List ℕ)
+chosen_names names = names.other ∷ names.discriminant ∷ names.this ∷ names.base ∷ []
+
+-- each is chosen, in this order, apart from the words of the definition and from the names before it; and so are then the prefixes
+pub record AreNames (definition : DeriveInput) (names : Names) : Type 0 where
+  pub words : List (List ℕ)
+  pub words_are : AreWordsOf definition.tokens words
+  pub chosen : AreChosen words plain_names (chosen_names names)
+  pub own_is : IsPrefix (words ++ chosen_names names) (codes "_s_") names.own
+  pub others_is : IsPrefix (words ++ chosen_names names) (codes "_o_") names.others
+
+-- a name that the program makes, at no place
+pub record IsName (text : List ℕ) (name : Ident) : Type 0 where
+  pub is : name.text ≡ text
+  pub nowhere : name.span ≡ no_place
+
+-- the names of the variables behind a prefix for the fields that take part
+abbrev pub variables : List ℕ → Comparison → DeriveInput → List Field → List (List ℕ)
+variables prefix which definition fields = map (λ k. prefix ++ binding_key k.place k.field) (kept_fields which definition fields)
+
+-- no two of the names are the same, none is `self`, and none is a word of the definition
+pub record AreScoped (definition : DeriveInput) (names : List (List ℕ)) : Type 0 where
+  pub apart : AreApart names
+  pub not_self : is_held names (codes "self") ≡ false
+  pub no_words : AllByRecursion (λ name. HasWord definition.tokens name → ⊥) names
+
+-- ---- patterns
+
+-- the key of a field in a pattern: its name as it was written, or none
+abbrev pub IsKey : Option Ident → Option Word → Type 0
+IsKey None None = Unit {0}
+IsKey None (Some key) = ⊥
+IsKey (Some name) None = ⊥
+IsKey (Some name) (Some key) = key.text ≡ name.text
+
+-- where the field takes part it is bound to a variable of this name, and else to none
+abbrev pub IsBound : Bool → List ℕ → Option Ident → Type 0
+IsBound false text name = name ≡ None
+IsBound true text None = ⊥
+IsBound true text (Some name) = IsName text name
+
+-- the field of a pattern, with variables behind this prefix, for the field at a place with these settings
+pub record IsPatternField (prefix : List ℕ) (place : ℕ) (field : Field) (settings : FieldSettings) (x : PatternField) : Type 0 where
+  pub key_is : IsKey field.ident x.key
+  pub name_is : IsBound (keeps settings) (prefix ++ binding_key place field) x.name
+
+-- those of a pattern, for fields with these settings, of which the first has this place
+abbrev pub ArePatternFields : List ℕ → ℕ → List Field → List FieldSettings → List PatternField → Type 0
+ArePatternFields prefix place [] all [] = Unit {0}
+ArePatternFields prefix place [] all (x ∷ xs) = ⊥
+ArePatternFields prefix place (f ∷ fs) [] xs = ⊥
+ArePatternFields prefix place (f ∷ fs) (s ∷ all) [] = ⊥
+ArePatternFields prefix place (f ∷ fs) (s ∷ all) (x ∷ xs) = IsPatternField prefix place f s x × ArePatternFields prefix (place + 1) fs all xs
+
+-- the pattern of a variant that binds its fields, where they take part by these settings, to variables behind this prefix
+pub record IsPatternBy (prefix : List ℕ) (variant : Variant) (all : List FieldSettings) (pattern : Pattern) : Type 0 where
+  pub variant_is : pattern.variant ≡ variant.ident
+  pub form_is : pattern.form ≡ variant.fields.form
+  pub whole : pattern.rest ≡ false
+  pub fields_are : ArePatternFields prefix 0 (fields_in variant) all pattern.fields
+
+-- the same by the settings of the fields
+abbrev pub IsPattern : Comparison → DeriveInput → List ℕ → Variant → Pattern → Type 0
+IsPattern which definition prefix variant pattern = IsPatternBy prefix variant (map (settings_of which definition) (fields_in variant)) pattern
+
+-- ---- arms
+
+-- what is done where the other value is of another variant: `eq` returns false, and an order, which is asked after the
+-- discriminants, does nothing
+abbrev pub IsOtherwise : Comparison → Option (List Form) → Type 0
+IsOtherwise PartialEq others = others ≡ Some (Return (form.Known (Truth false)) ∷ [])
+IsOtherwise PartialOrd others = others ≡ None
+IsOtherwise Ord others = others ≡ None
+
+-- the arm of a variant: the pattern for the value of `self`; and behind it, if the other value is of this variant, one step for
+-- each field that takes part, in the order of the trait, on its two variables
+pub record IsArm (which : Comparison) (definition : DeriveInput) (names : Names) (variant : Variant) (arm : Arm) : Type 0 where
+  pub own_is : IsPattern which definition names.own variant arm.pattern
+  pub inner : Pattern
+  pub inner_is : IsPattern which definition names.others variant inner
+  pub value : Ident
+  pub value_is : IsName names.other value
+  pub ordered : List Kept
+  pub ordered_is : IsInOrder which (kept_fields which definition (fields_in variant)) ordered
+  pub steps : List Form
+  pub steps_are : AreSteps which (bound names.own) (bound names.others) ordered steps
+  pub others : Option (List Form)
+  pub others_are : IsOtherwise which others
+  pub block_is : arm.block ≡ IfLet inner value steps others ∷ []
+
+-- a match on the value of `self`, with one arm for each variant in written order; and then what is answered where no step returned
+pub record IsMatch (which : Comparison) (definition : DeriveInput) (names : Names) (variants : List Variant) (block : List Form) : Type 0 where
+  pub value : Ident
+  pub value_is : IsName (codes "self") value
+  pub arms : List Arm
+  pub arms_are : AllZip (IsArm which definition names) variants arms
+  pub block_is : block ≡ MatchValue value arms ∷ form.Known (neutral which) ∷ []
+
+-- ---- keys
+
+-- whether a pattern of this form has brackets
+abbrev pub has_brackets : FieldForm → Bool
+has_brackets Named = true
+has_brackets Unnamed = true
+has_brackets NoFields = false
+
+-- the pattern of a variant with `..` in place of its fields
+pub record IsBarePattern (variant : Variant) (pattern : Pattern) : Type 0 where
+  pub variant_is : pattern.variant ≡ variant.ident
+  pub form_is : pattern.form ≡ variant.fields.form
+  pub rest_is : pattern.rest ≡ has_brackets variant.fields.form
+  pub no_fields : pattern.fields ≡ []
+
+-- the expression that a constant is counted from: the written one, or `0`
+abbrev pub IsBase : Option Expr → Expr → Type 0
+IsBase None value = lexemes value.written.tokens ≡ word_lexeme (codes "0") ∷ []
+IsBase (Some written) value = value ≡ written
+
+-- the distance of a constant: none, or that many steps
+abbrev pub IsDistance : DiscriminantType → List ℕ → ℕ → Option Distance → Type 0
+IsDistance ty base zero None = Unit {0}
+IsDistance ty base zero (Some distance) = ⊥
+IsDistance ty base (suc count) None = ⊥
+IsDistance ty base (suc count) (Some distance) = (distance.steps ≡ suc count) × (distance.ty ≡ ty) × IsName base distance.base
+
+-- the constant of a variant
+pub record IsConstant (ty : DiscriminantType) (base : List ℕ) (c : Counted) (constant : Constant) : Type 0 where
+  pub value_is : IsBase c.written constant.value
+  pub distance_is : IsDistance ty base c.distance constant.distance
+
+-- the constants of the variants of a definition, in written order; what a distance is added to has one name in all
+pub record AreConstants (definition : DeriveInput) (ty : DiscriminantType) (constants : List Constant) : Type 0 where
+  pub base : List ℕ
+  pub each : AllZip (IsConstant ty base) (counted definition) constants
+
+-- the numbers of the constants, where no name is in scope, are these
+abbrev pub AreNumbers : Answers → List ℤ → List Constant → Type 0
+AreNumbers table numbers constants = map (constant_number table []) constants ≡ map Some numbers
+
+-- the arm of a variant in a key function
+pub record IsKeyArm (ty : DiscriminantType) (base : List ℕ) (c : Counted) (arm : KeyArm) : Type 0 where
+  pub pattern_is : IsBarePattern c.variant arm.pattern
+  pub constant_is : IsConstant ty base c arm.constant
+
+-- the key function: one arm for each variant in written order, with constants of the type of the discriminants
+pub record IsKeyFunction (definition : DeriveInput) (names : Names) (x : Form) : Type 0 where
+  pub function : Ident
+  pub function_is : IsName names.discriminant function
+  pub this : Ident
+  pub this_is : IsName names.this this
+  pub ty : DiscriminantType
+  pub ty_is : IsDiscriminantType definition.attrs ty
+  pub arms : List KeyArm
+  pub arms_are : AllZip (IsKeyArm ty names.base) (counted definition) arms
+  pub is : x ≡ KeyFunction function this ty arms
+
+-- `& discriminant ( value )`
+pub record IsKeyOf (names : Names) (value : List ℕ) (x : Form) : Type 0 where
+  pub function : Ident
+  pub function_is : IsName names.discriminant function
+  pub name : Ident
+  pub name_is : IsName value name
+  pub is : x ≡ Key function name
+
+-- the comparison of the keys of both values: `:: core :: cmp :: Ord :: cmp ( & discriminant ( self ) , & discriminant ( other ) )`
+pub record IsKeyComparison (names : Names) (x : Form) : Type 0 where
+  pub path : ExprPath
+  pub path_is : IsBuiltIn Cmp path
+  pub first : Form
+  pub first_is : IsKeyOf names (codes "self") first
+  pub second : Form
+  pub second_is : IsKeyOf names names.other second
+  pub is : x ≡ Call path (first ∷ second ∷ [])
+
+-- ---- blocks
+
+-- an order as the trait's function answers it
+abbrev pub in_answer : Comparison → Form → Form
+in_answer PartialEq x = x
+in_answer PartialOrd x = SomeOf x
+in_answer Ord x = x
+
+-- whether the trait's function answers an order in `Some`
+abbrev pub is_partial : Comparison → Bool
+is_partial PartialEq = false
+is_partial PartialOrd = true
+is_partial Ord = false
+
+-- what follows the key function: where no variant has fields, the comparison of the keys is the answer; and else where it is Equal
+-- the match on the fields is
+abbrev pub IsDecision : Comparison → DeriveInput → Names → List Variant → Form → Bool → Form → Type 0
+IsDecision which definition names variants compares true x = x ≡ in_answer which compares
+IsDecision which definition names variants compares false x =
+    (block : List Form) × IsMatch which definition names variants block × (x ≡ MatchOrdering compares (is_partial which) (Some block) Greater Less)
+
+-- whether a variant has neither brackets nor fields
+abbrev pub is_unit : Variant → Bool
+is_unit variant = not (has_brackets variant.fields.form) && (length (fields_in variant) == 0)
+
+-- whether each variant is such a unit
+abbrev pub are_units : List Variant → Bool
+are_units variants = list_all is_unit variants
+
+-- the block of an order of an enum: the key function, and what follows it
+pub record IsKeyed (which : Comparison) (definition : DeriveInput) (names : Names) (variants : List Variant) (block : List Form) : Type 0 where
+  pub keys : Form
+  pub keys_are : IsKeyFunction definition names keys
+  pub compares : Form
+  pub comparison_is : IsKeyComparison names compares
+  pub decision : Form
+  pub decision_is : IsDecision which definition names variants compares (are_units variants) decision
+  pub block_is : block ≡ keys ∷ decision ∷ []
+
+-- the block of a comparison of an enum; without variants there is no value, and nothing is compared
+abbrev pub IsEnumBlock : Comparison → DeriveInput → Names → List Variant → List Form → Type 0
+IsEnumBlock which definition names [] block = block ≡ form.Known (neutral which) ∷ []
+IsEnumBlock PartialEq definition names (v ∷ vs) block = IsMatch PartialEq definition names (v ∷ vs) block
+IsEnumBlock PartialOrd definition names (v ∷ vs) block = IsKeyed PartialOrd definition names (v ∷ vs) block
+IsEnumBlock Ord definition names (v ∷ vs) block = IsKeyed Ord definition names (v ∷ vs) block

@@ -1,0 +1,35 @@
+-- The fields that a value of a definition can have: a struct is one case, an enum has one for each variant.
+use Rattle.std.specs.Prelude.{List, [], ◌∷◌, map, slice_get, unwrap_or}
+use Rattle.educe_syntax.specs.Attribute.{Attribute}
+use Rattle.educe_syntax.specs.DeriveInput.{DeriveInput}
+use Rattle.educe_syntax.specs.Few.{variants_of, all_fields}
+use Rattle.educe_syntax.specs.Field.{Field}
+use Rattle.educe_syntax.specs.Shape.{Shape}
+use Rattle.educe_syntax.specs.Shape.TheVariants.{Struct, Enum}
+use Rattle.educe_syntax.specs.Variant.{Variant}
+use Rattle.educe_body.specs.declared.value.Value.{Value}
+
+-- the fields of a variant, in written order
+abbrev pub fields_in : Variant → List Field
+fields_in variant = variant.fields.fields
+
+-- the fields of each case: those of a struct, or those of each variant of an enum
+abbrev pub shape_cases : Shape → List (List Field)
+shape_cases (Struct shape) = shape.fields ∷ []
+shape_cases (Enum variants) = map fields_in variants
+
+-- the fields of each case of a definition, in written order
+abbrev pub cases_of : DeriveInput → List (List Field)
+cases_of definition = shape_cases definition.shape
+
+-- the fields of the case of a value; none where the definition has no such case
+abbrev pub case_of : DeriveInput → Value → List Field
+case_of definition value = unwrap_or (slice_get (cases_of definition) value.variant) []
+
+-- the attributes of each variant
+abbrev pub variant_attributes : DeriveInput → List (List Attribute)
+variant_attributes definition = map (λ (v : Variant). v.attrs) (variants_of definition)
+
+-- the attributes of each field, those of all variants together
+abbrev pub field_attributes : DeriveInput → List (List Attribute)
+field_attributes definition = map (λ (f : Field). f.attrs) (all_fields definition)

@@ -1,0 +1,100 @@
+-- The steps of comparisons: what a function does with each field that takes part.
+use Rattle.std.specs.Prelude.{ℕ, ◌≡◌, true, false, List, [], ◌∷◌, ◌++◌, None, IsPermutation}
+use Rattle.std.specs.List.{AllZip}
+use Rattle.std.specs.declared.cmp.Ordering.TheVariants.{Less, Greater}
+use Rattle.educe_tokens.specs.declared.word.Word.{Word}
+use Rattle.educe_tokens.specs.Appends.{no_place}
+use Rattle.educe_syntax.specs.Ident.{Ident}
+use Rattle.educe_syntax.specs.ExprPath.{ExprPath}
+use Rattle.educe_syntax.specs.Field.{Field}
+use Rattle.educe_body.specs.declared.comparison.Comparison.{Comparison}
+use Rattle.educe_body.specs.declared.comparison.Comparison.TheVariants.{PartialEq, PartialOrd, Ord}
+use Rattle.educe_body.specs.declared.form.Form.{Form, Local, Reference, Call, Not, SomeOf, IfReturn, MatchOrdering}
+use Rattle.educe_body.specs.BuiltIn.{IsBuiltIn}
+use Rattle.educe_body.specs.Keys.{key_of, binding_key}
+use Rattle.educe_laws.specs.Ranks.{Rises}
+use Rattle.educe_laws.specs.Settings.{Kept, How, plainly, by_method, by_order}
+use Rattle.educe_laws.specs.Comparing.{comparison}
+
+-- ---- how a field is read
+
+-- `& base . key` for the field at a place: the key is its name, or its place where it has none
+pub record IsReference (base : List ℕ) (place : ℕ) (field : Field) (x : Form) : Type 0 where
+  pub base_name : Ident
+  pub key : Word
+  pub is : x ≡ Reference base_name key
+  pub base_is : base_name.text ≡ base
+  pub nowhere : base_name.span ≡ no_place
+  pub key_is : key.text ≡ key_of place field
+
+-- the local variable of the field at a place: its name is the prefix, and behind it the field's key without `r#`
+pub record IsVariable (prefix : List ℕ) (place : ℕ) (field : Field) (x : Form) : Type 0 where
+  pub name : Ident
+  pub is : x ≡ Local name
+  pub name_is : name.text ≡ prefix ++ binding_key place field
+  pub nowhere : name.span ≡ no_place
+
+-- a field is read of the value of this name, or as the local variable behind this prefix
+pub data Reading : Type 0 where
+  of_base : List ℕ → Reading
+  bound : List ℕ → Reading
+
+-- the form reads the field so
+abbrev pub IsRead : Reading → Kept → Form → Type 0
+IsRead (of_base base) kept x = IsReference base kept.place kept.field x
+IsRead (bound prefix) kept x = IsVariable prefix kept.place kept.field x
+
+-- ---- steps
+
+-- what a step tests: `eq` negates what a method answers; `partial_cmp` takes the order of a method of `Ord` in `Some`
+abbrev pub tested : Comparison → How → Form → Form
+tested PartialEq plainly call = call
+tested PartialEq (by_method path) call = Not call
+tested PartialEq (by_order path) call = Not call
+tested PartialOrd plainly call = call
+tested PartialOrd (by_method path) call = call
+tested PartialOrd (by_order path) call = SomeOf call
+tested Ord how call = call
+
+-- the step for this test: `eq` returns false where the two differ; an order goes on where it is Equal, and else returns it
+abbrev pub step_of : Comparison → Form → Form
+step_of PartialEq test = IfReturn test
+step_of PartialOrd test = MatchOrdering test true None Greater Less
+step_of Ord test = MatchOrdering test false None Greater Less
+
+-- the path that is called: that of the trait's function in the core library, or the method's as it was read
+abbrev pub IsCalled : Comparison → How → ExprPath → Type 0
+IsCalled which plainly path = IsBuiltIn (comparison which) path
+IsCalled which (by_method own) path = path ≡ own
+IsCalled which (by_order own) path = path ≡ own
+
+-- a call on this field of both values and no other: `path ( & self . key , & other . key )`, or on the field's two variables
+pub record IsComparison (which : Comparison) (own others : Reading) (kept : Kept) (x : Form) : Type 0 where
+  pub path : ExprPath
+  pub first : Form
+  pub second : Form
+  pub is : x ≡ Call path (first ∷ second ∷ [])
+  pub path_is : IsCalled which kept.how path
+  pub first_is : IsRead own kept first
+  pub second_is : IsRead others kept second
+
+-- the step of a trait on a field: what it does with that call
+pub record IsStep (which : Comparison) (own others : Reading) (kept : Kept) (x : Form) : Type 0 where
+  pub compares : Form
+  pub is : x ≡ step_of which (tested which kept.how compares)
+  pub comparison_is : IsComparison which own others kept compares
+
+-- one step for each of these fields, in their order
+abbrev pub AreSteps : Comparison → Reading → Reading → List Kept → List Form → Type 0
+AreSteps which own others ordered steps = AllZip (λ k step. IsStep which own others k step) ordered steps
+
+-- the same fields, in the order of their ranks
+pub record IsByRank (kept sorted : List Kept) : Type 0 where
+  pub same : IsPermutation kept sorted
+  pub rises : Rises (λ (k : Kept). k.rank) sorted
+
+-- the order in which a trait goes over the fields: `eq` as they are written, the two orders by rank
+abbrev pub IsInOrder : Comparison → List Kept → List Kept → Type 0
+IsInOrder PartialEq kept ordered = ordered ≡ kept
+IsInOrder PartialOrd kept ordered = IsByRank kept ordered
+IsInOrder Ord kept ordered = IsByRank kept ordered
