@@ -1,12 +1,12 @@
 -- What the handler of a comparison adds.
 use Rattle.std.proofs.Common.{◌≡◌, ◌≤◌, ◌^◌, ℕ, List, [], ◌∷◌, ◌++◌, length}
 use Rattle.educe_syntax.specs.DeriveInput.{DeriveInput}
+use Rattle.educe_syntax.specs.Few.{all_fields}
 use Rattle.educe_syntax.specs.Refusal.{IsDefinition}
 use Rattle.educe_attrs.specs.Fields.{HaveNoCauses}
 use Rattle.educe_body.specs.declared.comparison.Comparison.{Comparison}
 use Rattle.educe_body.specs.declared.comparison.Comparison.TheVariants.{PartialEq, PartialOrd, Ord}
 use Rattle.educe_body.specs.declared.body.Item.{Item}
-use Rattle.educe_body.specs.Keys.{fields_of}
 use Rattle.educe_cmp.specs.Laws.{lawful_comparisons}
 use Rattle.educe_laws.specs.Blocks.{IsBlock, IsComparisonBlock}
 use Rattle.educe_laws.specs.Comparisons.{trait_of, field_row}
@@ -25,5 +25,5 @@ module _ (which : Comparison) (d : DeriveInput) (before after own : List Item) (
   block_added = record { own = own; is = is; block = block_of_trait which d own block }
 
   -- and its functions evaluate to what it means
-  pub meaning_added : IsDefinition d.tokens d → length (fields_of d) ≤ 2 ^ 64 → HaveNoCauses (trait_of which) (field_row which) (listed d) (fields_of d) → AddsMeaning d before after
+  pub meaning_added : IsDefinition d.tokens d → length d.tokens ≤ 2 ^ 64 → HaveNoCauses (trait_of which) (field_row which) (listed d) (all_fields d) → AddsMeaning d before after
   meaning_added definition few read = record { own = own; is = is; each = lawful_comparisons.evaluates which d own definition few read block }

@@ -4,5 +4,8 @@ pub mod Sorting
 pub mod Kept
 pub mod Earliest
 pub mod Repeats
+pub mod PatternFields
+pub mod Named
+pub mod Counted
 pub mod Refused
 pub mod Added

@@ -1,3 +1,7 @@
 pub mod Ranked
+-- The names that functions declare, and how they read fields.
+pub mod OneWord
+pub mod Names
+pub mod Readings
 -- The laws of comparisons as terms.
 pub mod Laws

@@ -1,35 +1,20 @@
 //! The form of definitions that is built so far.
-ghost use Rattle.std.specs.Prelude.{◌≡◌, ◌==◌, ◌<◌, ◌^◌, ◌↔◌, length, IfOk, IsTrue, ◌&&◌};
+ghost use Rattle.std.specs.Prelude.{◌≡◌, ◌==◌, ◌↔◌, length, IfOk, IsTrue, ◌&&◌};
 ghost use Rattle.std.specs.List.{list_any, list_all};
-ghost use Rattle.educe_body.specs.Keys as keys;
 ghost use Rattle.educe_laws.specs.Built as spec;
 ghost use Rattle.educe_laws.specs.Listed as listing;
 
 use educe_attrs::{is_educe, is_packed, is_word};
 use educe_bound::{Trait, all_listed};
-use educe_syntax::{Attribute, DeriveInput, Field, Meta, Shape};
+use educe_syntax::{Attribute, DeriveInput, Field, Meta, Shape, Variant};
 use educe_tokens::Token;
 use std::alloc::{AllocError, Global};
 
-/// The fields of a struct, in written order; of an enum none.
-pub fn fields_of(ast: &DeriveInput) -> &[Field]
-    ensures are { result.now ≡ keys.fields_of ast.now }
-    ensures few { length result.now < 2 ^ 63 }
+/// Whether the definition has neither generic parameters nor predicates.
+fn has_no_generics(ast: &DeriveInput) -> bool
+    ensures { result ≡ ((length ast.now.generics.params == 0) && (length ast.now.generics.predicates == 0)) }
 {
-    match &ast.shape {
-        Shape::Struct(shape) => shape.fields.as_slice(),
-        Shape::Enum(_) => &[],
-    }
-}
-
-/// Whether the definition is a struct with neither generic parameters nor predicates.
-fn is_simple_struct(ast: &DeriveInput) -> bool
-    ensures { result ≡ (spec.is_struct ast.now.shape
-        && (length ast.now.generics.params == 0) && (length ast.now.generics.predicates == 0)) }
-{
-    matches!(ast.shape, Shape::Struct(_))
-        && ast.generics.params.len() == 0
-        && ast.generics.predicates.len() == 0
+    ast.generics.params.len() == 0 && ast.generics.predicates.len() == 0
 }
 
 /// Whether the token is `bound`.
@@ -82,6 +67,30 @@ fn have_plain(fields: &[Field]) -> bool
     fields.iter().all(|field| are_plain(field.attrs.as_slice()))
 }
 
+/// The same of a variant and its fields.
+fn is_plain_variant(variant: &Variant) -> bool
+    ensures { result ≡ spec.is_plain_variant variant.now }
+{
+    are_plain(variant.attrs.as_slice()) && have_plain(variant.fields.fields.as_slice())
+}
+
+/// The same of each variant.
+fn are_plain_variants(variants: &[Variant]) -> bool
+    ensures { result ≡ list_all spec.is_plain_variant variants.now }
+{
+    variants.iter().all(|variant| is_plain_variant(variant))
+}
+
+/// The same of the fields of a struct, or of the variants of an enum.
+fn is_plain_shape(shape: &Shape) -> bool
+    ensures { result ≡ spec.is_plain_shape shape.now }
+{
+    match shape {
+        Shape::Struct(shape) => have_plain(shape.fields.as_slice()),
+        Shape::Enum(variants) => are_plain_variants(variants.as_slice()),
+    }
+}
+
 /// Whether the traits are among those whose items are built.
 fn are_built(listed: &[Trait]) -> bool
     ensures { result ≡ spec.are_built listed.now }
@@ -92,9 +101,9 @@ fn are_built(listed: &[Trait]) -> bool
 /// Whether what the attributes of the definition say is built, packing aside.
 fn has_built_attributes(ast: &DeriveInput, listed: &[Trait]) -> bool
     ensures { result ≡ (spec.are_built listed.now && spec.are_plain ast.now.attrs
-        && list_all spec.has_plain (keys.fields_of ast.now)) }
+        && spec.is_plain_shape ast.now.shape) }
 {
-    are_built(listed) && are_plain(ast.attrs.as_slice()) && have_plain(fields_of(ast))
+    are_built(listed) && are_plain(ast.attrs.as_slice()) && is_plain_shape(&ast.shape)
 }
 
 /// Whether a definition that lists these traits is of the form that is built so far.
@@ -102,7 +111,7 @@ pub fn is_built(alloc: Global, ast: &DeriveInput, listed: &[Trait]) -> Result<bo
     requires { listed.now ≡ listing.listed ast.now }
     ensures { IfOk result (λ built. IsTrue built ↔ spec.IsBuilt ast.now) }
 {
-    if !is_simple_struct(ast) || !has_built_attributes(ast, listed) {
+    if !has_no_generics(ast) || !has_built_attributes(ast, listed) {
         return Ok(false);
     }
     Ok(!is_packed(alloc, &ast.attrs)?)

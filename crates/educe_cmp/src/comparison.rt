@@ -36,6 +36,14 @@ pub fn type_row() -> Row
     bound_row(true, true)
 }
 
+/// At a variant nothing may be said of a comparison (documentation of `educe`, PartialEq; PartialOrd;
+/// Ord).
+pub fn variant_row() -> Row
+    ensures { result ≡ spec.variant_row }
+{
+    bound_row(false, false)
+}
+
 /// The forms of its attribute at a field: `ignore` and `method`, for the orders also `rank`
 /// (documentation of `educe`, PartialEq; PartialOrd; Ord).
 pub fn field_row(which: Comparison) -> Row

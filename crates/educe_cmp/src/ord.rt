@@ -5,11 +5,10 @@ use crate::handling::compare;
 use educe_attrs::Stop;
 use educe_body::{Comparison, Items};
 use educe_bound::Trait;
-use educe_syntax::DeriveInput;
+use educe_syntax::{DeriveInput, Shape};
 use std::alloc::Global;
 
-/// The handler of `Ord`. Each definition of the supported subset is a struct, so its part for structs
-/// takes each one that is ready.
+/// The handler of `Ord`: its part for structs, or its part for enums.
 pub struct OrdHandler;
 
 impl TraitHandler for OrdHandler {
@@ -29,7 +28,12 @@ impl TraitHandler for OrdHandler {
         items: &mut Items,
         traits: &[Trait],
     ) -> Result<(), Stop> {
-        OrdStructHandler::trait_meta_handler(alloc, ast, ctx, items, traits)
+        match &ast.shape {
+            Shape::Struct(_) => {
+                OrdStructHandler::trait_meta_handler(alloc, ast, ctx, items, traits)
+            }
+            Shape::Enum(_) => OrdEnumHandler::trait_meta_handler(alloc, ast, ctx, items, traits),
+        }
     }
 }
 
@@ -45,6 +49,30 @@ impl TraitHandler for OrdStructHandler {
     ghost TRAIT = { Ord };
 
     ghost takes = { is_struct };
+
+    fn trait_meta_handler(
+        alloc: Global,
+        ast: &DeriveInput,
+        ctx: &mut TraitHandlerContext,
+        items: &mut Items,
+        traits: &[Trait],
+    ) -> Result<(), Stop> {
+        compare(alloc, Comparison::Ord, ast, ctx, items, traits)
+    }
+}
+
+/// The part of the handler of `Ord` that takes enums.
+pub struct OrdEnumHandler;
+
+impl TraitHandler for OrdEnumHandler {
+    ghost use Rattle.educe_bound.specs.declared.traits.Trait.TheVariants.{Ord};
+    ghost use Rattle.educe_laws.specs.Built.{is_enum};
+
+    const TRAIT: Trait = Trait::Ord;
+
+    ghost TRAIT = { Ord };
+
+    ghost takes = { is_enum };
 
     fn trait_meta_handler(
         alloc: Global,

@@ -5,11 +5,10 @@ use crate::handling::compare;
 use educe_attrs::Stop;
 use educe_body::{Comparison, Items};
 use educe_bound::Trait;
-use educe_syntax::DeriveInput;
+use educe_syntax::{DeriveInput, Shape};
 use std::alloc::Global;
 
-/// The handler of `PartialEq`. Each definition of the supported subset is a struct, so its part for structs
-/// takes each one that is ready.
+/// The handler of `PartialEq`: its part for structs, or its part for enums.
 pub struct PartialEqHandler;
 
 impl TraitHandler for PartialEqHandler {
@@ -29,7 +28,14 @@ impl TraitHandler for PartialEqHandler {
         items: &mut Items,
         traits: &[Trait],
     ) -> Result<(), Stop> {
-        PartialEqStructHandler::trait_meta_handler(alloc, ast, ctx, items, traits)
+        match &ast.shape {
+            Shape::Struct(_) => {
+                PartialEqStructHandler::trait_meta_handler(alloc, ast, ctx, items, traits)
+            }
+            Shape::Enum(_) => PartialEqEnumHandler::trait_meta_handler(
+                alloc, ast, ctx, items, traits,
+            ),
+        }
     }
 }
 
@@ -45,6 +51,30 @@ impl TraitHandler for PartialEqStructHandler {
     ghost TRAIT = { PartialEq };
 
     ghost takes = { is_struct };
+
+    fn trait_meta_handler(
+        alloc: Global,
+        ast: &DeriveInput,
+        ctx: &mut TraitHandlerContext,
+        items: &mut Items,
+        traits: &[Trait],
+    ) -> Result<(), Stop> {
+        compare(alloc, Comparison::PartialEq, ast, ctx, items, traits)
+    }
+}
+
+/// The part of the handler of `PartialEq` that takes enums.
+pub struct PartialEqEnumHandler;
+
+impl TraitHandler for PartialEqEnumHandler {
+    ghost use Rattle.educe_bound.specs.declared.traits.Trait.TheVariants.{PartialEq};
+    ghost use Rattle.educe_laws.specs.Built.{is_enum};
+
+    const TRAIT: Trait = Trait::PartialEq;
+
+    ghost TRAIT = { PartialEq };
+
+    ghost takes = { is_enum };
 
     fn trait_meta_handler(
         alloc: Global,

@@ -5,11 +5,10 @@ use crate::handling::compare;
 use educe_attrs::Stop;
 use educe_body::{Comparison, Items};
 use educe_bound::Trait;
-use educe_syntax::DeriveInput;
+use educe_syntax::{DeriveInput, Shape};
 use std::alloc::Global;
 
-/// The handler of `PartialOrd`. Each definition of the supported subset is a struct, so its part for structs
-/// takes each one that is ready.
+/// The handler of `PartialOrd`: its part for structs, or its part for enums.
 pub struct PartialOrdHandler;
 
 impl TraitHandler for PartialOrdHandler {
@@ -29,7 +28,14 @@ impl TraitHandler for PartialOrdHandler {
         items: &mut Items,
         traits: &[Trait],
     ) -> Result<(), Stop> {
-        PartialOrdStructHandler::trait_meta_handler(alloc, ast, ctx, items, traits)
+        match &ast.shape {
+            Shape::Struct(_) => {
+                PartialOrdStructHandler::trait_meta_handler(alloc, ast, ctx, items, traits)
+            }
+            Shape::Enum(_) => PartialOrdEnumHandler::trait_meta_handler(
+                alloc, ast, ctx, items, traits,
+            ),
+        }
     }
 }
 
@@ -45,6 +51,30 @@ impl TraitHandler for PartialOrdStructHandler {
     ghost TRAIT = { PartialOrd };
 
     ghost takes = { is_struct };
+
+    fn trait_meta_handler(
+        alloc: Global,
+        ast: &DeriveInput,
+        ctx: &mut TraitHandlerContext,
+        items: &mut Items,
+        traits: &[Trait],
+    ) -> Result<(), Stop> {
+        compare(alloc, Comparison::PartialOrd, ast, ctx, items, traits)
+    }
+}
+
+/// The part of the handler of `PartialOrd` that takes enums.
+pub struct PartialOrdEnumHandler;
+
+impl TraitHandler for PartialOrdEnumHandler {
+    ghost use Rattle.educe_bound.specs.declared.traits.Trait.TheVariants.{PartialOrd};
+    ghost use Rattle.educe_laws.specs.Built.{is_enum};
+
+    const TRAIT: Trait = Trait::PartialOrd;
+
+    ghost TRAIT = { PartialOrd };
+
+    ghost takes = { is_enum };
 
     fn trait_meta_handler(
         alloc: Global,

@@ -1,38 +1,31 @@
 //! The fields that take part in a comparison, and their ranks.
-ghost use Rattle.std.specs.Prelude.{◌≡◌, ◌+◌, ◌<◌, ◌⊎◌, length, map, Some, IsTrue, IfOk, IfErr, IfSome, IfNone};
+ghost use Rattle.std.specs.Prelude.{◌≡◌, ◌+◌, ◌<◌, ◌⊎◌, length, map, Some, IfOk, IfErr, IfSome, IfNone};
 ghost use Rattle.educe_attrs.specs.Causes.{OfStop};
-ghost use Rattle.educe_attrs.specs.Fields.{HaveNoCauses};
-ghost use Rattle.educe_body.specs.Keys.{fields_of};
-ghost use Rattle.educe_laws.specs.Blocks.{IsByRank};
-ghost use Rattle.educe_laws.specs.Comparisons.{trait_of, is_order, field_row};
-ghost use Rattle.educe_laws.specs.Handled.{reuse_of, IsRankCause};
-ghost use Rattle.educe_laws.specs.Listed.{listed};
 ghost use Rattle.educe_cmp.specs.Ranked.{kept_of, IsNoLater};
+ghost use Rattle.educe_cmp.specs.declared.ranked.Ranked.{Ranked};
+ghost use Rattle.educe_laws.specs.Handled.{reuse_of, IsReuse};
 ghost use Rattle.educe_laws.specs.Ranks.{NeighboursDiffer, IsRepeatAt, IsEarliestRepeat};
 ghost use Rattle.educe_laws.specs.Settings as spec;
-ghost use Rattle.educe_cmp.specs.declared.ranked.Ranked.{Ranked};
+ghost use Rattle.educe_laws.specs.Steps.{IsByRank};
 
-use crate::built::fields_of;
 use crate::ranked::Ranked;
 use crate::settings::{how_of, is_kept, rank_of, rank_span};
 use educe_attrs::{FieldSettings, Stop};
-use educe_body::Comparison;
-use educe_syntax::DeriveInput;
+use educe_syntax::Field;
 use educe_tokens::{EduceError, Kind};
 use std::alloc::{AllocError, Global};
 
-/// The fields that take part in a comparison, in written order.
+/// The fields that take part by their settings, in written order.
 pub fn kept_fields<'a>(
     alloc: Global,
-    which: Comparison,
-    ast: &'a DeriveInput,
+    fields: &'a [Field],
     settings: &'a [FieldSettings],
 ) -> Result<Vec<Ranked<'a>>, AllocError>
-    requires { settings.now ≡ map (spec.settings_of which ast.now) (fields_of ast.now) }
-    ensures { IfOk result (λ kept. map kept_of kept.items ≡ spec.kept_fields which ast.now) }
+    requires { length settings.now ≡ length fields.now }
+    ensures { IfOk result (λ kept. map kept_of kept.items ≡ spec.kept_by 0 fields.now settings.now) }
 {
     let mut kept = Vec::new(alloc);
-    for (place, field) in fields_of(ast).iter().enumerate() {
+    for (place, field) in fields.iter().enumerate() {
         let own = &settings[place];
         if is_kept(own) {
             kept.push(Ranked {
@@ -88,23 +81,20 @@ fn reuse(alloc: Global, later: &Ranked<'_>) -> EduceError
     )
 }
 
-/// The fields that take part in an order, the one of least rank first. Refused where two of them
-/// have one rank; of such fields the one that is written first behind another counts.
+/// The fields that take part in an order by their settings, the one of least rank first. Refused where
+/// two of them have one rank; of such fields the one that is written first behind another counts.
 pub fn by_rank<'a>(
     alloc: Global,
-    which: Comparison,
-    ast: &'a DeriveInput,
+    fields: &'a [Field],
     settings: &'a [FieldSettings],
 ) -> Result<Vec<Ranked<'a>>, Stop>
-    requires settings { settings.now ≡ map (spec.settings_of which ast.now) (fields_of ast.now) }
-    requires orders { IsTrue (is_order which) }
-    requires read { HaveNoCauses (trait_of which) (field_row which) (listed ast.now) (fields_of ast.now) }
+    requires { length settings.now ≡ length fields.now }
     ensures sorted { IfOk result (λ sorted.
-        IsByRank (spec.kept_fields which ast.now) (map kept_of sorted.items)) }
-    ensures apart { IfOk result (λ _. spec.RanksDiffer which ast.now) }
-    ensures err { IfErr result (λ s. OfStop (IsRankCause which ast.now) s) }
+        IsByRank (spec.kept_by 0 fields.now settings.now) (map kept_of sorted.items)) }
+    ensures apart { IfOk result (λ _. spec.RanksDiffer (spec.kept_by 0 fields.now settings.now)) }
+    ensures err { IfErr result (λ s. OfStop (IsReuse (spec.kept_by 0 fields.now settings.now)) s) }
 {
-    let mut sorted = kept_fields(alloc, which, ast, settings)?;
+    let mut sorted = kept_fields(alloc, fields, settings)?;
     sorted.sort_by_key(|field| field.rank)?;
     match repeat_at(&sorted) {
         Some(at) => Err(Stop::Refused(reuse(alloc, &sorted[at + 1]))),

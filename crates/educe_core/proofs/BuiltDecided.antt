@@ -24,11 +24,10 @@ empty_if (x ∷ xs) twice = absurd (twice (λ is. cc))
 -- A definition of which it can't be that it is not of the form is of the form.
 pub built_if : (d : DeriveInput) → ((IsBuilt d → ⊥) → ⊥) → IsBuilt d
 built_if d twice = record {
-  structure = true_if _ (then_not (λ (built : IsBuilt d). built.structure) twice);
   no_params = empty_if _ (then_not (λ (built : IsBuilt d). built.no_params) twice);
   no_predicates = empty_if _ (then_not (λ (built : IsBuilt d). built.no_predicates) twice);
   not_packed = λ packed. twice (λ built. built.not_packed packed);
   traits = true_if _ (then_not (λ (built : IsBuilt d). built.traits) twice);
   plain = true_if _ (then_not (λ (built : IsBuilt d). built.plain) twice);
-  fields_plain = true_if _ (then_not (λ (built : IsBuilt d). built.fields_plain) twice);
+  shape_plain = true_if _ (then_not (λ (built : IsBuilt d). built.shape_plain) twice);
 }

@@ -9,12 +9,13 @@ use Rattle.educe_tokens.specs.declared.token.Token.{Token}
 use Rattle.educe_tokens.specs.Message.{HasWords}
 use Rattle.educe_syntax.specs.Attribute.{Attribute}
 use Rattle.educe_syntax.specs.DeriveInput.{DeriveInput}
-use Rattle.educe_syntax.specs.Few as every
+use Rattle.educe_syntax.specs.Few.{shape_fields, variants_of, all_fields}
 use Rattle.educe_syntax.specs.Field.{Field}
 use Rattle.educe_syntax.specs.Parsed.{end_of}
-use Rattle.educe_syntax.specs.Placed.{AreAttributesPlaced, IsFieldPlaced, AreFieldsPlaced, IsDefinitionPlaced}
+use Rattle.educe_syntax.specs.Placed.{AreAttributesPlaced, IsFieldPlaced, AreFieldsPlaced, IsVariantPlaced, IsDefinitionPlaced}
 use Rattle.educe_syntax.specs.Shape.{Shape}
 use Rattle.educe_syntax.specs.Shape.TheVariants.{Struct, Enum}
+use Rattle.educe_syntax.specs.Variant.{Variant}
 use Rattle.educe_bound.specs.declared.traits.Trait.{Trait}
 use Rattle.educe_bound.specs.declared.traits.Trait.TheVariants as trait
 use Rattle.educe_attrs.specs.Among.{IsAmong}
@@ -22,14 +23,15 @@ use Rattle.educe_attrs.specs.Compared.{place_of}
 use Rattle.educe_attrs.specs.Rank.{Rank}
 use Rattle.educe_body.specs.declared.comparison.Comparison.{Comparison}
 use Rattle.educe_body.specs.declared.comparison.Comparison.TheVariants.{PartialEq, PartialOrd, Ord}
-use Rattle.educe_body.specs.Keys.{shape_fields, fields_of}
-use Rattle.educe_laws.specs.Comparisons.{trait_of, type_row, field_row}
-use Rattle.educe_laws.specs.Handled.{places, IsRankCause, IsComparisonCause, IsTraitCause, IsListsCause, IsListedCause}
+use Rattle.educe_laws.specs.Cases.{fields_in, shape_cases, cases_of, variant_attributes, field_attributes}
+use Rattle.educe_laws.specs.Comparisons.{trait_of, type_row, variant_row, field_row}
+use Rattle.educe_laws.specs.Handled.{places, IsReuse, IsComparisonCause, IsTraitCause, IsListsCause, IsListedCause}
 use Rattle.educe_core.specs.Headline.{IsHandlerCause}
 use Rattle.educe_laws.specs.Listed.{listed, IsListingCause}
 use Rattle.educe_laws.specs.Settings.{settings_of, rank_span_of, Kept, is_kept, kept_at, kept_from, kept_fields}
 use Rattle.educe_attrs.specs.Laws.{lawful_reports}
 use Rattle.educe_attrs.specs.Messages.{HasMessage, IsBoundary}
+use Rattle.educe_laws.proofs.Elements.{each_joined, each_mapped, each_weaker, each_apart}
 
 -- what holds of the causes of lists, and of those of each comparison, holds of those of the listed traits
 each_listed : (d : DeriveInput) (Q : EduceError → Type 0) → ((e : EduceError) → IsListsCause d e → Q e)
@@ -57,7 +59,8 @@ module _ (d : DeriveInput) where
   comparison_message : (which : Comparison) (e : EduceError) → IsComparisonCause which d e → HasMessage e
   comparison_message which e (IsComparisonCause.by_type cause) = lawful_reports.said_message (trait_of which) type_row d.attrs e cause
   comparison_message which e (IsComparisonCause.by_field field among cause) = lawful_reports.field_message (trait_of which) (field_row which) (listed d) field.attrs e cause
-  comparison_message which e (IsComparisonCause.by_rank cause) = subst HasMessage (sym cause.is) (record { kind = λ same. cc; words = refl })
+  comparison_message which e (IsComparisonCause.by_variant variant among cause) = lawful_reports.said_message (trait_of which) variant_row variant.attrs e cause
+  comparison_message which e (IsComparisonCause.by_rank fields among cause) = subst HasMessage (sym cause.reuse.is) (record { kind = λ same. cc; words = refl })
 
   pub listed_message : (e : EduceError) → IsListedCause d e → HasMessage e
   listed_message e cause = each_listed d HasMessage (λ e lists. lawful_reports.place_message (listed d) lists.attributes e lists.cause) comparison_message e cause
@@ -78,10 +81,10 @@ among_all P (y ∷ ys) back x each = among_all P ys back x each.1
 one_among : {X : Type 0} (P : X → Type 0) (xs : List X) (x : X) → AllByRecursion P xs → IsAmong x xs → P x
 one_among P xs x each among = among_all P among.front among.back x (subst (AllByRecursion P) among.is each)
 
--- the fields of a struct are its fields
-of_struct : (tokens : List Token) (shape : Shape) → AreFieldsPlaced tokens (every.shape_fields shape) → AreFieldsPlaced tokens (shape_fields shape)
-of_struct tokens (Struct shape) placed = placed
-of_struct tokens (Enum variants) placed = tt
+-- where all fields stand among the tokens, those of each case do
+of_cases : (tokens : List Token) (shape : Shape) → AreFieldsPlaced tokens (shape_fields shape) → AllByRecursion (AreFieldsPlaced tokens) (shape_cases shape)
+of_cases tokens (Struct shape) placed = (placed, tt)
+of_cases tokens (Enum variants) placed = each_mapped (AreFieldsPlaced tokens) fields_in variants (each_apart (IsFieldPlaced tokens) fields_in variants placed)
 
 -- the definition stands among the tokens
 module _ (tokens : List Token) (d : DeriveInput) (placed : IsDefinitionPlaced tokens d) where
@@ -89,16 +92,20 @@ module _ (tokens : List Token) (d : DeriveInput) (placed : IsDefinitionPlaced to
   abbrev Starts : Span → Type 0
   Starts s = IsBoundary tokens s.start
 
-  fields_placed : AreFieldsPlaced tokens (fields_of d)
-  fields_placed = of_struct tokens d.shape placed.fields
+  variants_attributes : AllByRecursion (AreAttributesPlaced tokens) (variant_attributes d)
+  variants_attributes =
+      each_mapped (AreAttributesPlaced tokens) (λ (v : Variant). v.attrs) (variants_of d)
+      (each_weaker (IsVariantPlaced tokens) (λ (v : Variant). AreAttributesPlaced tokens v.attrs) (λ v is. is.attrs) (variants_of d) placed.variants)
 
-  attributes_placed : (fs : List Field) → AreFieldsPlaced tokens fs → AllByRecursion (AreAttributesPlaced tokens) (map (λ (f : Field). f.attrs) fs)
-  attributes_placed [] each = tt
-  attributes_placed (f ∷ fs) each = (each.0.attrs, attributes_placed fs each.1)
+  fields_attributes : AllByRecursion (AreAttributesPlaced tokens) (field_attributes d)
+  fields_attributes =
+      each_mapped (AreAttributesPlaced tokens) (λ (f : Field). f.attrs) (all_fields d)
+      (each_weaker (IsFieldPlaced tokens) (λ (f : Field). AreAttributesPlaced tokens f.attrs) (λ f is. is.attrs) (all_fields d) placed.fields)
 
   lists_placed : (e : EduceError) → IsListsCause d e → Starts e.span
   lists_placed e lists =
-      let here = one_among (AreAttributesPlaced tokens) (places d) lists.attributes (placed.attrs, attributes_placed (fields_of d) fields_placed) lists.stand in
+      let all = each_joined (AreAttributesPlaced tokens) (d.attrs ∷ variant_attributes d) (field_attributes d) (placed.attrs, variants_attributes) fields_attributes in
+      let here = one_among (AreAttributesPlaced tokens) (places d) lists.attributes all lists.stand in
       lawful_reports.place_placed tokens lists.attributes here (listed d) e lists.cause
 
   -- a rank, or else the other place
@@ -121,19 +128,23 @@ module _ (tokens : List Token) (d : DeriveInput) (placed : IsDefinitionPlaced to
       step true more = (rank_starts which f each.0, more)
       step false more = more
 
-  rank_placed : (which : Comparison) (e : EduceError) → IsRankCause which d e → Starts e.span
-  rank_placed which e cause =
-      let kept = kept_fields which d in
-      let each = All-from_recursion (λ (k : Kept). Starts k.rank_span) kept (kept_start which 0 (fields_of d) fields_placed) in
+  rank_placed : (which : Comparison) (fields : List Field) → IsAmong fields (cases_of d) → (e : EduceError) → IsReuse (kept_fields which d fields) e → Starts e.span
+  rank_placed which fields among e cause =
+      let own = one_among (AreFieldsPlaced tokens) (cases_of d) fields (of_cases tokens d.shape placed.fields) among in
+      let kept = kept_fields which d fields in
+      let each = All-from_recursion (λ (k : Kept). Starts k.rank_span) kept (kept_start which 0 fields own) in
       let later = All-contains (λ (k : Kept). Starts k.rank_span) kept cause.reuses.later each cause.reuses.later_kept in
       subst (λ (e : EduceError). Starts e.span) (sym cause.is) (subst Starts (sym cause.reuses.place_is) later)
 
   comparison_placed : (which : Comparison) (e : EduceError) → IsComparisonCause which d e → Starts e.span
   comparison_placed which e (IsComparisonCause.by_type cause) = lawful_reports.said_placed tokens d.attrs placed.attrs (trait_of which) type_row e cause
+  comparison_placed which e (IsComparisonCause.by_variant variant among cause) =
+      let here = one_among (IsVariantPlaced tokens) (variants_of d) variant placed.variants among in
+      lawful_reports.said_placed tokens variant.attrs here.attrs (trait_of which) variant_row e cause
   comparison_placed which e (IsComparisonCause.by_field field among cause) =
-      let here = one_among (IsFieldPlaced tokens) (fields_of d) field fields_placed among in
+      let here = one_among (IsFieldPlaced tokens) (all_fields d) field placed.fields among in
       lawful_reports.field_placed tokens field.attrs here.attrs (trait_of which) (field_row which) (listed d) e cause
-  comparison_placed which e (IsComparisonCause.by_rank cause) = rank_placed which e cause
+  comparison_placed which e (IsComparisonCause.by_rank fields among cause) = rank_placed which fields among e cause.reuse
 
   -- each cause of the handler starts at one
   pub handler_placed : (e : EduceError) → IsHandlerCause d e → IsBoundary tokens e.span.start

@@ -65,9 +65,9 @@ abbrev pub IsAlone : List ℕ → EduceError → Type 0
 IsAlone source e = (other : EduceError) → other.kind ≢ Alloc → IsCause source other → other ≡ e
 
 -- A source is expanded to these items, written as these bytes: the bytes are the spelling of the items, which lexes to their
--- tokens; no cause of a listed trait stands, and the settings of each field are what its attributes say; the items hold one block for each listed trait of the
--- definition, and nothing else; and over each table and any two values that it covers, their functions evaluate to what the
--- traits mean.
+-- tokens; no cause of a listed trait stands, and the settings of each field are what its attributes say; the items hold one block
+-- for each listed trait of the definition, and nothing else; and over each table and any two values that it covers, their functions
+-- evaluate to what the traits mean.
 pub record IsExpansion (source : List ℕ) (items : List Item) (written : List ℕ) : Type 0 where
   pub definition : DeriveInput
   pub defines : Defines (chars source) definition

@@ -8,7 +8,11 @@ pub use Rattle.educe_laws.specs.Comparisons
 pub use Rattle.educe_laws.specs.Listed
 pub use Rattle.educe_laws.specs.Ranks
 pub use Rattle.educe_laws.specs.Settings
+pub use Rattle.educe_laws.specs.Cases
+pub use Rattle.educe_laws.specs.Discriminants
 pub use Rattle.educe_laws.specs.Comparing
+pub use Rattle.educe_laws.specs.Steps
+pub use Rattle.educe_laws.specs.Arms
 pub use Rattle.educe_laws.specs.Blocks
 pub use Rattle.educe_laws.specs.Built
 pub use Rattle.educe_laws.specs.Handled

@@ -1,5 +1,5 @@
 use Rattle.std.proofs.Common.{ap, ◌∙◌}
-use Rattle.educe_laws.specs.Blocks.{step_of}
+use Rattle.educe_laws.specs.Steps.{step_of}
 use Rattle.educe_cmp.proofs.comparing.step.Goals as goal
 
 pub returns : goal.returns

@@ -1,6 +1,8 @@
 use Rattle.std.proofs.Common.{rules}
 use Rattle.educe_cmp.specs.declared.ranked.Ranked.{Ranked}
 use Rattle.educe_laws.specs.Ranks.{Rises}
+use Rattle.educe_laws.specs.Settings.{kept_by}
+use Rattle.educe_cmp.proofs.Kept.{places_rise}
 use Rattle.educe_cmp.proofs.Sorting.{Rises-from_sort, IsStableByKey-from_sort, IsSortedByKey-from_sort}
 use Rattle.educe_cmp.proofs.Repeats.{IsByRank-from_sort, RanksDiffer-from_sort, ReusesARank-from_sort}
 use Rattle.educe_cmp.proofs.ranks.by_rank.Goals as goal
@@ -18,12 +20,17 @@ returns-in-Some-clause-err c =
     let up = IsSortedByKey-from_sort (λ (f : Ranked). f.rank) sorted c.in_ok-sort_by_key.ensures.sorted (λ a r q k. search rules) in
     let repeats = rw c.deref.ensures.value at c.in-Some.ensures.some in
     let least = rw c.deref.ensures.value at c.in-Some.ensures.earliest in
-    let reuses = ReusesARank-from_sort c.args.which c.args.ast.now c.in_ok-sorted.sorted.items sorted c.in_ok-sorted.ensures
-    c.in_ok-sort_by_key.ensures.permutation c.in-Some.at later up stable repeats least c.index.ensures in
-    record { rank = later.rank; place = later.rank_span; orders = c.requires.orders; read = c.requires.read; reuses = reuses; is = c.reuse.ensures }
+    let kept = kept_by 0 c.args.fields.now c.args.settings.now in
+    let reuses = ReusesARank-from_sort kept c.in_ok-sorted.sorted.items sorted c.in_ok-sorted.ensures c.in_ok-sort_by_key.ensures.permutation
+    (places_rise c.args.fields.now c.args.settings.now) c.in-Some.at later up stable repeats least c.index.ensures in
+    record { rank = later.rank; place = later.rank_span; reuses = reuses; is = c.reuse.ensures }
 
 pub returns-clause-sorted : goal.returns-clause-sorted
-returns-clause-sorted c = IsByRank-from_sort c.args.which c.args.ast.now c.in_ok-sorted.sorted.items c.sort_by_key.new.self.items c.in_ok-sorted.ensures c.in_ok-sort_by_key.ensures.permutation (rises c)
+returns-clause-sorted c =
+    let kept = kept_by 0 c.args.fields.now c.args.settings.now in
+    IsByRank-from_sort kept c.in_ok-sorted.sorted.items c.sort_by_key.new.self.items c.in_ok-sorted.ensures c.in_ok-sort_by_key.ensures.permutation (rises c)
 
 pub returns-clause-apart : goal.returns-clause-apart
-returns-clause-apart c = RanksDiffer-from_sort c.args.which c.args.ast.now c.in_ok-sorted.sorted.items c.sort_by_key.new.self.items c.in_ok-sorted.ensures c.in_ok-sort_by_key.ensures.permutation (rises c)
+returns-clause-apart c =
+    let kept = kept_by 0 c.args.fields.now c.args.settings.now in
+    RanksDiffer-from_sort kept c.in_ok-sorted.sorted.items c.sort_by_key.new.self.items c.in_ok-sorted.ensures c.in_ok-sort_by_key.ensures.permutation (rises c)
