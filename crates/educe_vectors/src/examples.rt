@@ -10,6 +10,8 @@ use std::test::Fail;
 mod builders;
 mod checks;
 mod devices;
+mod enum_orders;
+mod enums;
 mod fields;
 mod impls;
 mod listings;
@@ -19,6 +21,22 @@ mod phases;
 
 /// What a method answers where it is called on fields of two numbers, under the text of its path.
 pub(crate) type Called = (&'static str, i128, i128, educe_body::Answer);
+
+/// What a table is told.
+#[derive(Clone, Copy)]
+pub(crate) enum Told {
+    Nothing,
+    /// What methods answer.
+    Calls(&'static [Called]),
+    /// The numbers of expressions, under their texts.
+    Numbers(&'static [(&'static str, i128)]),
+}
+
+/// The place of a variant, and the numbers of its fields.
+pub(crate) type Held = (u32, &'static [i128]);
+
+/// Two values, and what a function evaluates to over them.
+pub(crate) type Pair = (Held, Held, Outcome);
 
 /// What is answered to a text.
 #[derive(Clone, Copy)]
@@ -35,6 +53,9 @@ pub(crate) enum Answer {
     /// methods answer as these calls of them say, and fields without a method compare as their
     /// numbers do.
     Called(Comparison, &'static [Called], &'static [i128], &'static [i128], Outcome),
+    /// The function of this trait evaluates so over each of these pairs of values, where a table is
+    /// told this, and fields without a method compare as their numbers do.
+    Pairs(Comparison, Told, &'static [Pair]),
     /// `expand` refuses with this line.
     Line(&'static str),
     /// `expand` refuses with one of these lines.

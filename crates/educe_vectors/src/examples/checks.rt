@@ -1,7 +1,7 @@
 //! How an example is tried.
 
 use crate::examples::{Answer, Called, Example};
-use crate::program::bodies::{evaluated_by, evaluated_first};
+use crate::program::bodies::{check_pairs, evaluated_by, evaluated_first};
 use crate::program::{Case, check_holds, check_notes, check_one_of};
 use educe_body::{Comparison, Outcome};
 use educe_tokens::{EduceError, Kind, Token, int_value, string_value};
@@ -78,6 +78,7 @@ fn check(alloc: Global, example: &Example) -> Result<(), Fail> {
         Answer::Called(which, calls, this, other, outcome) => {
             check_called(alloc, source, *which, calls, (this, other), *outcome)
         }
+        Answer::Pairs(which, told, pairs) => check_pairs(alloc, source, *which, told, pairs),
         Answer::Line(line) => Case::of(source.as_bytes(), 1, "", line).check(alloc),
         Answer::OneOf(lines) => check_one_of(alloc, source, lines),
         Answer::Printed(text) => check_at(*source, printed_source(alloc, source)?.as_str(), *text),

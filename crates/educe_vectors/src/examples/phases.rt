@@ -168,10 +168,15 @@ static SEVERAL: [Example; 15] = [
     ),
 ];
 
-static NOT_BUILT_YET: [Example; 15] = [
+static NOT_BUILT_YET: [Example; 16] = [
     (
-        "an enum",
-        "#[educe(PartialEq)] enum E { A, B }",
+        "an enum with a parameter",
+        "#[educe(PartialEq)] enum E<T> { A(T), B }",
+        Answer::Line(NOT_BUILT),
+    ),
+    (
+        "another trait of an enum",
+        "#[educe(PartialEq, Eq)] enum E { A, B }",
         Answer::Line(NOT_BUILT),
     ),
     (

@@ -1,6 +1,6 @@
 //! What the functions of items evaluate to.
 
-use crate::examples::Called;
+use crate::examples::{Called, Pair, Told};
 use educe_body::{
     Answer, Answers, Body, Callee, Comparison, FieldValue, ImplItem, Item, Items, Outcome, Row,
     eval,
@@ -8,7 +8,7 @@ use educe_body::{
 use educe_core::{Expansion, expand};
 use educe_syntax::DeriveInput;
 use educe_tokens::{SOURCE_LIMIT, Seq, Spelling};
-use educe_vectors_body::{scope, table, value};
+use educe_vectors_body::{scope, table, variant_value};
 use educe_vectors_checks::{check_at, definition, found};
 use std::alloc::{AllocError, Global};
 use std::cmp::Ordering;
@@ -52,16 +52,20 @@ fn body_for(items: &Items, which: Comparison) -> Option<&Body> {
     None
 }
 
-/// What a body evaluates to over values of these numbers.
+/// The place of a variant, and the numbers of its fields.
+type Held<'a> = (u32, &'a [i128]);
+
+/// What a body evaluates to over these values.
 fn evaluated(
     alloc: Global,
     ast: &DeriveInput,
     body: &Body,
-    numbers: (&[i128], &[i128]),
+    values: (Held, Held),
     answers: &Answers,
 ) -> Result<Outcome, Fail> {
-    let this = value(alloc, numbers.0)?;
-    let other = value(alloc, numbers.1)?;
+    let (this, other) = values;
+    let this = variant_value(alloc, this.0, this.1)?;
+    let other = variant_value(alloc, other.0, other.1)?;
     Ok(eval(alloc, body, &scope(ast, &this, Some(&other)), answers)?)
 }
 
@@ -95,6 +99,69 @@ fn answers_of(alloc: Global, calls: &[Called]) -> Result<Answers, AllocError> {
     })
 }
 
+/// The number that the text of an expression has, as a row of a table.
+fn number_row(alloc: Global, text: &str, number: i128) -> Result<Row, AllocError> {
+    let callee = Callee::Written(Spelling::from_str(alloc, text)?);
+    Ok(Row {
+        callee,
+        first: None,
+        second: None,
+        answer: Answer::Number(number),
+    })
+}
+
+/// The table by which the texts of expressions have these numbers, and fields compare as their numbers
+/// do.
+fn numbered(alloc: Global, numbers: &[(&str, i128)]) -> Result<Answers, AllocError> {
+    let mut rows = Seq::new(alloc);
+    for (text, number) in numbers {
+        rows.push(number_row(alloc, text, *number)?)?;
+    }
+    Ok(Answers {
+        rows,
+        by_number: true,
+    })
+}
+
+/// The table that is told this, by which other fields compare as their numbers do.
+fn told_answers(alloc: Global, told: &Told) -> Result<Answers, AllocError> {
+    match told {
+        Told::Nothing => answers_of(alloc, &[]),
+        Told::Calls(calls) => answers_of(alloc, calls),
+        Told::Numbers(numbers) => numbered(alloc, numbers),
+    }
+}
+
+/// What a body evaluates to over each of the pairs of values.
+fn check_each_pair(
+    alloc: Global,
+    ast: &DeriveInput,
+    body: &Body,
+    answers: &Answers,
+    pairs: &[Pair],
+) -> Result<(), Fail> {
+    for (this, other, expected) in pairs {
+        let found = evaluated(alloc, ast, body, (*this, *other), answers)?;
+        check_at((*this, *other), found, *expected)?;
+    }
+    Ok(())
+}
+
+/// What the function of a trait evaluates to in the expansion of a text, over each of the pairs of
+/// values, where a table is told this.
+pub(crate) fn check_pairs(
+    alloc: Global,
+    source: &str,
+    which: Comparison,
+    told: &Told,
+    pairs: &[Pair],
+) -> Result<(), Fail> {
+    let ast = definition(alloc, source)?;
+    let expansion = expansion(alloc, source)?;
+    let body = body_for(expansion.items(), which).ok_or("no function")?;
+    check_each_pair(alloc, &ast, body, &told_answers(alloc, told)?, pairs)
+}
+
 /// What the function of a trait evaluates to in the expansion of a text, over values of these
 /// numbers, where methods answer as these calls say.
 pub(crate) fn evaluated_by(
@@ -107,7 +174,8 @@ pub(crate) fn evaluated_by(
     let ast = definition(alloc, source)?;
     let expansion = expansion(alloc, source)?;
     let body = body_for(expansion.items(), which).ok_or("no function")?;
-    evaluated(alloc, &ast, body, numbers, &answers_of(alloc, calls)?)
+    let values = ((0, numbers.0), (0, numbers.1));
+    evaluated(alloc, &ast, body, values, &answers_of(alloc, calls)?)
 }
 
 /// What the function of the first item of a text evaluates to over values of these numbers, where
@@ -135,7 +203,13 @@ fn outcome_in(
 ) -> Result<Outcome, Fail> {
     let (_, index, this, other, _) = case;
     let body = body_of(expansion.items(), *index).ok_or("no function")?;
-    evaluated(alloc, ast, body, (this, other), &table(alloc, rows)?)
+    evaluated(
+        alloc,
+        ast,
+        body,
+        ((0, this), (0, other)),
+        &table(alloc, rows)?,
+    )
 }
 
 /// The same in the expansion that the definition has.
