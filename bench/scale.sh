@@ -59,6 +59,24 @@ def repeated(front, part, back):
         return front + part * (room // len(part.encode())) + back
     return make
 
+def numbered(front, part, back):
+    """As many parts as fit, each of which its number makes, between a front and a back."""
+    def make(size):
+        parts, used = [], len(front + back)
+        while used + len(part(len(parts))) <= size:
+            used += len(part(len(parts)))
+            parts.append(part(len(parts)))
+        return front + "".join(parts) + back
+    return make
+
+def enum(front, variant):
+    """An enum with the three comparisons and as many variants as fit, each of which its number makes."""
+    return numbered("#[educe(PartialEq,PartialOrd,Ord)] " + front + "enum E {", variant, "}")
+
+def one_variant(field):
+    """An enum of which one variant has as many fields as fit, each of which its number makes."""
+    return numbered("#[educe(PartialEq,PartialOrd,Ord)] enum E {A,B{", field, "}}")
+
 SMALL = "#[educe(PartialEq)] struct S { a: u8 }"
 THREE = "#[educe(PartialEq,PartialOrd,Ord)] struct S { a: u8 }"
 
@@ -79,19 +97,20 @@ def chain(n):
     """A variant with 128 prefixes, 128 calls and fields behind an operand, and 128 operators."""
     return f"V{n}=" + "-" * 128 + "a" + ".b()" * 64 + "+a.b()" * 128 + ","
 
-def numbered(front, part, back):
-    """As many parts as fit, each of which its number makes, between a front and a back."""
-    def make(size):
-        parts, used = [], len(front + back)
-        while used + len(part(len(parts))) <= size:
-            used += len(part(len(parts)))
-            parts.append(part(len(parts)))
-        return front + "".join(parts) + back
-    return make
-
 shapes = [
     ("fields", fields),
     ("variants", numbered("#[educe(PartialEq)] enum E {", lambda n: f"V{n}{{a:u8,b:T}},", "}")),
+    ("units", enum("", lambda n: f"V{n},")),
+    ("unit_discriminants", enum("#[repr(i32)] ", lambda n: f"V{n}=-{n},")),
+    ("data", enum("", lambda n: f"V{n}(u8,u8),")),
+    ("data_discriminants", enum("#[repr(i32)] ", lambda n: f"V{n}(u8)=-{n},")),
+    ("one_discriminant", enum("#[repr(i32)] ", lambda n: f"V{n}," if n else "V0=a::b,")),
+    ("long_discriminant", repeated("#[educe(Ord)] enum E {A=a!(", "b ", "),B}")),
+    ("variant_fields", one_variant(lambda n: f"f{n}:u8,")),
+    ("variant_ranks", one_variant(lambda n: f"#[educe(Ord(rank=-{n}))]f{n}:u8,")),
+    ("variant_settings", one_variant(settings)),
+    ("prefixed", one_variant(lambda n: f"_s_{n}:u8,")),
+    ("prefixes", one_variant(lambda n: f"{'_' * n}_s_:u8,")),
     ("deep_type", deep_type),
     ("generics", numbered("#[educe(PartialEq)] struct S<", lambda n: f"T{n}:A<B>+'a,", "> { a: u8 }")),
     ("predicates", numbered("#[educe(PartialEq)] struct S where ", lambda n: f"T{n}:for<'a>A<'a,B=C>,", "{ a: u8 }")),
@@ -143,8 +162,8 @@ ratio() {
   awk -v now="$1" -v before="$2" -v bound="${3:-}" 'BEGIN { if (before > 0) { r = now / before; printf "%.2f%s", r, (bound != "" && r > bound ? "!" : "") } else printf "-" }'
 }
 
-printf '%-12s %7s %8s %7s %10s %7s %9s\n' shape bytes seconds ratio 'Minstr' ratio 'peak MB'
-[ $# -gt 0 ] || set -- fields variants deep_type generics predicates chains attributes own ord partial_ord all fallbacks settings equal_ranks lints lists field_lists repr type_list type_path params other_param value zeros digits last_word last_fault long_names blanks small_tokens comment nested string raw_string brackets script methods method_path underscored underscores words
+printf '%-18s %7s %8s %7s %10s %7s %9s\n' shape bytes seconds ratio 'Minstr' ratio 'peak MB'
+[ $# -gt 0 ] || set -- fields variants units unit_discriminants data data_discriminants one_discriminant long_discriminant variant_fields variant_ranks variant_settings prefixed prefixes deep_type generics predicates chains attributes own ord partial_ord all fallbacks settings equal_ranks lints lists field_lists repr type_list type_path params other_param value zeros digits last_word last_fault long_names blanks small_tokens comment nested string raw_string brackets script methods method_path underscored underscores words
 for name in "$@"; do
   seconds_before=0
   count_before=0
@@ -160,7 +179,7 @@ for name in "$@"; do
       valgrind --tool=callgrind --callgrind-out-file=/dev/null "$program" expand < "$input" 2> "$folder/counts" > /dev/null || true
       count=$(sed -n 's/.*Collected *: *\([0-9]*\).*/\1/p' "$folder/counts")
     fi
-    printf '%-12s %7d %8.3f %7s %10.1f %7s %9.1f\n' "$name" "$(stat -c %s "$input")" "$seconds" \
+    printf '%-18s %7d %8.3f %7s %10.1f %7s %9.1f\n' "$name" "$(stat -c %s "$input")" "$seconds" \
       "$(ratio "$seconds" "$seconds_before")" "$(awk -v c="${count:-0}" 'BEGIN { print c / 1e6 }')" \
       "$(ratio "${count:-0}" "$count_before" 2.2)" "$(awk -v m="$memory" 'BEGIN { print m / 1024 }')"
     seconds_before=$seconds

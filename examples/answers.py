@@ -1,6 +1,6 @@
-"""Compiles and runs what the program prints for the definitions of a table of worked examples.
+"""Compiles and runs what the program prints for the definitions of tables of worked examples.
 
-Usage: answers.py PROGRAM TABLE FOLDER
+Usage: answers.py PROGRAM FOLDER TABLE..
 
 See answers.sh, which calls it. Prints a line for each definition, and fails where one is refused, is not
 compiled, or is answered otherwise than its rows say.
@@ -8,13 +8,15 @@ compiled, or is answered otherwise than its rows say.
 
 import json
 import re
-import subprocess
 import sys
+
+from definitions import FUNCTIONS, added, cases, compiled, discriminant_type, expanded, made, plain
 
 # ---- the table: constants and rows, as Rust writes them
 
 TOKEN = re.compile(r'\s+|//[^\n]*|("(?:\\.|[^"\\])*"|\d+|\w+(?:::\w+)*|.)', re.S)
 ESCAPE = re.compile(r'\\(?:u\{(\w+)\}|x(\w\w)|(.))', re.S)
+CALLS = ("Answer::Called", "Answer::Pairs")
 PLAIN = {"n": "\n", "t": "\t", "r": "\r", "0": "\0"}
 
 
@@ -31,11 +33,22 @@ class Table:
 
     def __init__(self, text):
         self.tokens = [found[1] for found in TOKEN.finditer(text) if found[1]]
+        self.places = {
+            self.tokens[at + 1]: self.tokens.index("=", at) + 1
+            for at, word in enumerate(self.tokens) if word in ("const", "static") and self.tokens[at - 1] != "'"
+        }
         self.values = {}
-        for at, word in enumerate(self.tokens):
-            if word in ("const", "static"):
-                self.next = self.tokens.index("=", at) + 1
-                self.values[self.tokens[at + 1]] = self.expression()
+        for name in self.places:
+            self.value(name)
+
+    def value(self, name):
+        """The value of a constant."""
+        if name not in self.values:
+            before = getattr(self, "next", 0)
+            self.next = self.places[name]
+            self.values[name] = self.expression()
+            self.next = before
+        return self.values[name]
 
     def take(self):
         self.next += 1
@@ -60,25 +73,52 @@ class Table:
             return self.list_to("]" if token == "[" else ")")
         if token[0] == '"':
             return unescaped(token)
-        if token.isdigit():
-            return int(token)
+        if token[0].isdigit():
+            return int(re.sub(r"_|[iu]\w+$", "", token))
         if self.tokens[self.next] == "(":
             self.next += 1
             return (token, self.list_to(")"))
-        return self.values.get(token, (token, []))
+        return self.value(token) if token in self.places else (token, [])
+
+
+class Row:
+    """A call of a trait's function: what the definition's methods and constants answer, values, and the outcome."""
+
+    def __init__(self, name, definition, which, calls, constants, this, other, outcome):
+        self.name, self.definition, self.calls, self.constants = name, definition, calls, constants
+        self.trait = which[0].split("::")[-1]
+        self.this, self.other, self.outcome = this, other, outcome
+
+
+def rows_of(example):
+    """The rows of an example whose functions are called; of another, nothing."""
+    name, definition, (kind, given) = example
+    if kind == "Answer::Called":
+        which, calls, this, other, outcome = given
+        return [Row(name, definition, which, calls, [], (0, this), (0, other), outcome)]
+    if kind == "Answer::Pairs":
+        which, (told, content), pairs = given
+        calls = content[0] if told == "Told::Calls" else []
+        numbers = content[0] if told == "Told::Numbers" else []
+        return [Row(name, definition, which, calls, numbers, *pair) for pair in pairs]
+    return []
+
+
+def is_example(value):
+    """Whether this is a name, a text, and what is answered to it."""
+    return isinstance(value, list) and len(value) == 3 and isinstance(value[0], str) and isinstance(value[2], tuple)
 
 
 def rows(text):
-    """The rows whose functions are called: name, definition, trait, calls of methods, numbers, outcome."""
-    values = Table(text).values.values()
-    found = [
-        (row[0], row[1], *row[2][1])
-        for value in values if isinstance(value, list)
-        for row in value if isinstance(row, list) and row[2][0] == "Answer::Called"
+    """The rows of a table."""
+    examples = [
+        example
+        for value in Table(text).values.values() if isinstance(value, list)
+        for example in value if is_example(example) and example[2][0] in CALLS
     ]
-    if len(found) != text.count("Answer::Called(") or not found:
+    if len(examples) != sum(text.count(kind + "(") for kind in CALLS) or not examples:
         sys.exit("the table is not read to its end")
-    return found
+    return [row for example in examples for row in rows_of(example)]
 
 
 def rust(value):
@@ -100,46 +140,6 @@ TYPES = {
     "PartialOrder": "::core::option::Option<::core::cmp::Ordering>",
 }
 
-# ---- the definition
-
-LEXEME = re.compile(r'//[^\n]*|/\*.*?\*/|"(?:\\.|[^"\\])*"|r#\w+|\'?\w+|.', re.S)
-
-
-def closed(lexemes, at):
-    """The index behind the bracket that closes the one at an index."""
-    depth = 0
-    while True:
-        depth += (lexemes[at] in "([{") - (lexemes[at] in ")]}")
-        at += 1
-        if depth == 0:
-            return at
-
-
-def without_attributes(lexemes, only=None):
-    """Lexemes without attributes, or without those of this name."""
-    kept, at = [], 0
-    while at < len(lexemes):
-        if lexemes[at] == "#" and (only is None or lexemes[at + 2] == only):
-            at = closed(lexemes, at + 1)
-        else:
-            kept.append(lexemes[at])
-            at += 1
-    return kept
-
-
-def made(definition, numbers):
-    """The expression of a value whose fields have these numbers."""
-    lexemes = [x for x in without_attributes(LEXEME.findall(definition)) if x.strip() and x[:2] not in ("//", "/*")]
-    at = lexemes.index("struct")
-    name, body = lexemes[at + 1], lexemes[at + 2:]
-    if body[0] == "(":
-        return f"{name}({', '.join(map(str, numbers))})"
-    fields = [body[i - 1] for i in range(1, len(body)) if body[i] == ":" and ":" not in (body[i - 1], body[i + 1])]
-    if len(fields) != len(numbers):
-        sys.exit(f"not one number for each field: {definition}")
-    return f"{name} {{ {', '.join(f'{f}: {n}' for f, n in zip(fields, numbers))} }}"
-
-
 # ---- the compiled code
 
 FUNCTION = """pub fn {name}<T: ::core::marker::Copy + ::core::convert::Into<i128>>(first: &T, second: &T) -> {type} {{
@@ -147,83 +147,92 @@ FUNCTION = """pub fn {name}<T: ::core::marker::Copy + ::core::convert::Into<i128
     match numbers {{ {arms} _ => ::core::panic!("{name} is called on {{numbers:?}}") }}
 }}"""
 
-FUNCTIONS = {"PartialEq": "eq", "PartialOrd": "partial_cmp", "Ord": "cmp"}
-
-ADDED = {
-    "PartialEq": "impl ::core::cmp::PartialEq for {0} {{ fn eq(&self, _: &Self) -> bool {{ ::core::unreachable!() }} }}",
-    "PartialOrd": "impl ::core::cmp::PartialOrd for {0} {{ fn partial_cmp(&self, _: &Self) -> ::core::option::Option<::core::cmp::Ordering> {{ ::core::unreachable!() }} }}",
-    "Eq": "impl ::core::cmp::Eq for {0} {{}}",
-}
-NEEDED = {"PartialEq": [], "PartialOrd": ["PartialEq"], "Ord": ["PartialEq", "PartialOrd", "Eq"]}
+def names_of(path):
+    """The names of a path, without arguments and where it begins."""
+    return [x for x in re.sub(r"<.*>", "", path).replace(":", " ").split() if x not in ("self", "crate")]
 
 
-def method(path, answers):
-    """A function of this path that answers so, and panics where it is not to be called."""
-    names = [x for x in re.sub(r"<.*>", "", path).replace(":", " ").split() if x not in ("self", "crate")]
-    kind = {answer[0].split("::")[-1] for answer in answers.values()}
-    if len(kind) != 1:
-        sys.exit(f"{path} answers in two ways")
-    arms = "".join(f"({a}, {b}) => {rust(answer)}, " for (a, b), answer in answers.items())
-    text = FUNCTION.format(name=names[-1], type=TYPES[kind.pop()], arms=arms)
+def in_modules(names, text):
+    """An item in the modules of its path."""
     for module in reversed(names[:-1]):
         text = f"pub mod {module} {{\n{text}\n}}"
     return text
 
 
+def method(path, answers):
+    """A function of this path that answers so, and panics where it is not to be called.
+
+    It has the type of its first answer: an answer of another type has no outcome."""
+    names = names_of(path)
+    kind = next(iter(answers.values()))[0]
+    arms = "".join(f"({a}, {b}) => {rust(answer)}, " for (a, b), answer in answers.items() if answer[0] == kind)
+    return in_modules(names, FUNCTION.format(name=names[-1], type=TYPES[kind.split("::")[-1]], arms=arms))
+
+
 def methods(own):
     """The functions that the rows of a definition call."""
     answers = {}
-    for _, _, _, calls, _, _, _ in own:
-        for path, first, second, answer in calls:
+    for row in own:
+        for path, first, second, answer in row.calls:
             if answers.setdefault(path, {}).setdefault((first, second), answer) != answer:
                 sys.exit(f"{path} answers one call in two ways")
     return [method(path, table) for path, table in answers.items()]
 
 
-def added(impls):
-    """The impls that those which are printed ask for."""
-    listed = dict(re.findall(r"impl :: core :: cmp :: (\w+) for (\S+)", impls))
-    needed = {trait: name for which, name in listed.items() for trait in NEEDED[which]}
-    return [ADDED[trait].format(name) for trait, name in needed.items() if trait not in listed]
+def constants(own):
+    """The constants that are discriminants."""
+    ty = discriminant_type(own[0].definition)
+    named = [(names_of(path), number) for path, number in own[0].constants]
+    return [in_modules(names, f"pub const {names[-1]}: {ty} = {number};") for names, number in named if all(x.isidentifier() for x in names)]
 
 
 def program_of(definition, impls, own):
     """The program that asserts the outcome of each row of a definition."""
-    lines = ["".join(without_attributes(LEXEME.findall(definition), "educe")), impls, *methods(own), *added(impls), "fn main() {"]
-    for name, _, which, _, this, other, outcome in own:
-        trait = which[0].split("::")[-1]
-        call = f"::core::cmp::{trait}::{FUNCTIONS[trait]}(&{made(definition, this)}, &{made(definition, other)})"
-        lines.append(f'    ::core::assert_eq!({call}, {rust(outcome)}, "{{}}", {json.dumps(name)});')
+    lines = [plain(definition), impls, *methods(own), *constants(own), *added(impls), "fn main() {"]
+    for row in own:
+        call = f"::core::cmp::{row.trait}::{FUNCTIONS[row.trait]}(&{made(definition, *row.this)}, &{made(definition, *row.other)})"
+        lines.append(f'    ::core::assert_eq!({call}, {rust(row.outcome)}, "{{}}", {json.dumps(row.name, ensure_ascii=False)});')
     return "\n".join([*lines, "}", ""])
 
 
-def tried(program, folder, definition, own):
+def tried(program, folder, own):
     """What comes of a definition."""
-    expanded = subprocess.run([program, "expand"], input=definition.encode(), stdout=subprocess.PIPE, check=False)
-    if expanded.returncode != 0:
+    definition = own[0].definition
+    impls = expanded(program, definition)
+    if impls is None:
         return "refused"
-    with open(f"{folder}/example.rs", "w", encoding="utf-8") as out:
-        out.write(program_of(definition, expanded.stdout.decode(), own))
-    if subprocess.run(["rustc", "--edition", "2021", "--cap-lints", "allow", "-o", f"{folder}/example", f"{folder}/example.rs"], check=False).returncode != 0:
+    if compiled(folder, "\n".join([plain(definition), *constants(own), "fn main() {}"]), quietly=True) is None:
+        return LEFT_OUT
+    run = compiled(folder, program_of(definition, impls, own))
+    if run is None:
         return "NOT COMPILED"
-    if subprocess.run([f"{folder}/example"], check=False).returncode != 0:
-        return "WRONG"
-    return f"answered {len(own)}"
+    return "WRONG" if run() is None else f"answered {len(own)}"
 
 
-def main(program, table, folder):
+LEFT_OUT = "left out: rustc does not take the definition"
+
+
+def is_possible(row):
+    """Whether the row has an outcome, and its values are some of the definition."""
+    held = cases(row.definition)
+    return rust(row.outcome) is not None and all(
+        case < len(held) and len(fields) == len(held[case][2]) for case, fields in (row.this, row.other)
+    )
+
+
+def main(program, folder, *tables):
     """Tries each definition, and answers the exit status."""
-    with open(table, encoding="utf-8") as source:
-        found = [row for row in rows(source.read()) if rust(row[-1]) is not None]
-    definitions, status = {}, 0
-    for row in found:
-        definitions.setdefault(row[1], []).append(row)
-    for definition, own in definitions.items():
-        answer = tried(program, folder, definition, own)
-        print(f"{own[0][0]}: {answer}", flush=True)
-        status = status if answer.startswith("answered") else 1
-    print(f"{len(definitions)} definitions, {len(found)} rows")
-    return status
+    definitions, answers = {}, []
+    for table in tables:
+        with open(table, encoding="utf-8") as source:
+            for row in filter(is_possible, rows(source.read())):
+                definitions.setdefault((row.definition, str(row.constants)), []).append(row)
+    for own in definitions.values():
+        answers.append(tried(program, folder, own))
+        print(f"{own[0].name}: {answers[-1]}", flush=True)
+    answered = [int(answer.split()[1]) for answer in answers if answer.startswith("answered")]
+    print(f"{len(answered)} definitions, {sum(answered)} rows; {answers.count(LEFT_OUT)} definitions left out")
+    return 0 if len(answered) + answers.count(LEFT_OUT) == len(answers) else 1
 
 
 sys.exit(main(*sys.argv[1:]))

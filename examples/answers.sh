@@ -1,14 +1,20 @@
 #!/usr/bin/env bash
-# Runs what the program prints, and compares what it answers with the worked examples.
+# Runs what the program prints, and compares what it answers with the worked examples and with what the
+# traits mean.
 #
 # Usage: examples/answers.sh PROGRAM
 #
-# The rows with values of crates/educe_vectors/src/examples/methods.rt, which rt ci has the evaluator
-# answer, are answered here by compiled code: each definition without its `educe` attributes, what the
-# built program prints for it, and functions that answer as the rows say. A call that no row names
-# panics. `Ord` and `PartialOrd` ask for other traits, which are added where they are not listed. Rows
-# without an outcome are left out, since such code does not compile or panics. Where rustc is missing,
-# nothing is done.
+# First the rows with values of two files in crates/educe_vectors/src/examples, which rt ci has the evaluator
+# answer: here compiled code answers them. It is each definition without its `educe` attributes, what the built
+# program prints for it, and functions that answer as the rows say. A call that no row names panics. `Ord` and
+# `PartialOrd` ask for other traits, which are added where they are not listed. Rows without an outcome are left
+# out, since such code does not compile or panics; so are rows with a value that no variant has, and definitions
+# that rustc does not take by themselves (two variants of one discriminant).
+#
+# Then the enums of enums.py, on all pairs of a few values: the answers are those that the traits mean, by the
+# discriminants that rustc computes. evaluated.py prints the same enums as rows for the evaluator.
+#
+# Where rustc is missing, nothing is done.
 set -eu
 program=${1:?usage: examples/answers.sh PROGRAM}
 case $program in
@@ -23,4 +29,10 @@ fi
 
 folder=$(mktemp -d)
 trap 'rm -rf "$folder"' EXIT
-python3 answers.py "$program" ../crates/educe_vectors/src/examples/methods.rt "$folder"
+tables=../crates/educe_vectors/src/examples
+status=0
+PYTHONDONTWRITEBYTECODE=1
+export PYTHONDONTWRITEBYTECODE
+python3 answers.py "$program" "$folder" $tables/methods.rt $tables/enum_orders.rt || status=1
+python3 pairs.py "$program" "$folder" || status=1
+exit $status
