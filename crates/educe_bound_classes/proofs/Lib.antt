@@ -1,0 +1,15 @@
+pub mod Bounds
+pub mod OneName
+pub mod Walks
+pub mod Likeness
+pub mod Texts
+pub mod ClassLaws
+pub mod ClassLikeness
+pub mod Inside
+pub mod ByText
+pub mod Asking
+pub mod Definitions
+pub mod Kept
+pub mod KeysApart
+pub mod Lawful
+pub mod Collecting

@@ -1,0 +1,82 @@
+-- Numbers by which tokens are told apart, spans and jointness aside.
+use Rattle.std.specs.Prelude.{◌≡◌, ℕ, Bool, List, [], ◌∷◌, ◌++◌, map}
+use Rattle.std.specs.List.{flat_map, list_any}
+use Rattle.std.specs.Str.{bytes_eq}
+use Rattle.std.specs.Ordering.{nat_cmp}
+use Rattle.std.specs.Cmp.Lexicographic.{slice_cmp}
+use Rattle.std.specs.declared.cmp.Ordering.{Ordering}
+use Rattle.std.specs.BTreeSet.{BTreeSet, contains}
+use Rattle.std.specs.declared.vec.Vec.{Vec}
+use Rattle.std.specs.declared.alloc.Global.{Global}
+use Rattle.educe_tokens.specs.Bracket.TheVariants.{Round, Square, Curly}
+use Rattle.educe_tokens.specs.LiteralKind.TheVariants.{Int, Str, ByteStr, Char, Byte}
+use Rattle.educe_tokens.specs.TokenKind.{TokenKind}
+use Rattle.educe_tokens.specs.TokenKind.TheVariants as kind
+use Rattle.educe_tokens.specs.declared.token.Token.{Token}
+use Rattle.educe_bound_classes.specs.declared.needs.Asked.{Asked}
+use Rattle.educe_bound_classes.specs.declared.needs.Asked.TheVariants.{Itself, Param}
+
+-- the number of a kind
+abbrev pub kind_number : TokenKind → ℕ
+kind_number kind.Ident = 0
+kind_number kind.Lifetime = 1
+kind_number (kind.Literal Int) = 2
+kind_number (kind.Literal Str) = 3
+kind_number (kind.Literal ByteStr) = 4
+kind_number (kind.Literal Char) = 5
+kind_number (kind.Literal Byte) = 6
+kind_number (kind.Punct c joint) = 7
+kind_number (kind.Start Round) = 8
+kind_number (kind.Start Square) = 9
+kind_number (kind.Start Curly) = 10
+kind_number (kind.Stop Round) = 11
+kind_number (kind.Stop Square) = 12
+kind_number (kind.Stop Curly) = 13
+kind_number kind.Doc = 14
+
+-- the character of a punct, and 0 of any other kind
+abbrev pub kind_char : TokenKind → ℕ
+kind_char (kind.Punct c joint) = c
+kind_char kind.Ident = 0
+kind_char kind.Lifetime = 0
+kind_char (kind.Literal l) = 0
+kind_char (kind.Start b) = 0
+kind_char (kind.Stop b) = 0
+kind_char kind.Doc = 0
+
+-- a character behind a 1
+abbrev pub marked : ℕ → List ℕ
+marked c = 1 ∷ c ∷ []
+
+-- the kind, and the characters, which a 0 ends
+abbrev pub word_key : TokenKind → List ℕ → List ℕ
+word_key k text = kind_number k ∷ kind_char k ∷ (flat_map marked text ++ 0 ∷ [])
+
+-- those of a token
+unfoldable pub token_key : Token → List ℕ
+token_key t = word_key t.kind t.spelling
+
+-- those of tokens, one behind the other
+abbrev pub tokens_key : List Token → List ℕ
+tokens_key tokens = flat_map token_key tokens
+
+-- those of what a predicate is asked of
+abbrev pub asked_key : Asked → List ℕ
+asked_key (Itself ty) = tokens_key ty.now.written.tokens
+asked_key (Param name) = word_key kind.Ident name.now.text
+
+-- those of all that is asked
+abbrev pub all_keys : List Asked → List (List ℕ)
+all_keys asked = map asked_key asked
+
+-- one of the keys is this
+abbrev pub has_key : List (List ℕ) → List ℕ → Bool
+has_key keys key = list_any (λ k. bytes_eq k key) keys
+
+-- keys in their order
+abbrev pub key_cmp : Vec ℕ Global → Vec ℕ Global → Ordering
+key_cmp x y = slice_cmp nat_cmp x.items y.items
+
+-- The set has these keys and no others.
+abbrev pub Holds : BTreeSet (Vec ℕ Global) → List (List ℕ) → Type 0
+Holds seen keys = (key : Vec ℕ Global) → contains key_cmp seen key ≡ has_key keys key.items

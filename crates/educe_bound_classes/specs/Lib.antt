@@ -1,0 +1,15 @@
+pub mod Deriving
+pub mod Exceptions
+pub mod Params
+pub mod Paths
+pub mod Walk
+pub mod Questions
+pub mod Classes
+pub mod Sought
+pub mod Needs
+pub mod Asked
+pub mod Keys
+pub mod Texts
+pub mod Laws
+pub mod Collects
+pub mod Names

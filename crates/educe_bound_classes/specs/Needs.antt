@@ -1,0 +1,68 @@
+-- What a trait asks of types, as the tokens of predicates.
+use Rattle.std.specs.List.{AllByRecursion}
+use Rattle.std.specs.Prelude.{IfSome, ◌≡◌, ℕ, true, List, ◌∷◌, ◌++◌}
+use Rattle.educe_tokens.specs.TokenKind.TheVariants as kind
+use Rattle.educe_tokens.specs.Lexes.{Lexeme}
+use Rattle.educe_tree.specs.Names.{is_name}
+use Rattle.educe_tree.specs.declared.generics.GenericParam.{GenericParam}
+use Rattle.educe_tree.specs.declared.ty.Ty.{Ty}
+use Rattle.educe_grammar.specs.Types.{any_type}
+use Rattle.educe_grammar.specs.Reads.{Reads}
+use Rattle.educe_grammar.specs.Alike.{lexemes_aside}
+use Rattle.educe_bound_classes.specs.Exceptions.{Exceptions}
+use Rattle.educe_bound_classes.specs.Params.{is_type_param}
+use Rattle.educe_bound_classes.specs.Deriving.{Needs, AllNeed, AllDerivable, IsAutomatic, IsMinimal}
+use Rattle.educe_bound_classes.specs.Classes.{type_name, class_of}
+
+-- the type is the reading of its tokens as they were written
+abbrev pub IsReading : Ty → Type 0
+IsReading ty = (budget : ℕ) × Reads budget any_type ty.written.tokens ty
+
+-- a type parameter, whose name is one
+abbrev pub IsTypeParam : List GenericParam → List ℕ → Type 0
+IsTypeParam params name = (is_name kind.Ident name ≡ true) × (is_type_param params name ≡ true)
+
+-- the name of each type parameter is one
+abbrev pub AreNames : List GenericParam → Type 0
+AreNames params = AllByRecursion (λ p. IfSome (type_name p) (λ n. is_name kind.Ident n ≡ true)) params
+
+-- `Type : Trait`, where the second list is what stands behind the type
+abbrev pub own_of : List Lexeme → Ty → List Lexeme
+own_of bound ty = lexemes_aside ty.written.tokens ++ bound
+
+-- `Param : Trait`
+abbrev pub param_of : List Lexeme → List ℕ → List Lexeme
+param_of bound name = record { kind = kind.Ident; spelling = name } ∷ bound
+
+module _ (ex : Exceptions) (params : List GenericParam) (self : List ℕ) (bound : List Lexeme) where
+  -- what the types need
+  abbrev pub AllAsk : List Ty → List (List Lexeme) → Type 0
+  AllAsk types asked = AllNeed (class_of params ex self) (own_of bound) (param_of bound) types asked
+
+  -- what a type needs
+  abbrev pub Asks : Ty → List (List Lexeme) → Type 0
+  Asks ty asked = Needs (class_of params ex self) (own_of bound) (param_of bound) ty asked
+
+  -- the own predicates of the automatic mode
+  abbrev pub AreOwn : List Ty → List (List Lexeme) → Type 0
+  AreOwn types own = IsAutomatic (class_of params ex self) (own_of bound) (param_of bound) types own
+
+  -- each of the types can be derived from them
+  abbrev pub Suffices : List Ty → List (List Lexeme) → Type 0
+  Suffices types own = AllDerivable (class_of params ex self) (own_of bound) (param_of bound) own types
+
+  -- once one of them is dropped, one of the types can't
+  abbrev pub AreMinimal : List Ty → List (List Lexeme) → Type 0
+  AreMinimal types own = IsMinimal (class_of params ex self) (own_of bound) (param_of bound) types own
+
+-- Whatever the exceptions are: the own predicates of the automatic mode suffice.
+abbrev pub AlwaysSuffice : Type 0
+AlwaysSuffice =
+    (ex : Exceptions) (params : List GenericParam) (self : List ℕ) (bound : List Lexeme) (types : List Ty) (own : List (List Lexeme))
+    → AreOwn ex params self bound types own → Suffices ex params self bound types own
+
+-- And none of them can be dropped, where the types are readings of their tokens.
+abbrev pub AreAlwaysMinimal : Type 0
+AreAlwaysMinimal =
+    (ex : Exceptions) (params : List GenericParam) (self : List ℕ) (bound : List Lexeme) (types : List Ty) (own : List (List Lexeme))
+    → AreNames params → AllByRecursion IsReading types → AreOwn ex params self bound types own → AreMinimal ex params self bound types own

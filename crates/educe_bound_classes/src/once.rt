@@ -1,0 +1,153 @@
+//! What is asked, each once: an ordered set knows it again by numbers that stand for its tokens.
+ghost use Rattle.std.specs.Prelude.{◌≡◌, [], ◌++◌, IfOk, OnOk, chars};
+ghost use Rattle.std.specs.List.{flat_map};
+ghost use Rattle.educe_bound_classes.specs.Deriving.{Extends};
+ghost use Rattle.educe_bound_classes.specs.Keys as spec;
+ghost use Rattle.educe_bound_classes.specs.Asked.{AreKept, types_of};
+
+use crate::needs::{Asked, Asker, needs_of};
+use educe_tokens::{Bracket, LiteralKind, Spelling, Token, TokenKind};
+use educe_tree::Ty;
+use std::alloc::{AllocError, Global};
+use std::collections::BTreeSet;
+
+/// The number of a kind, jointness aside.
+fn kind_number(kind: TokenKind) -> u32
+    ensures { result ≡ spec.kind_number kind }
+{
+    match kind {
+        TokenKind::Ident => 0,
+        TokenKind::Lifetime => 1,
+        TokenKind::Literal(LiteralKind::Int) => 2,
+        TokenKind::Literal(LiteralKind::Str) => 3,
+        TokenKind::Literal(LiteralKind::ByteStr) => 4,
+        TokenKind::Literal(LiteralKind::Char) => 5,
+        TokenKind::Literal(LiteralKind::Byte) => 6,
+        TokenKind::Punct(_, _) => 7,
+        TokenKind::Start(Bracket::Round) => 8,
+        TokenKind::Start(Bracket::Square) => 9,
+        TokenKind::Start(Bracket::Curly) => 10,
+        TokenKind::Stop(Bracket::Round) => 11,
+        TokenKind::Stop(Bracket::Square) => 12,
+        TokenKind::Stop(Bracket::Curly) => 13,
+        TokenKind::Doc => 14,
+    }
+}
+
+/// The character of a punct.
+fn kind_char(kind: TokenKind) -> u32
+    ensures { result ≡ spec.kind_char kind }
+{
+    match kind {
+        TokenKind::Punct(c, _) => c as u32,
+        TokenKind::Ident
+        | TokenKind::Lifetime
+        | TokenKind::Literal(_)
+        | TokenKind::Start(_)
+        | TokenKind::Stop(_)
+        | TokenKind::Doc => 0,
+    }
+}
+
+/// The characters of a text.
+fn chars_of(alloc: Global, text: &str) -> Result<Vec<char>, AllocError>
+    ensures { IfOk result (λ found. found.items ≡ chars text.now) }
+{
+    text.chars().collect(alloc)
+}
+
+/// Appends characters, each behind a 1.
+fn append_chars(text: &[char], key: &mut Vec<u32>) -> Result<(), AllocError>
+    ensures ok { OnOk result (key.new.items ≡ key.old.items ++ flat_map spec.marked text.now) }
+{
+    for c in text {
+        key.push(1)?;
+        key.push(*c as u32)?;
+    }
+    Ok(())
+}
+
+/// Appends the numbers of a word.
+fn append_word(
+    alloc: Global,
+    kind: TokenKind,
+    text: &Spelling,
+    key: &mut Vec<u32>,
+) -> Result<(), AllocError>
+    ensures ok { OnOk result (key.new.items ≡ key.old.items ++ spec.word_key kind text.now) }
+{
+    key.push(kind_number(kind))?;
+    key.push(kind_char(kind))?;
+    let chars = chars_of(alloc, text.as_str())?;
+    append_chars(chars.as_slice(), key)?;
+    key.push(0)?;
+    Ok(())
+}
+
+/// Appends the numbers of a token.
+#[tactic(auto, unfolding(crate::specs::Keys::token_key))]
+fn append_token(alloc: Global, token: &Token, key: &mut Vec<u32>) -> Result<(), AllocError>
+    ensures ok { OnOk result (key.new.items ≡ key.old.items ++ spec.token_key token.now) }
+{
+    append_word(alloc, token.kind, &token.spelling, key)
+}
+
+/// The numbers by which lists of tokens are told apart, spans and whether puncts are joint aside:
+/// predicates of equal tokens are the same (documentation of the crate `educe`, Bounds).
+pub fn key_of_tokens(alloc: Global, tokens: &[Token]) -> Result<Vec<u32>, AllocError>
+    ensures { IfOk result (λ key. key.items ≡ spec.tokens_key tokens.now) }
+{
+    let mut key = Vec::new(alloc);
+    for token in tokens {
+        append_token(alloc, token, &mut key)?;
+    }
+    Ok(key)
+}
+
+/// The numbers of an identifier.
+fn key_of_word(alloc: Global, text: &Spelling) -> Result<Vec<u32>, AllocError>
+    ensures { IfOk result (λ key. key.items ≡ spec.word_key TokenKind.Ident text.now) }
+{
+    let mut key = Vec::new(alloc);
+    append_word(alloc, TokenKind::Ident, text, &mut key)?;
+    Ok(key)
+}
+
+/// The numbers by which what a predicate is asked of is told apart.
+fn key_of(alloc: Global, asked: &Asked<'_>) -> Result<Vec<u32>, AllocError>
+    ensures { IfOk result (λ key. key.items ≡ spec.asked_key asked.now) }
+{
+    match asked {
+        Asked::Itself(ty) => key_of_tokens(alloc, ty.written.tokens().as_slice()),
+        Asked::Param(name) => key_of_word(alloc, &name.text),
+    }
+}
+
+/// What is asked, each once, in the order in which it is asked first: predicates of equal tokens are
+/// the same (documentation of the crate `educe`, Bounds).
+pub fn each_once<'a>(alloc: Global, asked: &[Asked<'a>]) -> Result<Vec<Asked<'a>>, AllocError>
+    ensures { IfOk result (λ own. Extends [] (spec.all_keys asked.now) (spec.all_keys own.items)) }
+{
+    let mut seen = BTreeSet::new(alloc);
+    let mut own = Vec::new(alloc);
+    for one in asked {
+        let key = key_of(alloc, one)?;
+        if seen.insert(key)? {
+            own.push(*one)?;
+        }
+    }
+    Ok(own)
+}
+
+/// Of what the automatic mode asks predicates, each once (documentation of the crate `educe`,
+/// Bounds).
+pub fn own_needs<'a>(
+    alloc: Global,
+    asker: &Asker<'a>,
+    types: &[&'a Ty],
+) -> Result<Vec<Asked<'a>>, AllocError>
+    ensures { IfOk result (λ own. AreKept asker.now.exceptions.now asker.now.params.now asker.now.name.now (types_of types.now) own.items) }
+{
+    let asked = needs_of(alloc, asker, types)?;
+    each_once(alloc, asked.as_slice())
+}

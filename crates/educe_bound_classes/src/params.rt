@@ -1,0 +1,182 @@
+//! Generic parameters by their names.
+ghost use Rattle.std.specs.Prelude.{◌≡◌, IfOk, OnOk};
+ghost use Rattle.educe_bound_classes.specs.Collects.{AddsWhere};
+ghost use Rattle.educe_bound_classes.specs.Names.{params_of};
+ghost use Rattle.educe_bound_classes.specs.Params as spec;
+ghost use Rattle.educe_bound_classes.specs.Texts.{IsSetOf};
+
+use crate::idents::IdentSet;
+use educe_tokens::Spelling;
+use educe_tree::{GenericParam, Params, is_spelled};
+use std::alloc::{AllocError, Global};
+use std::marker::Model;
+
+/// The parameters of a definition, with their names in order: so one is found without a walk over the
+/// list.
+#[derive(Drop)]
+pub struct ParamNames<'a> {
+    params: &'a Params,
+    types: IdentSet<'a>,
+    words: IdentSet<'a>,
+}
+
+impl<'a> Model for ParamNames<'a> {
+    ghost use Rattle.std.specs.Prelude.{List};
+    ghost use Rattle.std.specs.Borrow.{Bor};
+    ghost use Rattle.educe_tree.specs.declared.generics.GenericParam.{GenericParam};
+    ghost use Rattle.educe_bound_classes.specs.Params.{is_param, is_type_param};
+    ghost use Rattle.educe_bound_classes.specs.Texts.{IsSetOf};
+
+    ghost Value = { Bor (List GenericParam) };
+
+    ghost view = { λ names. names.params };
+
+    ghost invariant = { λ names. IsSetOf (is_type_param names.params.now) names.types × IsSetOf (is_param names.params.now) names.words };
+}
+
+/// Parameters among which one is sought by its name.
+#[derive(Clone, Copy)]
+pub enum Names<'n, 'a> {
+    /// As they are declared.
+    Listed(&'n Params),
+    /// With their names in order.
+    Sorted(&'n ParamNames<'a>),
+}
+
+/// Whether it is a type parameter or a const parameter of this name.
+fn is_named(name: &Spelling, param: &GenericParam) -> bool
+    ensures { result ≡ spec.is_named name.now param.now }
+{
+    match param {
+        GenericParam::Lifetime(_) => false,
+        GenericParam::TypeParam(param) => is_spelled(&param.ident.text, name.as_str()),
+        GenericParam::Const(param) => is_spelled(&param.ident.text, name.as_str()),
+    }
+}
+
+/// Whether it is a type parameter of this name.
+fn is_type_named(name: &Spelling, param: &GenericParam) -> bool
+    ensures { result ≡ spec.is_type_named name.now param.now }
+{
+    match param {
+        GenericParam::TypeParam(param) => is_spelled(&param.ident.text, name.as_str()),
+        _ => false,
+    }
+}
+
+/// Whether a parameter of the list is a type parameter or a const parameter of this name.
+fn has_param(params: &Params, name: &Spelling) -> bool
+    ensures { result ≡ spec.is_param params.now name.now }
+{
+    params.as_slice().iter().any(|param| is_named(name, param))
+}
+
+/// Whether a parameter of the list is a type parameter of this name.
+fn has_type_param(params: &Params, name: &Spelling) -> bool
+    ensures { result ≡ spec.is_type_param params.now name.now }
+{
+    params
+        .as_slice()
+        .iter()
+        .any(|param| is_type_named(name, param))
+}
+
+/// Adds the name of a type parameter.
+fn add_type_name<'a>(param: &'a GenericParam, names: &mut IdentSet<'a>) -> Result<(), AllocError>
+    ensures ok { OnOk result (AddsWhere (λ text. spec.is_type_named text param.now) names.old names.new) }
+{
+    match param {
+        GenericParam::Lifetime(_) => Ok(()),
+        GenericParam::TypeParam(param) => names.insert(&param.ident.text),
+        GenericParam::Const(_) => Ok(()),
+    }
+}
+
+/// Adds the name of a type parameter or of a const parameter.
+fn add_name<'a>(param: &'a GenericParam, names: &mut IdentSet<'a>) -> Result<(), AllocError>
+    ensures ok { OnOk result (AddsWhere (λ text. spec.is_named text param.now) names.old names.new) }
+{
+    match param {
+        GenericParam::Lifetime(_) => Ok(()),
+        GenericParam::TypeParam(param) => names.insert(&param.ident.text),
+        GenericParam::Const(param) => names.insert(&param.ident.text),
+    }
+}
+
+/// The names of the type parameters.
+fn type_names<'a>(alloc: Global, params: &'a Params) -> Result<IdentSet<'a>, AllocError>
+    ensures { IfOk result (λ names. IsSetOf (spec.is_type_param params.now) names) }
+{
+    let mut names = IdentSet::new(alloc);
+    for param in params.as_slice() {
+        add_type_name(param, &mut names)?;
+    }
+    Ok(names)
+}
+
+/// The names of the type parameters and of the const parameters.
+fn all_names<'a>(alloc: Global, params: &'a Params) -> Result<IdentSet<'a>, AllocError>
+    ensures { IfOk result (λ names. IsSetOf (spec.is_param params.now) names) }
+{
+    let mut names = IdentSet::new(alloc);
+    for param in params.as_slice() {
+        add_name(param, &mut names)?;
+    }
+    Ok(names)
+}
+
+impl<'a> ParamNames<'a> {
+    /// The parameters, with their names in order.
+    pub fn new(alloc: Global, params: &'a Params) -> Result<ParamNames<'a>, AllocError>
+        ensures { IfOk result (λ names. names.now ≡ params.now) }
+    {
+        let types = type_names(alloc, params)?;
+        let words = all_names(alloc, params)?;
+        Ok(ParamNames {
+            params,
+            types,
+            words,
+        })
+    }
+
+    /// The parameters, as they are declared.
+    pub fn listed(&self) -> &'a Params
+        ensures { result.now ≡ self.now.now }
+    {
+        self.params
+    }
+
+    /// Whether a type parameter or a const parameter has this name.
+    fn has(&self, name: &Spelling) -> bool
+        ensures { result ≡ spec.is_param self.now.now name.now }
+    {
+        self.words.contains(name.as_str())
+    }
+
+    /// Whether a type parameter has this name.
+    fn has_type(&self, name: &Spelling) -> bool
+        ensures { result ≡ spec.is_type_param self.now.now name.now }
+    {
+        self.types.contains(name.as_str())
+    }
+}
+
+/// Whether one of these is a type parameter or a const parameter of this name.
+pub fn is_param(names: Names<'_, '_>, name: &Spelling) -> bool
+    ensures { result ≡ spec.is_param (params_of names.entry) name.now }
+{
+    match names {
+        Names::Listed(params) => has_param(params, name),
+        Names::Sorted(sorted) => sorted.has(name),
+    }
+}
+
+/// Whether one of these is a type parameter of this name.
+pub fn is_type_param(names: Names<'_, '_>, name: &Spelling) -> bool
+    ensures { result ≡ spec.is_type_param (params_of names.entry) name.now }
+{
+    match names {
+        Names::Listed(params) => has_type_param(params, name),
+        Names::Sorted(sorted) => sorted.has_type(name),
+    }
+}
