@@ -1,3 +1,4 @@
 pub mod Traits
 pub mod Named
 pub mod Bounds
+pub mod Predicates

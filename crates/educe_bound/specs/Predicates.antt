@@ -1,0 +1,102 @@
+-- Predicates of where clauses by their tokens, and what the bound of a trait asks for.
+use Rattle.std.specs.Prelude.{◌≡◌, ℕ, Bool, true, false, not, List, [], ◌++◌, map, filter, codes}
+use Rattle.std.specs.List.{filter_map}
+use Rattle.educe_tokens.specs.Lexes.{Lexeme}
+use Rattle.educe_tokens.specs.Quote.{quoted}
+use Rattle.educe_tokens.specs.Copied.{unjoin}
+use Rattle.educe_syntax.specs.Alike.{lexemes_aside}
+use Rattle.educe_syntax.specs.GenericParam.{GenericParam}
+use Rattle.educe_syntax.specs.GenericParam.TheVariants as param
+use Rattle.educe_syntax.specs.WherePredicate.{WherePredicate}
+use Rattle.educe_syntax.specs.Ty.{Ty}
+use Rattle.educe_bound_classes.specs.Classes.{type_name}
+use Rattle.educe_bound_classes.specs.Keys.{tokens_key}
+use Rattle.educe_bound_classes.specs.Exceptions.{Exceptions, clone_exceptions, copy_exceptions, debug_exceptions, equality_exceptions, order_exceptions, hash_exceptions, default_exceptions}
+use Rattle.educe_bound_classes.specs.Needs.{param_of, AreOwn}
+use Rattle.educe_bound.specs.declared.bound.Bound.{Bound}
+use Rattle.educe_bound.specs.declared.bound.Bound.TheVariants.{Disabled, Auto, All, Custom}
+use Rattle.educe_bound.specs.declared.traits.Trait.{Trait}
+use Rattle.educe_bound.specs.declared.traits.Trait.TheVariants as trait
+
+-- ---- predicates
+
+-- a predicate by its tokens: the spans, and whether puncts are joint, aside
+abbrev pub Key : Type 0
+Key = List Lexeme
+
+-- that of a predicate
+abbrev pub key_of : WherePredicate → Key
+key_of predicate = lexemes_aside predicate.written.tokens
+
+-- those of predicates
+abbrev pub keys_of : List WherePredicate → List Key
+keys_of predicates = map key_of predicates
+
+-- the numbers by which it is found again
+abbrev pub number_of : WherePredicate → List ℕ
+number_of predicate = tokens_key predicate.written.tokens
+
+-- ---- traits
+
+-- the path of a trait, as generated code writes it
+abbrev pub trait_path : Trait → List ℕ
+trait_path trait.Debug = codes ":: core :: fmt :: Debug"
+trait_path trait.Clone = codes ":: core :: clone :: Clone"
+trait_path trait.Copy = codes ":: core :: marker :: Copy"
+trait_path trait.PartialEq = codes ":: core :: cmp :: PartialEq"
+trait_path trait.Eq = codes ":: core :: cmp :: Eq"
+trait_path trait.PartialOrd = codes ":: core :: cmp :: PartialOrd"
+trait_path trait.Ord = codes ":: core :: cmp :: Ord"
+trait_path trait.Hash = codes ":: core :: hash :: Hash"
+trait_path trait.Default = codes ":: core :: default :: Default"
+
+-- what stands behind the type in a predicate that asks for the trait
+abbrev pub asks_for : Trait → List Lexeme
+asks_for which = map unjoin (quoted (codes ":") ++ quoted (trait_path which))
+
+-- the types that a trait treats otherwise than others
+abbrev pub exceptions_of : Trait → Exceptions
+exceptions_of trait.Debug = debug_exceptions
+exceptions_of trait.Clone = clone_exceptions
+exceptions_of trait.Copy = copy_exceptions
+exceptions_of trait.PartialEq = equality_exceptions
+exceptions_of trait.Eq = equality_exceptions
+exceptions_of trait.PartialOrd = order_exceptions
+exceptions_of trait.Ord = order_exceptions
+exceptions_of trait.Hash = hash_exceptions
+exceptions_of trait.Default = default_exceptions
+
+-- ---- parameters
+
+-- a lifetime parameter
+abbrev pub is_lifetime : GenericParam → Bool
+is_lifetime (param.Lifetime p) = true
+is_lifetime (param.TypeParam p) = false
+is_lifetime (param.Const p) = false
+
+-- the parameters in the order in which an impl has them: lifetimes first (Rust Reference, Generic parameters)
+abbrev pub lifetimes_first : List GenericParam → List GenericParam
+lifetimes_first params = filter is_lifetime params ++ filter (λ p. not (is_lifetime p)) params
+
+-- ---- modes
+
+-- `Param : Trait` for each type parameter
+abbrev pub on_each_param : List GenericParam → Trait → List Key
+on_each_param params which = map (param_of (asks_for which)) (filter_map type_name params)
+
+-- The predicates that a bound asks for by itself, for types of a definition of this name with these parameters, by these
+-- exceptions: none; what the types need, in the order of first need, none twice; one for each type parameter; or those of the
+-- list.
+abbrev pub AreByBound : Bound → Exceptions → List GenericParam → List ℕ → Trait → List Ty → List Key → Type 0
+AreByBound Disabled ex params self which types own = own ≡ []
+AreByBound Auto ex params self which types own = AreOwn ex params self (asks_for which) types own
+AreByBound All ex params self which types own = own ≡ on_each_param params which
+AreByBound (Custom predicates) ex params self which types own = own ≡ keys_of predicates
+
+-- the predicates by which fields of these types may be copied out of a packed struct: `Copy`, by the same bound; none where the
+-- predicates are listed
+abbrev pub AreCopies : Bound → List GenericParam → List ℕ → List Ty → List Key → Type 0
+AreCopies Disabled params self types found = found ≡ []
+AreCopies Auto params self types found = AreOwn copy_exceptions params self (asks_for trait.Copy) types found
+AreCopies All params self types found = found ≡ on_each_param params trait.Copy
+AreCopies (Custom predicates) params self types found = found ≡ []

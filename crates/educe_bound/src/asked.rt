@@ -1,0 +1,130 @@
+//! The predicates that ask for a trait (documentation of `educe`, Bounds).
+ghost use Rattle.std.specs.Prelude.{◌≡◌, ◌++◌, codes, map, IfOk, OnOk};
+ghost use Rattle.educe_tokens.specs.Appends.{Appends};
+ghost use Rattle.educe_tokens.specs.Copied.{unjoin};
+ghost use Rattle.educe_tokens.specs.Quote.{quoted};
+ghost use Rattle.educe_bound_classes.specs.Asked as needs;
+ghost use Rattle.educe_bound_classes.specs.Needs.{AreOwn};
+ghost use Rattle.educe_bound.specs.Predicates as spec;
+
+use crate::traits::Trait;
+use educe_bound_classes::{
+    Asked, Asker, BoundExceptions, clone_exceptions, copy_exceptions, debug_exceptions,
+    default_exceptions, equality_exceptions, hash_exceptions, order_exceptions, own_needs,
+};
+use educe_syntax::{GenericParam, Ident, Params, Predicates, ToTokens, Ty, WherePredicate};
+use educe_tokens::{Seq, TokenSlice, TokenStream, Written, quote};
+use std::alloc::{AllocError, Global};
+
+/// The types that the trait treats otherwise than others (documentation of `educe`, Bounds).
+pub fn exceptions_of(which: Trait) -> BoundExceptions
+    ensures { result ≡ spec.exceptions_of which }
+{
+    match which {
+        Trait::Debug => debug_exceptions(),
+        Trait::Clone => clone_exceptions(),
+        Trait::Copy => copy_exceptions(),
+        Trait::PartialEq | Trait::Eq => equality_exceptions(),
+        Trait::PartialOrd | Trait::Ord => order_exceptions(),
+        Trait::Hash => hash_exceptions(),
+        Trait::Default => default_exceptions(),
+    }
+}
+
+/// The path of the trait, as generated code writes it.
+fn trait_path(which: Trait) -> &'static str
+    ensures { result.now ≡ spec.trait_path which }
+{
+    match which {
+        Trait::Debug => ":: core :: fmt :: Debug",
+        Trait::Clone => ":: core :: clone :: Clone",
+        Trait::Copy => ":: core :: marker :: Copy",
+        Trait::PartialEq => ":: core :: cmp :: PartialEq",
+        Trait::Eq => ":: core :: cmp :: Eq",
+        Trait::PartialOrd => ":: core :: cmp :: PartialOrd",
+        Trait::Ord => ":: core :: cmp :: Ord",
+        Trait::Hash => ":: core :: hash :: Hash",
+        Trait::Default => ":: core :: default :: Default",
+    }
+}
+
+/// Appends what stands behind the type in a predicate that asks for the trait.
+fn push_bound(alloc: Global, tokens: &mut TokenStream, which: Trait) -> Result<(), AllocError>
+    ensures { OnOk result (Appends (quoted (codes ":") ++ quoted (spec.trait_path which)) tokens.old tokens.new) }
+{
+    quote(alloc, tokens, ":")?;
+    quote(alloc, tokens, trait_path(which))
+}
+
+/// The predicate that asks for the trait, with the tokens of the value in front of it.
+fn predicate_on<T: ToTokens>(
+    alloc: Global,
+    subject: &T,
+    which: Trait,
+) -> Result<WherePredicate, AllocError>
+    ensures { IfOk result (λ found. spec.key_of found ≡ map unjoin (T.lexemes_of subject.now) ++ spec.asks_for which) }
+{
+    let mut tokens = Seq::new(alloc);
+    subject.to_tokens(alloc, &mut tokens)?;
+    push_bound(alloc, &mut tokens, which)?;
+    let written = Written::new(TokenSlice::new(alloc, tokens)?);
+    Ok(WherePredicate { written })
+}
+
+/// The predicate that is asked.
+fn predicate_of(
+    alloc: Global,
+    asked: &Asked<'_>,
+    which: Trait,
+) -> Result<WherePredicate, AllocError>
+    ensures { IfOk result (λ found. spec.key_of found ≡ needs.key_of (spec.asks_for which) asked.now) }
+{
+    match asked {
+        Asked::Itself(ty) => predicate_on(alloc, *ty, which),
+        Asked::Param(name) => predicate_on(alloc, *name, which),
+    }
+}
+
+/// The predicates that are asked.
+fn predicates_of(alloc: Global, asked: &[Asked<'_>], which: Trait) -> Result<Predicates, AllocError>
+    ensures { IfOk result (λ found. spec.keys_of found ≡ needs.keys_of (spec.asks_for which) asked.now) }
+{
+    let mut found = Seq::new(alloc);
+    for one in asked {
+        found.push(predicate_of(alloc, one, which)?)?;
+    }
+    Ok(found)
+}
+
+/// The predicates that the types need, in the order of first need (documentation of `educe`, Bounds).
+pub fn needed_predicates(
+    alloc: Global,
+    params: &Params,
+    which: Trait,
+    types: &[&Ty],
+    self_ident: &Ident,
+    exceptions: &BoundExceptions,
+) -> Result<Predicates, AllocError>
+    ensures { IfOk result (λ found. AreOwn exceptions.now params.now self_ident.now.text (spec.asks_for which) (needs.types_of types.now) (spec.keys_of found)) }
+{
+    let asker = Asker::new(alloc, exceptions, params, &self_ident.text)?;
+    let asked = own_needs(alloc, &asker, types)?;
+    predicates_of(alloc, asked.as_slice(), which)
+}
+
+/// One predicate for each type parameter (documentation of `educe`, Bounds).
+pub fn predicates_on_params(
+    alloc: Global,
+    params: &Params,
+    which: Trait,
+) -> Result<Predicates, AllocError>
+    ensures { IfOk result (λ found. spec.keys_of found ≡ spec.on_each_param params.now which) }
+{
+    let mut found = Seq::new(alloc);
+    for param in params.as_slice() {
+        if let GenericParam::TypeParam(param) = param {
+            found.push(predicate_on(alloc, &param.ident, which)?)?;
+        }
+    }
+    Ok(found)
+}

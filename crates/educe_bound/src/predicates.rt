@@ -1,0 +1,142 @@
+//! The predicates of the where clause of an impl (documentation of `educe`, Bounds).
+ghost use Rattle.std.specs.Prelude.{◌≡◌, ◌++◌, map, IfOk, OnOk};
+ghost use Rattle.educe_tokens.specs.Prefix.{HasPrefix};
+ghost use Rattle.educe_bound_classes.specs.Deriving.{Extends};
+ghost use Rattle.educe_bound_classes.specs.Keys.{Holds};
+ghost use Rattle.educe_bound.specs.Predicates as spec;
+
+use crate::asked::{exceptions_of, needed_predicates, predicates_on_params};
+use crate::bound::Bound;
+use crate::traits::Trait;
+use educe_bound_classes::{BoundExceptions, key_of_tokens};
+use educe_syntax::{
+    Duplicate, GenericParam, Generics, Ident, Params, Predicates, Ty, WherePredicate,
+};
+use educe_tokens::Seq;
+use std::alloc::{AllocError, Global};
+use std::collections::BTreeSet;
+
+impl Bound {
+    ghost use Rattle.std.specs.Prelude.{map};
+    ghost use Rattle.std.specs.Borrow.{Bor};
+    ghost use Rattle.educe_syntax.specs.Ty.{Ty};
+
+    /// The predicates that the bound asks for, where fields of these types are touched (documentation
+    /// of `educe`, Bounds). Those of a list stand as they were written.
+    pub fn into_where_predicates_by_generic_parameters_check_types(
+        &self,
+        alloc: Global,
+        params: &Params,
+        bound_trait: Trait,
+        types: &[&Ty],
+        self_ident: &Ident,
+        exceptions: &BoundExceptions,
+    ) -> Result<Predicates, AllocError>
+        ensures { IfOk result (λ found. spec.AreByBound self.now exceptions.now params.now self_ident.now.text bound_trait (map (λ (t : Bor Ty). t.now) types.now) (spec.keys_of found)) }
+    {
+        match self {
+            Bound::Disabled => Ok(Seq::new(alloc)),
+            Bound::Auto => {
+                needed_predicates(alloc, params, bound_trait, types, self_ident, exceptions)
+            }
+            Bound::All => predicates_on_params(alloc, params, bound_trait),
+            Bound::Custom(predicates) => predicates.duplicate(alloc),
+        }
+    }
+
+    /// The predicates that allow to read the fields of these types of a packed struct, by copies
+    /// (documentation of `educe`, Bounds).
+    pub fn packed_copy_predicates(
+        &self,
+        alloc: Global,
+        params: &Params,
+        types: &[&Ty],
+        self_ident: &Ident,
+    ) -> Result<Predicates, AllocError>
+        ensures { IfOk result (λ found. spec.AreCopies self.now params.now self_ident.now.text (map (λ (t : Bor Ty). t.now) types.now) (spec.keys_of found)) }
+    {
+        match self {
+            Bound::Disabled => Ok(Seq::new(alloc)),
+            Bound::Auto => {
+                let exceptions = exceptions_of(Trait::Copy);
+                needed_predicates(alloc, params, Trait::Copy, types, self_ident, &exceptions)
+            }
+            Bound::All => predicates_on_params(alloc, params, Trait::Copy),
+            Bound::Custom(_) => Ok(Seq::new(alloc)),
+        }
+    }
+}
+
+/// The keys of the predicates, by which these are found again.
+fn known_keys(
+    alloc: Global,
+    predicates: &[WherePredicate],
+) -> Result<BTreeSet<Vec<u32>>, AllocError>
+    ensures { IfOk result (λ known. Holds known (map spec.number_of predicates.now)) }
+{
+    let mut known = BTreeSet::new(alloc);
+    for predicate in predicates {
+        let key = key_of_tokens(alloc, predicate.written.tokens().as_slice())?;
+        known.insert(key)?;
+    }
+    Ok(known)
+}
+
+/// Appends, one after the other, those predicates that are not there yet, by their tokens.
+pub fn extend_where_predicates(
+    alloc: Global,
+    own: &mut Predicates,
+    extra: &Predicates,
+) -> Result<(), AllocError>
+    ensures ok { OnOk result (Extends (spec.keys_of own.old) (spec.keys_of extra.now) (spec.keys_of own.new)) }
+    ensures kept { HasPrefix own.old own.new }
+{
+    let mut known = known_keys(alloc, own.as_slice())?;
+    for predicate in extra.as_slice() {
+        let key = key_of_tokens(alloc, predicate.written.tokens().as_slice())?;
+        if known.insert(key)? {
+            own.push(predicate.duplicate(alloc)?)?;
+        }
+    }
+    Ok(())
+}
+
+/// The generics with these predicates behind their own.
+pub fn with_predicates(
+    alloc: Global,
+    generics: &Generics,
+    predicates: &Predicates,
+) -> Result<Generics, AllocError>
+    ensures params { IfOk result (λ found. found.params ≡ generics.now.params) }
+    ensures predicates { IfOk result (λ found. found.predicates ≡ generics.now.predicates ++ predicates.now) }
+{
+    let mut found = generics.duplicate(alloc)?;
+    found.predicates.append(predicates.duplicate(alloc)?)?;
+    Ok(found)
+}
+
+/// Whether the parameter is a lifetime.
+fn is_lifetime(param: &GenericParam) -> bool
+    ensures { result ≡ spec.is_lifetime param.now }
+{
+    matches!(param, GenericParam::Lifetime(_))
+}
+
+/// The parameters in the order in which an impl has them: lifetimes first (Rust Reference, Generic
+/// parameters).
+pub fn lifetimes_first(alloc: Global, params: &Params) -> Result<Params, AllocError>
+    ensures { IfOk result (λ found. found ≡ spec.lifetimes_first params.now) }
+{
+    let mut lifetimes = Seq::new(alloc);
+    let mut others = Seq::new(alloc);
+    for param in params.as_slice() {
+        let copy = param.duplicate(alloc)?;
+        if is_lifetime(param) {
+            lifetimes.push(copy)?;
+        } else {
+            others.push(copy)?;
+        }
+    }
+    lifetimes.append(others)?;
+    Ok(lifetimes)
+}
