@@ -3,6 +3,7 @@ pub mod Binds
 pub mod Steps
 pub mod Tables
 pub mod Printed
+pub mod Separated
 pub mod Heads
 pub mod Spelled
 pub mod Fields

@@ -1,16 +1,10 @@
 -- The tokens of forms that hold forms, as equations on the lists and the boxed forms that they were made of.
 use denote.Hole.Carrier.{hidden}
 use mathlib.Core.Former.{Count}
-use Rattle.std.proofs.Common.{◌≡◌, Bool, ℕ, suc, Some, None, ◌+◌, ◌<◌, List, [], ◌∷◌, ◌++◌, map, take, get_or, length, refl, sym, ap, ◌∙◌, arith, codes, append_assoc, append-nil}
-use Rattle.std.specs.Prelude.{◌==◌}
+use Rattle.std.proofs.Common.{◌≡◌, Bool, Some, None, List, [], ◌++◌, refl, sym, ap, ◌∙◌, codes, append-nil}
 use Rattle.std.specs.List.{flat_map}
-use Rattle.std.proofs.lemmas.Bool.{cond-false}
-use Rattle.std.proofs.lemmas.Bool.Decides.{nat_tests}
-use Rattle.std.proofs.lemmas.Grind.{flat_map-append}
-use Rattle.std.proofs.lemmas.List.{length-map, length-take-le, map-append, take_more}
 use Rattle.std.specs.declared.cmp.Ordering.{Ordering}
 use Rattle.std.specs.declared.cmp.Ordering.TheVariants.{Equal}
-use Rattle.educe_tokens.specs.Lexes.{Lexeme}
 use Rattle.educe_tokens.specs.Quote.{quoted}
 use Rattle.educe_tokens.specs.WrittenLexemes.{written_lexemes}
 use Rattle.educe_tree.specs.declared.expr.ExprPath.{ExprPath}
@@ -19,8 +13,8 @@ use Rattle.educe_body.specs.declared.form.Form.{Form, Call, Call', Not, IfReturn
 use Rattle.educe_body.specs.declared.form.Arm.{Arm}
 use Rattle.educe_body.specs.declared.form.Form.TheBlock.{hidden-the_row-Form-1}
 use Rattle.educe_body.specs.declared.pattern.Pattern.{Pattern}
-use Rattle.educe_body.specs.Printing.{comma_before, separated}
-use Rattle.educe_body.specs.Printouts.{name, each, in_curly}
+use Rattle.educe_body.specs.Printing.{separated}
+use Rattle.educe_body.specs.Printouts.{name, each, in_round, in_curly}
 use Rattle.educe_body.specs.Tokens.{order_printout, in_some, step_arms, other_arms, block_arms, pattern_printout, if_let_head, if_let_printout, else_printout, form_printout, form_lexemes, in_a_row, arms_in_a_row, arguments, behind_comma, arm_printout, match_value_printout}
 
 -- the forms that a call or a block holds
@@ -40,21 +34,21 @@ in_a_row-items n end_of-Form = refl
 in_a_row-items n (more_of-Form x rest) = ap (λ found. form_lexemes x ++ found) (in_a_row-items _ rest)
 
 -- the tokens of the forms of a row, a comma before each
-behind_comma-items : (n : _) (row : Row_of-Form n) → (behind_comma row).tokens ≡ flat_map (λ found. quoted (codes ",") ++ found) (map form_lexemes (items-the_row-Form n row))
+behind_comma-items : (n : _) (row : Row_of-Form n) → (behind_comma row).tokens ≡ flat_map (λ form. quoted (codes ",") ++ form_lexemes form) (items-the_row-Form n row)
 behind_comma-items n end_of-Form = refl
 behind_comma-items n (more_of-Form x rest) = ap (λ found. (quoted (codes ",") ++ form_lexemes x) ++ found) (behind_comma-items _ rest)
 
 -- the tokens of the forms of a row, with commas between
-arguments-items : (n : _) (row : Row_of-Form n) → (arguments row).tokens ≡ separated (map form_lexemes (items-the_row-Form n row))
+arguments-items : (n : _) (row : Row_of-Form n) → (arguments row).tokens ≡ (separated form_printout (items-the_row-Form n row)).tokens
 arguments-items n end_of-Form = refl
 arguments-items n (more_of-Form x rest) = ap (λ found. form_lexemes x ++ found) (behind_comma-items _ rest)
 
 -- a call, by the tokens of its arguments
-pub form_lexemes-Call : (path : ExprPath) (args : List Form) → form_lexemes (Call path args) ≡ written_lexemes path.written ++ (quoted (codes "(") ++ separated (map form_lexemes args) ++ quoted (codes ")"))
+pub form_lexemes-Call : (path : ExprPath) (args : List Form) → form_lexemes (Call path args) ≡ written_lexemes path.written ++ (in_round (separated form_printout args)).tokens
 form_lexemes-Call path args =
     let row = row_of (Call path args) in
     ap (λ found. written_lexemes path.written ++ (quoted (codes "(") ++ found ++ quoted (codes ")")))
-    (arguments-items row.0 row.1 ∙ ap (λ forms. separated (map form_lexemes forms)) (items_hidden-the_row-Form-0 args))
+    (arguments-items row.0 row.1 ∙ ap (λ forms. (separated form_printout forms).tokens) (items_hidden-the_row-Form-0 args))
 
 -- the forms of a block, behind one another
 block-items : (forms : List Form) → (in_a_row (row_of (Block forms)).1).tokens ≡ flat_map form_lexemes forms
@@ -123,27 +117,3 @@ pub form_lexemes-MatchOrdering-Some : (matched : Form) (partial : Bool) (block :
 unfolding hidden-the_row-Form-1 hidden
 form_lexemes-MatchOrdering-Some matched partial block above below =
     ap (λ found. quoted (codes "match") ++ form_lexemes matched ++ (quoted (codes "{") ++ ((order_printout Equal).tokens ++ quoted (codes "=>") ++ (quoted (codes "{") ++ found ++ quoted (codes "}")) ++ quoted (codes ",") ++ (other_arms partial above below).tokens) ++ quoted (codes "}"))) (block-items block)
-
--- behind the first, there is a comma
-comma_before-suc : (i : ℕ) → comma_before (suc i) ≡ quoted (codes ",")
-comma_before-suc i = cond-false (suc i == 0) [] (quoted (codes ",")) (grind (arith, nat_tests))
-
--- one more list behind lists with commas between
-separated-last : (xs : List (List Lexeme)) (x : List Lexeme) → separated (xs ++ x ∷ []) ≡ separated xs ++ (comma_before (length xs) ++ x)
-separated-last [] x = append-nil x
-separated-last (y ∷ ys) x =
-    ap (λ found. y ++ found)
-    (flat_map-append (λ found. quoted (codes ",") ++ found) ys (x ∷ [])
-    ∙ ap (λ found. flat_map (λ found. quoted (codes ",") ++ found) ys ++ found) (append-nil (quoted (codes ",") ++ x)))
-    ∙ sym (append_assoc y (flat_map (λ found. quoted (codes ",") ++ found) ys) (quoted (codes ",") ++ x))
-    ∙ ap (λ comma. separated (y ∷ ys) ++ (comma ++ x)) (sym (comma_before-suc (length ys)))
-
--- the forms up to one more, with commas between
-pub separated-take : (forms : List Form) (i : ℕ) (d : Form) → i < length forms
-    → separated (map form_lexemes (take (i + 1) forms)) ≡ separated (map form_lexemes (take i forms)) ++ (comma_before i ++ form_lexemes (get_or forms i d))
-separated-take forms i d h =
-    let few : length (map form_lexemes (take i forms)) ≡ i = length-map (take i forms) form_lexemes ∙ length-take-le i forms (omega arith) in
-    ap (λ forms. separated (map form_lexemes forms)) (take_more forms i d h)
-    ∙ ap separated (map-append form_lexemes (take i forms) (get_or forms i d ∷ []))
-    ∙ separated-last (map form_lexemes (take i forms)) (form_lexemes (get_or forms i d))
-    ∙ ap (λ index. separated (map form_lexemes (take i forms)) ++ (comma_before index ++ form_lexemes (get_or forms i d))) few

@@ -10,6 +10,7 @@ pub mod Tokens
 pub mod BuiltIn
 pub mod Printing
 pub mod Printouts
+pub mod Headers
 pub mod Laws
 pub mod NameLaws
 -- The words of an input, and names that are none of them.

@@ -18,7 +18,7 @@ use Rattle.educe_body.specs.declared.answers.Answer.TheVariants.{Truth as Answer
 use Rattle.educe_body.specs.declared.answers.Answers.{Answers}
 use Rattle.educe_body.specs.declared.form.Known.{Known}
 use Rattle.educe_body.specs.declared.form.Known.TheVariants.{Truth as KnownTruth, Order as KnownOrder, PartialOrder as KnownPartialOrder}
-use Rattle.educe_body.specs.declared.form.Form.{Form, Local, Reference, Key, Call', Not', IfReturn', Return', SomeOf', MatchOrdering', MatchValue', IfLet', KeyFunction, Block', Row_of-Form, end_of-Form, more_of-Form, Row_of-Arm, end_of-Arm, more_of-Arm, Held-Form-MatchOrdering-2, None', Some'}
+use Rattle.educe_body.specs.declared.form.Form.{Form, Local, Reference, BracedCopy, Key, Call', Not', IfReturn', Return', SomeOf', MatchOrdering', MatchValue', IfLet', KeyFunction, Block', Row_of-Form, end_of-Form, more_of-Form, Row_of-Arm, end_of-Arm, more_of-Arm, Held-Form-MatchOrdering-2, None', Some'}
 use Rattle.educe_body.specs.declared.form.Form as form
 use Rattle.educe_body.specs.declared.form.Arm.{Arm}
 use Rattle.educe_body.specs.declared.key_function.KeyArm.{KeyArm}
@@ -140,6 +140,10 @@ key_of (Some Inert) value = None
 abbrev pub part_flow : Env → Option FieldValue → Flow
 part_flow env None = Stuck
 part_flow env (Some x) = Gives env (Part x)
+
+-- the value of the field of this key of the value that the base stands for, which is read in place or from a copy
+abbrev pub read_flow : Scene → Env → List ℕ → List ℕ → Flow
+read_flow scene env base key = part_flow env (reference_value scene (look_up env.names base) key)
 
 -- a number, where there is one
 abbrev pub number_flow : Env → Option ℤ → Flow
@@ -336,7 +340,8 @@ abbrev mutual
   pub form_value : Scene → Env → Form → Flow
   form_value scene env (Local name) = part_flow env (local_value scene (look_up env.names name.text))
   form_value scene env (form.Known known) = Gives env (known_thing known)
-  form_value scene env (Reference base field) = part_flow env (reference_value scene (look_up env.names base.text) field.text)
+  form_value scene env (Reference base field) = read_flow scene env base.text field.text
+  form_value scene env (BracedCopy base field) = read_flow scene env base.text field.text
   form_value scene env (Key function value) = number_flow env (key_of (look_up env.names function.text) (look_up env.names value.text))
   form_value scene env (Call' path shape arguments) = args_value scene env arguments (call_value scene env.names path)
   form_value scene env (Not' shape inner) = go_on (inner_value scene env inner) opposite

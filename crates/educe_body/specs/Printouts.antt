@@ -11,7 +11,9 @@ use Rattle.educe_tokens.specs.Lexes.{Lexeme}
 use Rattle.educe_tokens.specs.Quote.{quoted, word_lexeme}
 use Rattle.educe_tokens.specs.WrittenLexemes.{written_lexemes}
 use Rattle.educe_tokens.proofs.Printable.{IsPrintable, is_printable_template, printable-nil, printable-ident, printable-word, printable-written, printable-append, printable-brackets, printable-flat_map, printable-quoted}
+use Rattle.educe_tree.specs.Printed.{printable-lifetime}
 use Rattle.educe_tree.specs.declared.ident.Ident.{Ident}
+use Rattle.educe_tree.specs.declared.lifetime.Lifetime.{Lifetime}
 use Rattle.educe_discriminants.specs.declared.discriminant_type.DiscriminantType.{DiscriminantType}
 use Rattle.educe_discriminants.specs.Printed.{primitive_lexemes, primitive_printable}
 use Rattle.educe_body.specs.declared.key_function.Distance.{Distance}
@@ -37,6 +39,10 @@ says text h = record { tokens = quoted text; printable = printable-quoted text h
 -- an identifier
 abbrev pub name : Ident → Printout
 name ident = record { tokens = record { kind = kind.Ident; spelling = ident.text } ∷ []; printable = printable-ident ident.text ident.spelled }
+
+-- a lifetime
+abbrev pub lifetime : Lifetime → Printout
+lifetime l = record { tokens = record { kind = kind.Lifetime; spelling = l.text } ∷ []; printable = printable-lifetime l.text l.spelled }
 
 -- an identifier or an integer
 abbrev pub word : Word → Printout

@@ -17,7 +17,7 @@ use Rattle.educe_body.specs.declared.comparison.Comparison.{Comparison}
 use Rattle.educe_body.specs.declared.comparison.Comparison.TheVariants.{PartialEq, PartialOrd, Ord}
 use Rattle.educe_body.specs.declared.form.Known.{Known}
 use Rattle.educe_body.specs.declared.form.Known.TheVariants.{Truth, Order, PartialOrder}
-use Rattle.educe_body.specs.declared.form.Form.{Form, Local, Reference, Key, Call', Not', IfReturn', Return', SomeOf', MatchOrdering', MatchValue', IfLet', KeyFunction, Block', Row_of-Form, end_of-Form, more_of-Form, Row_of-Arm, end_of-Arm, more_of-Arm, Held-Form-MatchOrdering-2, None', Some'}
+use Rattle.educe_body.specs.declared.form.Form.{Form, Local, Reference, BracedCopy, Key, Call', Not', IfReturn', Return', SomeOf', MatchOrdering', MatchValue', IfLet', KeyFunction, Block', Row_of-Form, end_of-Form, more_of-Form, Row_of-Arm, end_of-Arm, more_of-Arm, Held-Form-MatchOrdering-2, None', Some'}
 use Rattle.educe_body.specs.declared.form.Form as form
 use Rattle.educe_body.specs.declared.form.Arm.{Arm}
 use Rattle.educe_body.specs.declared.key_function.Constant.{Constant}
@@ -29,6 +29,7 @@ use Rattle.educe_body.specs.declared.body.Function.{Function}
 use Rattle.educe_body.specs.declared.body.ImplItem.{ImplItem}
 use Rattle.educe_body.specs.declared.body.Item.{Item}
 use Rattle.educe_body.specs.declared.body.Item.TheVariants.{Impl}
+use Rattle.educe_body.specs.Headers.{params_printout, arguments_printout, where_printout}
 use Rattle.educe_body.specs.Printouts.{Printout, nothing, says, name, word, written, primitive, steps, ◌beside◌, each, in_round, in_curly}
 
 -- ---- forms
@@ -184,6 +185,10 @@ if_let_printout pattern value block = if_let_head pattern value beside block
 abbrev pub else_printout : Printout → Printout
 else_printout block = says (codes "else") refl beside block
 
+-- `base . field`
+abbrev pub place_printout : Ident → Word → Printout
+place_printout base field = name base beside says (codes ".") refl beside word field
+
 -- ---- forms that hold forms
 
 abbrev mutual
@@ -191,7 +196,8 @@ abbrev mutual
   pub form_printout : Form → Printout
   form_printout (Local ident) = name ident
   form_printout (form.Known known) = known_printout known
-  form_printout (Reference base field) = says (codes "&") refl beside name base beside says (codes ".") refl beside word field
+  form_printout (Reference base field) = says (codes "&") refl beside place_printout base field
+  form_printout (BracedCopy base field) = says (codes "&") refl beside in_curly (place_printout base field)
   form_printout (Key function value) = says (codes "&") refl beside name function beside in_round (name value)
   form_printout (Call' path shape args) = written path.written beside in_round (arguments args)
   form_printout (Not' shape inner) = says (codes "!") refl beside boxed inner
@@ -296,13 +302,18 @@ trait_path PartialEq = says (codes ":: core :: cmp :: PartialEq") refl
 trait_path PartialOrd = says (codes ":: core :: cmp :: PartialOrd") refl
 trait_path Ord = says (codes ":: core :: cmp :: Ord") refl
 
--- what stands before the name of the type
+-- what stands before the type: the attributes, `impl` with the parameters, and the path of the trait
 abbrev pub impl_head : ImplItem → Printout
-impl_head item = written item.attributes beside says (codes "impl") refl beside trait_path item.which beside says (codes "for") refl
+impl_head item =
+    written item.attributes beside says (codes "impl") refl beside params_printout item.generics.params beside trait_path item.which beside says (codes "for") refl
 
--- an impl: its head, the name of the type, and its functions in curly brackets
+-- the type, with the names of the parameters, and the where clause
+abbrev pub impl_type : ImplItem → Printout
+impl_type item = name item.ident beside arguments_printout item.generics.params beside where_printout item.generics.predicates
+
+-- an impl: its head, its type, and its functions in curly brackets
 abbrev pub impl_printout : ImplItem → Printout
-impl_printout item = impl_head item beside name item.ident beside in_curly (each (function_printout item.which) item.functions)
+impl_printout item = impl_head item beside impl_type item beside in_curly (each (function_printout item.which) item.functions)
 
 -- one item
 abbrev pub item_printout : Item → Printout

@@ -2,7 +2,7 @@
 use crate::comparison::Comparison;
 use crate::form::Forms;
 use educe_tokens::{Seq, Word, Written};
-use educe_tree::Ident;
+use educe_tree::{Generics, Ident};
 
 /// Names in their order.
 pub type Names = Seq<Word>;
@@ -24,11 +24,14 @@ pub struct Function {
 /// Functions in their order.
 pub type Functions = Seq<Function>;
 
-/// The implementation of a trait for the type of this name, behind its attributes.
+/// The implementation of a trait for the type of this name, behind its attributes. The parameters
+/// are those of the impl, and their names the arguments of the type (Rust Reference,
+/// Implementations).
 #[derive(Drop)]
 pub struct ImplItem {
     pub which: Comparison,
     pub attributes: Written,
+    pub generics: Generics,
     pub ident: Ident,
     pub functions: Functions,
 }

@@ -3,7 +3,7 @@ ghost use Rattle.std.specs.Prelude.{◌≡◌, IfOk};
 ghost use Rattle.std.specs.Option.{option_copied};
 ghost use Rattle.educe_body.specs.declared.environment.Env.{Env};
 ghost use Rattle.educe_body.specs.Meaning as meaning;
-ghost use Rattle.educe_body.specs.Meaning.{scene, look_up, local_value, reference_value, key_of, leave, value, outcome_of, outcome_of_thing, list_value, taken, arms_list, with_value, go_on, block_arm, form_value, args_list, call_named, call_answer, numbers_flow, answer_flow};
+ghost use Rattle.educe_body.specs.Meaning.{scene, look_up, local_value, read_flow, key_of, leave, value, outcome_of, outcome_of_thing, list_value, taken, arms_list, with_value, go_on, block_arm, form_value, args_list, call_named, call_answer, numbers_flow, answer_flow};
 
 use crate::answers::{Answer, Answers};
 use crate::body::Body;
@@ -82,10 +82,9 @@ fn local_flow(scope: &Scope, env: Env, name: &Spelling) -> Flow
     part_flow(env, part)
 }
 
-/// What a field of a value gives.
+/// What a field of a value gives, in place or as a copy.
 fn reference_flow(scope: &Scope, env: Env, base: &Spelling, key: &Spelling) -> Flow
-    ensures { (answers : _) → let found = look_up env.names base.now in
-        result ≡ meaning.part_flow env (reference_value (scene scope.now answers) found key.now) }
+    ensures { (answers : _) → result ≡ read_flow (scene scope.now answers) env base.now key.now }
 {
     let part = reference(scope, find(env.names.as_slice(), base), key);
     part_flow(env, part)
@@ -141,6 +140,7 @@ fn run_form(
         Form::Local(name) => Ok(local_flow(scope, env, &name.text)),
         Form::Known(known) => Ok(Flow::Gives(env, known_thing(*known))),
         Form::Reference(base, key) => Ok(reference_flow(scope, env, &base.text, &key.text)),
+        Form::BracedCopy(base, key) => Ok(reference_flow(scope, env, &base.text, &key.text)),
         Form::Key(function, value) => Ok(key_flow(env, &function.text, &value.text)),
         Form::Call(path, arguments) => {
             let callee = callee_in(alloc, env.names.as_slice(), path.get())?;

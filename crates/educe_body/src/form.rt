@@ -25,6 +25,9 @@ pub enum Form {
     Known(Known),
     /// `&base.field`
     Reference(Ident, Word),
+    /// `&{ base.field }`: a reference to a copy of the field, which a packed struct needs (Rust
+    /// Reference, The alignment modifiers).
+    BracedCopy(Ident, Word),
     /// `&function(value)`: a call of a key function.
     Key(Ident, Ident),
     /// The path of a function, which calls of the same function share, and its arguments.

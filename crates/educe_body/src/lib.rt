@@ -18,6 +18,7 @@ mod matching;
 mod numbers;
 mod pattern;
 mod print;
+mod print_headers;
 mod print_items;
 mod print_orders;
 mod print_patterns;

@@ -1,11 +1,11 @@
 //! The tokens of forms.
-ghost use Rattle.std.specs.Prelude.{OnOk, map};
+ghost use Rattle.std.specs.Prelude.{OnOk};
 ghost use Rattle.std.specs.List.{flat_map};
 ghost use Rattle.educe_tokens.specs.Appends.{Appends, HasPrefix};
 ghost use Rattle.educe_tokens.proofs.Printable.{well_formed_from, ends_apart_from, lexes_back_from};
 ghost use Rattle.educe_body.specs.Printing.{comma_before, separated};
 ghost use Rattle.educe_body.specs.Printouts.{Prints, each, in_curly};
-ghost use Rattle.educe_body.specs.Tokens.{in_some, block_arms, known_printout, form_printout, form_lexemes, arm_printout, equal_arm, match_value_printout, if_let_head, if_let_printout, else_printout};
+ghost use Rattle.educe_body.specs.Tokens.{in_some, block_arms, known_printout, place_printout, form_printout, form_lexemes, arm_printout, equal_arm, match_value_printout, if_let_head, if_let_printout, else_printout};
 
 use crate::form::{Arm, Form, Forms, Known};
 use crate::pattern::Pattern;
@@ -55,6 +55,7 @@ impl ToTokens for Form {
             Form::Local(name) => name.to_tokens(alloc, tokens),
             Form::Known(known) => known.to_tokens(alloc, tokens),
             Form::Reference(base, field) => push_reference(alloc, tokens, base, field),
+            Form::BracedCopy(base, field) => push_braced_copy(alloc, tokens, base, field),
             Form::Key(function, value) => push_key_call(alloc, tokens, function, value),
             Form::Call(path, arguments) => push_call(alloc, tokens, path.get(), arguments),
             Form::Not(inner) => {
@@ -98,6 +99,21 @@ impl ToTokens for Form {
     }
 }
 
+/// Appends the name of a value and the key of a field of it.
+fn push_place(
+    alloc: Global,
+    tokens: &mut TokenStream,
+    base: &Ident,
+    field: &Word,
+) -> Result<(), AllocError>
+    ensures ok { OnOk result (Prints (place_printout base.now field.now) tokens.old tokens.new) }
+    ensures prefix { HasPrefix tokens.old tokens.new }
+{
+    base.to_tokens(alloc, tokens)?;
+    quote(alloc, tokens, ".")?;
+    push_word(alloc, tokens, field)
+}
+
 /// Appends a reference to a field.
 fn push_reference(
     alloc: Global,
@@ -110,9 +126,24 @@ fn push_reference(
     ensures prefix { HasPrefix tokens.old tokens.new }
 {
     quote(alloc, tokens, "&")?;
-    base.to_tokens(alloc, tokens)?;
-    quote(alloc, tokens, ".")?;
-    push_word(alloc, tokens, field)
+    push_place(alloc, tokens, base, field)
+}
+
+/// Appends a reference to a copy of a field.
+fn push_braced_copy(
+    alloc: Global,
+    tokens: &mut TokenStream,
+    base: &Ident,
+    field: &Word,
+) -> Result<(), AllocError>
+    ensures ok { let form = Form.BracedCopy base.now field.now in
+        OnOk result (Prints (form_printout form) tokens.old tokens.new) }
+    ensures prefix { HasPrefix tokens.old tokens.new }
+{
+    quote(alloc, tokens, "&")?;
+    quote(alloc, tokens, "{")?;
+    push_place(alloc, tokens, base, field)?;
+    quote(alloc, tokens, "}")
 }
 
 /// Appends a call of a key function.
@@ -297,8 +328,7 @@ fn push_arguments(
     tokens: &mut TokenStream,
     arguments: &Forms,
 ) -> Result<(), AllocError>
-    ensures ok { let found = separated (map form_lexemes arguments.now) in
-        OnOk result (Appends found tokens.old tokens.new) }
+    ensures ok { OnOk result (Prints (separated form_printout arguments.now) tokens.old tokens.new) }
     ensures prefix { HasPrefix tokens.old tokens.new }
 {
     for (i, form) in arguments.as_slice().iter().enumerate() {
@@ -309,7 +339,11 @@ fn push_arguments(
 }
 
 /// Appends a comma before the item at an index, but none before the first.
-fn push_comma(alloc: Global, tokens: &mut TokenStream, index: usize) -> Result<(), AllocError>
+pub(crate) fn push_comma(
+    alloc: Global,
+    tokens: &mut TokenStream,
+    index: usize,
+) -> Result<(), AllocError>
     ensures ok { OnOk result (Appends (comma_before index) tokens.old tokens.new) }
     ensures prefix { HasPrefix tokens.old tokens.new }
 {

@@ -4,11 +4,12 @@ ghost use Rattle.educe_tokens.specs.Quote.{is_template, quoted};
 ghost use Rattle.educe_tokens.specs.Appends.{Appends, HasPrefix};
 ghost use Rattle.educe_tokens.proofs.Printable.{well_formed_from, ends_apart_from, lexes_back_from};
 ghost use Rattle.educe_body.specs.Printouts.{Prints, each};
-ghost use Rattle.educe_body.specs.Tokens.{first_name, eq_head, partial_cmp_head, cmp_head, other_head, function_head, function_printout, trait_path, impl_head, impl_printout, item_printout, item_lexemes};
+ghost use Rattle.educe_body.specs.Tokens.{first_name, eq_head, partial_cmp_head, cmp_head, other_head, function_head, function_printout, trait_path, impl_head, impl_type, impl_printout, item_printout, item_lexemes};
 
 use crate::body::{Function, Functions, ImplItem, Item, Names};
 use crate::comparison::Comparison;
 use crate::print::push_block;
+use crate::print_headers::{push_params, push_type_arguments, push_where};
 use educe_tokens::{TokenStream, Word, append_written, push_word, quote};
 use educe_tree::ToTokens;
 use std::alloc::{AllocError, Global};
@@ -183,7 +184,7 @@ impl ToTokens for ImplItem {
 
     fn to_tokens(&self, alloc: Global, tokens: &mut TokenStream) -> Result<(), AllocError> {
         self.push_head(alloc, tokens)?;
-        self.ident.to_tokens(alloc, tokens)?;
+        self.push_type(alloc, tokens)?;
         quote(alloc, tokens, "{")?;
         push_functions(alloc, tokens, self.which, &self.functions)?;
         quote(alloc, tokens, "}")
@@ -191,15 +192,26 @@ impl ToTokens for ImplItem {
 }
 
 impl ImplItem {
-    /// Appends what stands before the name of the type.
+    /// Appends what stands before the type.
     fn push_head(&self, alloc: Global, tokens: &mut TokenStream) -> Result<(), AllocError>
         ensures ok { OnOk result (Prints (impl_head self.now) tokens.old tokens.new) }
         ensures prefix { HasPrefix tokens.old tokens.new }
     {
         append_written(alloc, tokens, &self.attributes)?;
         quote(alloc, tokens, "impl")?;
+        push_params(alloc, tokens, self.generics.params.as_slice())?;
         push_trait(alloc, tokens, self.which)?;
         quote(alloc, tokens, "for")
+    }
+
+    /// Appends the type and the where clause.
+    fn push_type(&self, alloc: Global, tokens: &mut TokenStream) -> Result<(), AllocError>
+        ensures ok { OnOk result (Prints (impl_type self.now) tokens.old tokens.new) }
+        ensures prefix { HasPrefix tokens.old tokens.new }
+    {
+        self.ident.to_tokens(alloc, tokens)?;
+        push_type_arguments(alloc, tokens, self.generics.params.as_slice())?;
+        push_where(alloc, tokens, self.generics.predicates.as_slice())
     }
 }
 

@@ -4,21 +4,28 @@ ghost use Rattle.educe_tokens.specs.Quote.{is_ascii_name};
 
 use crate::body::{call, list, list_of_two};
 use educe_body::{
-    Body, BuiltIn, Comparison, Form, Forms, Function, ImplItem, Item, Items, Known, built_in_path,
-    spell,
+    Body, BuiltIn, Comparison, Form, Forms, Function, Functions, ImplItem, Item, Items, Known,
+    built_in_path, spell,
 };
-use educe_syntax::Ident;
-use educe_tokens::{Boxed, Word, Written, pair};
-use educe_vectors_checks::{check_text, printed};
+use educe_syntax::{Generics, Ident};
+use educe_tokens::{Boxed, Seq, Word, Written, pair};
+use educe_vectors_checks::{check_text, check_texts, definition, printed};
 use std::alloc::{AllocError, Global};
 use std::cmp::Ordering;
 use std::test::Fail;
+
+/// A name, and the key `a`.
+fn place(alloc: Global, name: &str) -> Result<(Ident, Word), AllocError>
+    requires { IsTrue (is_ascii_name name.now) }
+{
+    pair(Ident::from_name(alloc, name)?, Word::from_name(alloc, "a"))
+}
 
 /// The field `a` of what a name stands for.
 fn field(alloc: Global, name: &str) -> Result<Form, AllocError>
     requires { IsTrue (is_ascii_name name.now) }
 {
-    let (base, key) = pair(Ident::from_name(alloc, name)?, Word::from_name(alloc, "a"))?;
+    let (base, key) = place(alloc, name)?;
     Ok(Form::Reference(base, key))
 }
 
@@ -61,6 +68,16 @@ fn prints_forms_as_trees(rt: HostRuntime) -> Result<(), Fail> {
     )
 }
 
+#[test]
+fn prints_a_copied_field_in_braces(rt: HostRuntime) -> Result<(), Fail> {
+    let alloc = rt.alloc();
+    let (base, key) = place(alloc, "self")?;
+    check_text(
+        printed(alloc, Form::BracedCopy(base, key))?,
+        "& { self . a }",
+    )
+}
+
 /// The attribute of an impl.
 #[tactic(auto, unfolding(educe_tokens::specs::Quote::quoted))]
 fn attribute(alloc: Global) -> Result<Written, AllocError> {
@@ -82,17 +99,26 @@ fn function(
     Ok(Function { name, body })
 }
 
-/// The impl of a trait for `S`, with one function.
+/// No parameters and no predicates.
+fn no_generics(alloc: Global) -> Generics {
+    Generics {
+        params: Seq::new(alloc),
+        predicates: Seq::new(alloc),
+    }
+}
+
+/// The impl of a trait for `S` with these parameters and predicates.
 fn implementation(
     alloc: Global,
     which: Comparison,
-    function: Result<Function, AllocError>,
+    generics: Generics,
+    functions: Functions,
 ) -> Result<Items, AllocError> {
-    let head = pair(attribute(alloc)?, Ident::from_name(alloc, "S"))?;
-    let ((attributes, ident), functions) = pair(head, list(alloc, function))?;
+    let (attributes, ident) = pair(attribute(alloc)?, Ident::from_name(alloc, "S"))?;
     let item = ImplItem {
         which,
         attributes,
+        generics,
         ident,
         functions,
     };
@@ -108,7 +134,8 @@ fn spelled(
 ) -> Result<String, AllocError>
     requires { IsTrue (is_ascii_name name.now) }
 {
-    let items = implementation(alloc, which, function(alloc, name, block))?;
+    let functions = list(alloc, function(alloc, name, block))?;
+    let items = implementation(alloc, which, no_generics(alloc), functions)?;
     spell(alloc, &items)
 }
 
@@ -150,5 +177,43 @@ fn spells_a_step_of_partial_cmp(rt: HostRuntime) -> Result<(), Fail> {
     check_text(
         spelled(alloc, Comparison::PartialOrd, "partial_cmp", block)?,
         "# [ automatically_derived ] impl :: core :: cmp :: PartialOrd for S { fn partial_cmp ( & self , other : & Self , ) -> :: core :: option :: Option < :: core :: cmp :: Ordering > { match :: core :: cmp :: PartialOrd :: partial_cmp ( self , other ) { :: core :: option :: Option :: Some ( :: core :: cmp :: Ordering :: Equal ) => ( ) , :: core :: option :: Option :: Some ( :: core :: cmp :: Ordering :: Greater ) => return :: core :: option :: Option :: Some ( :: core :: cmp :: Ordering :: Greater ) , :: core :: option :: Option :: Some ( :: core :: cmp :: Ordering :: Less ) => return :: core :: option :: Option :: Some ( :: core :: cmp :: Ordering :: Less ) , :: core :: option :: Option :: None => return :: core :: option :: Option :: None , } :: core :: option :: Option :: Some ( :: core :: cmp :: Ord :: cmp ( self , other ) ) } }\n",
+    )
+}
+
+/// The text of an impl without functions, with the parameters and the where clause of a definition.
+fn spelled_head(alloc: Global, source: &str) -> Result<String, Fail> {
+    let ast = definition(alloc, source)?;
+    let functions = Seq::new(alloc);
+    let items = implementation(alloc, Comparison::PartialEq, ast.generics, functions)?;
+    Ok(spell(alloc, &items)?)
+}
+
+#[test]
+fn spells_parameters_and_where_clauses(rt: HostRuntime) -> Result<(), Fail> {
+    check_texts(
+        rt.alloc(),
+        spelled_head,
+        &[
+            (
+                "struct S<'a, T: Clone, const N: usize>(&'a [T; N]) where T: ::core::cmp::PartialEq, [T; N]: Sized;",
+                "# [ automatically_derived ] impl < 'a , T : Clone , const N : usize > :: core :: cmp :: PartialEq for S < 'a , T , N > where T : :: core :: cmp :: PartialEq , [ T ; N ] : Sized { }\n",
+            ),
+            (
+                "struct S<'a, 'b: 'a, T: 'a + ?Sized = u8, const N: usize = 3,>(&'b u8, &'a T) where 'a: 'a,;",
+                "# [ automatically_derived ] impl < 'a , 'b : 'a , T : 'a + ? Sized , const N : usize > :: core :: cmp :: PartialEq for S < 'a , 'b , T , N > where 'a : 'a { }\n",
+            ),
+            (
+                "struct S<r#T>(T);",
+                "# [ automatically_derived ] impl < r#T > :: core :: cmp :: PartialEq for S < r#T > { }\n",
+            ),
+            (
+                "struct S<>(u8) where u8: Copy;",
+                "# [ automatically_derived ] impl :: core :: cmp :: PartialEq for S where u8 : Copy { }\n",
+            ),
+            (
+                "struct S(u8) where;",
+                "# [ automatically_derived ] impl :: core :: cmp :: PartialEq for S { }\n",
+            ),
+        ],
     )
 }

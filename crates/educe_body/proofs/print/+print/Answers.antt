@@ -1,10 +1,11 @@
-use Rattle.std.proofs.Common.{List, Option, sym, ap, ◌∙◌}
+use Rattle.std.proofs.Common.{List, Option, sym, ap, ◌∙◌, arith}
 use Rattle.std.proofs.lemmas.Result.{on_ok_weaker}
 use Rattle.educe_tokens.proofs.Appending.{Appends-append, Appends-same}
 use Rattle.educe_body.specs.declared.form.Arm.{Arm}
 use Rattle.educe_body.specs.declared.form.Form.{Form, MatchOrdering, IfLet}
 use Rattle.educe_body.specs.Tokens.{in_some, form_printout, form_lexemes, match_value_printout}
 use Rattle.educe_body.proofs.Printed.{form_lexemes-Call, form_lexemes-Not, form_lexemes-IfReturn, form_lexemes-Return, form_lexemes-SomeOf, form_lexemes-MatchOrdering-None, form_lexemes-MatchOrdering-Some, form_lexemes-MatchValue, form_lexemes-IfLet-None, form_lexemes-IfLet-Some, form_lexemes-Block}
+use Rattle.educe_body.proofs.Separated.{separated-take}
 use Rattle.educe_body.proofs.print.+print.Goals as goal
 
 pub FormToTokens::to_tokens-returns-in_ok-quote-in-Not-clause-ok : goal.FormToTokens::to_tokens-returns-in_ok-quote-in-Not-clause-ok
@@ -88,6 +89,13 @@ push_call-returns-clause-ok t c =
     let front = Appends-append c.in_ok-quote.ensures.ok c.in_ok-push_arguments.ensures.ok in
     let same = sym (form_lexemes-Call c.args.path.now c.args.arguments.now) in
     on_ok_weaker _ (λ back. Appends-same same (Appends-append c.in_ok-to_tokens.ensures.ok (Appends-append front back))) c.quote-2.ensures.ok
+
+pub push_arguments-loop-i-preserved : goal.push_arguments-loop-i-preserved
+push_arguments-loop-i-preserved t c =
+    let forms = c.as_slice-form-items.result.now in
+    let one = Appends-same (ap form_lexemes c.form-item.is) c.in_ok-to_tokens.ensures.ok in
+    let more = separated-take form_printout forms c.loop-i.i c.form-item.result (omega arith) in
+    Appends-same (sym more) (Appends-append c.loop-i.invariant (Appends-append c.in_ok-push_comma.ensures.ok one))
 
 pub push_some-returns-clause-ok : goal.push_some-returns-clause-ok
 push_some-returns-clause-ok t c =

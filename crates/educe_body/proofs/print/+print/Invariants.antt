@@ -1,13 +1,13 @@
-use Rattle.std.proofs.Common.{map, take}
+use Rattle.std.proofs.Common.{take}
 use Rattle.std.specs.List.{flat_map}
 use Rattle.educe_tokens.specs.Appends.{Appends}
 use Rattle.educe_body.specs.Printing.{separated}
 use Rattle.educe_body.specs.Printouts.{Prints, each}
-use Rattle.educe_body.specs.Tokens.{form_lexemes, arm_printout}
+use Rattle.educe_body.specs.Tokens.{form_printout, form_lexemes, arm_printout}
 use Rattle.educe_body.proofs.print.+print.Given as goal
 
 abbrev pub invariant-push_arguments-loop-i : goal.invariant-push_arguments-loop-i
-invariant-push_arguments-loop-i l = Appends (separated (map form_lexemes (take l.i l.form-items))) l.fn.tokens l.tokens
+invariant-push_arguments-loop-i l = Prints (separated form_printout (take l.i l.form-items)) l.fn.tokens l.tokens
 
 abbrev pub invariant-push_forms-loop-form : goal.invariant-push_forms-loop-form
 invariant-push_forms-loop-form l = Appends (flat_map form_lexemes (take l.form-index l.form-items)) l.fn.tokens l.tokens

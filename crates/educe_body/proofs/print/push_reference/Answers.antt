@@ -3,6 +3,4 @@ use Rattle.educe_tokens.proofs.Appending.{Appends-append}
 use Rattle.educe_body.proofs.print.push_reference.Goals as goal
 
 pub returns-clause-ok : goal.returns-clause-ok
-returns-clause-ok c =
-    let base = Appends-append c.in_ok-quote.ensures.ok c.in_ok-to_tokens.ensures.ok in
-    on_ok_weaker _ (λ field. Appends-append (Appends-append base c.in_ok-quote-2.ensures.ok) field) c.push_word.ensures.ok
+returns-clause-ok c = on_ok_weaker _ (λ place. Appends-append c.in_ok-quote.ensures.ok place) c.push_place.ensures.ok
