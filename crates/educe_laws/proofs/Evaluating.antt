@@ -10,6 +10,7 @@ use Rattle.educe_syntax.specs.Refusal.{IsDefinition}
 use Rattle.educe_syntax.specs.Shape.{Shape}
 use Rattle.educe_syntax.specs.Shape.TheVariants.{Struct, Enum}
 use Rattle.educe_syntax.specs.Variant.{Variant}
+use Rattle.educe_bound_classes.proofs.Lawful.{lawful_definitions, always_suffice, always_minimal}
 use Rattle.educe_attrs.specs.Fields.{HaveNoCauses}
 use Rattle.educe_body.specs.declared.comparison.Comparison.{Comparison}
 use Rattle.educe_body.specs.declared.body.Body.{Body}
@@ -25,9 +26,11 @@ use Rattle.educe_laws.specs.Cases.{fields_in, shape_cases}
 use Rattle.educe_laws.specs.Comparisons.{trait_of, field_row}
 use Rattle.educe_laws.specs.Laws.{ComparisonLaws}
 use Rattle.educe_laws.specs.Listed.{listed}
+use Rattle.educe_laws.proofs.Bounding.{bounded_by}
 use Rattle.educe_laws.proofs.Elements.{each_map}
 use Rattle.educe_laws.proofs.Enums.{enum_evaluates}
 use Rattle.educe_laws.proofs.Facts.{AreFit}
+use Rattle.educe_laws.proofs.Inheriting.{comparison_inherits}
 use Rattle.educe_laws.proofs.KeyFunctions.{constants_are}
 use Rattle.educe_laws.proofs.OwnTexts.{HasOwnNumber, own_methods, own_numbers}
 use Rattle.educe_laws.proofs.Refused.{are_said, only_said}
@@ -97,5 +100,7 @@ lawful_comparisons = record {
   scope = scope_apart;
   arm_scope = arm_scope;
   constants = constants_are;
+  inherits = comparison_inherits;
   evaluates = λ which d items is small uncaused block. block_evaluates which d is small uncaused items block;
+  bounded = λ d items is are. bounded_by always_suffice always_minimal d (lawful_definitions.names d is) (lawful_definitions.types d is) items are;
 }

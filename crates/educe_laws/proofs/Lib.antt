@@ -12,5 +12,7 @@ pub mod Arms
 pub mod KeyFunctions
 pub mod Enums
 pub mod Refused
+pub mod Inheriting
+pub mod Bounding
 pub mod Evaluating
 pub mod Stops

@@ -1,14 +1,16 @@
 -- What the bodies of the comparisons of structs evaluate to.
-use Rattle.std.proofs.Common.{◌≡◌, ◌≢◌, ℕ, zero, suc, ◌+◌, Bool, false, List, [], ◌∷◌, ◌++◌, Option, Some, None, map, length, refl, sym, ap, ◌∙◌, subst}
+use Rattle.std.proofs.Common.{◌≡◌, ◌≢◌, ℕ, zero, suc, ◌+◌, Bool, true, false, List, [], ◌∷◌, ◌++◌, Option, Some, None, map, length, refl, sym, ap, ◌∙◌, subst}
 use Rattle.std.specs.Prelude.{if◌then◌else◌, IsSome, codes, slice_get, unwrap_or}
 use Rattle.std.specs.List.{AllByRecursion}
 use Rattle.std.specs.Str.{bytes_eq}
 use Rattle.std.proofs.lemmas.Bool.{true≢false}
 use Rattle.std.proofs.lemmas.Option.{same_Some}
 use Rattle.std.proofs.lemmas.Slice.Eq.{bytes_eq-Decides}
+use Rattle.educe_tokens.specs.declared.word.Word.{Word}
 use Rattle.educe_syntax.specs.Field.{Field}
 use Rattle.educe_syntax.specs.FieldShape.{FieldShape}
 use Rattle.educe_syntax.specs.DeriveInput.{DeriveInput}
+use Rattle.educe_syntax.specs.Ident.{Ident}
 use Rattle.educe_syntax.specs.Keywords.{unraw}
 use Rattle.educe_syntax.specs.Few.{shape_variants, all_fields}
 use Rattle.educe_syntax.specs.Shape.{Shape}
@@ -29,7 +31,7 @@ use Rattle.educe_body.specs.declared.form.Form as form
 use Rattle.educe_body.specs.Chosen.{underscored}
 use Rattle.educe_body.specs.Keys.{AreDifferent, key_of, keys_from, shape_fields, fields_of, keys_of}
 use Rattle.educe_body.specs.Laws.{KeysGive}
-use Rattle.educe_body.specs.Meaning.{Scene, start, innermost, look_up, part_of, part_flow, reference_value, form_value, list_value, outcome_of}
+use Rattle.educe_body.specs.Meaning.{Scene, start, innermost, look_up, part_of, part_flow, reference_value, read_flow, form_value, list_value, outcome_of}
 use Rattle.educe_body.specs.Scoping.{IsApart, own_self, apart}
 use Rattle.educe_body.specs.Words.{HasWord}
 use Rattle.educe_laws.specs.Settings.{Kept, kept_fields}
@@ -38,7 +40,7 @@ use Rattle.educe_laws.specs.Comparing.{Compared, compared_from, compared, says, 
 use Rattle.educe_laws.specs.Discriminants.{counted_from, discriminant, flat, discriminant_of}
 use Rattle.educe_laws.specs.BodyLaws.{lawful_keys}
 use Rattle.educe_laws.specs.Blocks.{IsParameter, IsStructBody, Evaluates, scene_of}
-use Rattle.educe_laws.specs.Steps.{of_base, IsReference, AreSteps}
+use Rattle.educe_laws.specs.Steps.{reference_form, of_base, IsReference, AreSteps}
 use Rattle.educe_laws.proofs.Elements.{each_map, each_mapped, each_weaker}
 use Rattle.educe_laws.proofs.Least.{first_where}
 use Rattle.educe_laws.proofs.Meanings.{each_in_order, means_in_order, same_case, ended}
@@ -107,26 +109,34 @@ module _ (d : DeriveInput) (a b : Value) (table : Answers) (param : List ℕ) (i
       let plain : unraw param ≡ param = ap unraw is.is ∙ unraw_behind is.count (codes "other") refl ∙ sym is.is in
       (own_self refl, (apart (λ has. is.no_word (subst (HasWord d.tokens) plain has)), tt))
 
-  -- a reference gives the field of the value that its base stands for
-  reads_own : (k : Kept) → IsGiven look_a k → (x : Form) → IsReference (codes "self") k.place k.field x → form_value scene env x ≡ Gives env (Part (value_in look_a k))
-  reads_own k given x r =
-      ap (form_value scene env) r.is ∙ (λ i. part_flow env (reference_value scene (look_up env.names (r.base_is i)) (r.key_is i)))
-      ∙ ap (λ (o : Option Referent). part_flow env (reference_value scene o (key_of k.place k.field))) self_found ∙ ap (part_flow env) given
+  -- a field is read in place or by a copy
+  reference_gives : (copied : Bool) (base : Ident) (key : Word) → form_value scene env (reference_form copied base key) ≡ read_flow scene env base.text key.text
+  reference_gives false base key = refl
+  reference_gives true base key = refl
 
-  reads_others : (k : Kept) → IsGiven look_b k → (x : Form) → IsReference param k.place k.field x → form_value scene env x ≡ Gives env (Part (value_in look_b k))
-  reads_others k given x r =
-      ap (form_value scene env) r.is ∙ (λ i. part_flow env (reference_value scene (look_up env.names (r.base_is i)) (r.key_is i)))
-      ∙ ap (λ (o : Option Referent). part_flow env (reference_value scene o (key_of k.place k.field))) other_found ∙ ap (part_flow env) given
+  -- a reference gives the field of the value that its base stands for
+  reads_of : (copied : Bool) (base : List ℕ) (referent : Referent) → look_up env.names base ≡ Some referent → (k : Kept) (x : Form) → IsReference copied base k.place k.field x
+      → form_value scene env x ≡ part_flow env (reference_value scene (Some referent) (key_of k.place k.field))
+  reads_of copied base referent found k x r =
+      ap (form_value scene env) r.is ∙ reference_gives copied r.base_name r.key ∙ (λ i. read_flow scene env (r.base_is i) (r.key_is i))
+      ∙ ap (λ (o : Option Referent). part_flow env (reference_value scene o (key_of k.place k.field))) found
+
+  reads_own : (copied : Bool) (k : Kept) → IsGiven look_a k → (x : Form) → IsReference copied (codes "self") k.place k.field x → form_value scene env x ≡ Gives env (Part (value_in look_a k))
+  reads_own copied k given x r = reads_of copied (codes "self") This self_found k x r ∙ ap (part_flow env) given
+
+  reads_others : (copied : Bool) (k : Kept) → IsGiven look_b k → (x : Form) → IsReference copied param k.place k.field x → form_value scene env x ≡ Gives env (Part (value_in look_b k))
+  reads_others copied k given x r = reads_of copied param Other other_found k x r ∙ ap (part_flow env) given
 
   -- the steps of the function, and what is answered where none returned
-  steps_value : (which : Comparison) (ks : List Kept) (steps : List Form) → AreSteps which (of_base (codes "self")) (of_base param) ks steps → AllByRecursion (λ k. HasOwnPath d.tokens k.how) ks
+  steps_value : (which : Comparison) (copied : Bool) (ks : List Kept) (steps : List Form) → AreSteps which (of_base copied (codes "self")) (of_base copied param) ks steps
+      → AllByRecursion (λ k. HasOwnPath d.tokens k.how) ks
       → AllByRecursion (IsGiven look_a) ks → AllByRecursion (IsGiven look_b) ks → AllByRecursion (λ c. IsSome (says which table c)) (map (seen look_a look_b) ks)
       → outcome_of (list_value scene env Nothing (steps ++ form.Known (neutral which) ∷ [])) ≡ outcome (answered which table (first_where (differs which table) (map (seen look_a look_b) ks)))
-  steps_value which ks steps are named given_a given_b known =
-      let own = of_base (codes "self") in
-      let others = of_base param in
-      let reads_a = each_weaker (IsGiven look_a) (Reads scene env d.tokens names_apart which own others look_a look_b own look_a) reads_own ks given_a in
-      let reads_b = each_weaker (IsGiven look_b) (Reads scene env d.tokens names_apart which own others look_a look_b others look_b) reads_others ks given_b in
+  steps_value which copied ks steps are named given_a given_b known =
+      let own = of_base copied (codes "self") in
+      let others = of_base copied param in
+      let reads_a = each_weaker (IsGiven look_a) (Reads scene env d.tokens names_apart which own others look_a look_b own look_a) (reads_own copied) ks given_a in
+      let reads_b = each_weaker (IsGiven look_b) (Reads scene env d.tokens names_apart which own others look_a look_b others look_b) (reads_others copied) ks given_b in
       ap outcome_of (steps-value scene env d.tokens names_apart which (form.Known (neutral which) ∷ []) (map (seen look_a look_b) ks) steps
       (read_steps scene env d.tokens names_apart which own others look_a look_b ks steps are named reads_a reads_b) known)
       ∙ ended scene env d.tokens names_apart which (first_where (differs which table) (map (seen look_a look_b) ks))
@@ -180,7 +190,7 @@ struct_evaluates which d shape body is differ named k table a b covers =
     let known = each_map Known (seen at_a at_b) kept (subst (AllByRecursion Known) paired each) in
     let none : (v : Value) → discriminant_of table d v ≡ None = λ v. ap (λ (s : Shape). flat (slice_get (map (discriminant table) (counted_from None 0 (shape_variants s))) v.variant)) is in
     (λ i. outcome_of (list_value (scene_of d a b table) (start (k.params_are i)) Nothing (k.block_has.block_is i)))
-    ∙ steps_value d a b table k.param.text k.param_is which k.ordered k.block_has.steps k.block_has.steps_are
+    ∙ steps_value d a b table k.param.text k.param_is which k.copied k.ordered k.block_has.steps k.block_has.steps_are
     (each_in_order which (λ k. HasOwnPath d.tokens k.how) kept k.ordered k.ordered_is named)
     (each_in_order which (IsGiven at_a) kept k.ordered k.ordered_is (each_given at_a which d 0 fs a.fields give_a))
     (each_in_order which (IsGiven at_b) kept k.ordered k.ordered_is (each_given at_b which d 0 fs b.fields give_b))

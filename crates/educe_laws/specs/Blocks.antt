@@ -1,5 +1,5 @@
 -- What the block of a derived trait holds.
-use Rattle.std.specs.Prelude.{ℕ, ◌≡◌, ◌<◌, List, [], ◌∷◌, ◌++◌, Some, codes}
+use Rattle.std.specs.Prelude.{ℕ, ◌≡◌, ◌<◌, Bool, List, [], ◌∷◌, ◌++◌, Some, codes}
 use Rattle.std.specs.List.{AllByRecursion}
 use Rattle.educe_tokens.specs.declared.word.Word.{Word}
 use Rattle.educe_tokens.specs.WrittenLexemes.{written_lexemes}
@@ -8,7 +8,9 @@ use Rattle.educe_syntax.specs.Field.{Field}
 use Rattle.educe_syntax.specs.Shape.{Shape}
 use Rattle.educe_syntax.specs.Shape.TheVariants.{Struct, Enum}
 use Rattle.educe_syntax.specs.Variant.{Variant}
+use Rattle.educe_bound.specs.declared.bound.Bound.TheVariants.{Auto}
 use Rattle.educe_bound.specs.declared.traits.Trait.{Trait}
+use Rattle.educe_bound.specs.Predicates.{keys_of}
 use Rattle.educe_bound.specs.declared.traits.Trait.TheVariants as trait
 use Rattle.educe_attrs.specs.Lints.{impl_attributes}
 use Rattle.educe_body.specs.declared.comparison.Comparison.{Comparison}
@@ -26,6 +28,8 @@ use Rattle.educe_body.specs.Chosen.{underscored}
 use Rattle.educe_body.specs.Meaning.{Scene, value}
 use Rattle.educe_body.specs.Words.{HasWord}
 use Rattle.educe_laws.specs.Arms.{Names, AreNames, IsEnumBlock}
+use Rattle.educe_laws.specs.Comparisons.{trait_of}
+use Rattle.educe_laws.specs.Headers.{AreCopied, IsHeader, bound_for, AreTight}
 use Rattle.educe_laws.specs.Listed.{listed_in_order}
 use Rattle.educe_laws.specs.Settings.{Kept, kept_fields}
 use Rattle.educe_laws.specs.Steps.{Reading, of_base, AreSteps, IsInOrder}
@@ -45,14 +49,16 @@ pub record HasSteps (which : Comparison) (own others : Reading) (ordered : List 
   pub block_is : block ≡ steps ++ form.Known (neutral which) ∷ []
 
 -- the body of a comparison of a struct: its parameter has the chosen name, and its block has one step for each field that takes
--- part, in the order of the trait, which reads the field of `self` and of the parameter
+-- part, in the order of the trait, which reads the field of `self` and of the parameter, in a packed struct by copies
 pub record IsStructBody (which : Comparison) (definition : DeriveInput) (fields : List Field) (body : Body) : Type 0 where
   pub param : Word
   pub params_are : body.params ≡ param ∷ []
   pub param_is : IsParameter definition param.text
   pub ordered : List Kept
   pub ordered_is : IsInOrder which (kept_fields which definition fields) ordered
-  pub block_has : HasSteps which (of_base (codes "self")) (of_base param.text) ordered body.block
+  pub copied : Bool
+  pub copied_are : AreCopied definition copied
+  pub block_has : HasSteps which (of_base copied (codes "self")) (of_base copied param.text) ordered body.block
 
 -- the body of a comparison of an enum
 pub record IsEnumBody (which : Comparison) (definition : DeriveInput) (variants : List Variant) (body : Body) : Type 0 where
@@ -86,10 +92,12 @@ pub record AreFunctions (which : Comparison) (definition : DeriveInput) (functio
   pub name_is : name.text ≡ function_name which
   pub body_is : IsBody which definition body
 
--- the block of a comparison: one impl of its trait for the defined type, with the attributes of generated impls
+-- the block of a comparison: one impl of its trait for the defined type, with the attributes of generated impls and the header of
+-- the trait
 pub record IsImpl (which : Comparison) (definition : DeriveInput) (item : ImplItem) : Type 0 where
   pub which_is : item.which ≡ which
   pub attributes_are : written_lexemes item.attributes ≡ impl_attributes definition.attrs
+  pub header_is : IsHeader (trait_of which) definition item.generics
   pub ident_is : item.ident ≡ definition.ident
   pub functions_are : AreFunctions which definition item.functions
 
@@ -128,3 +136,7 @@ Evaluates which definition body =
 -- each function of the item evaluates to what the item's trait means
 abbrev pub EachEvaluates : DeriveInput → Item → Type 0
 EachEvaluates definition (Impl item) = AllByRecursion (λ f. Evaluates item.which definition f.body) item.functions
+
+-- where the bound of the item's trait is the automatic one, its own predicates suffice, and none of them can be dropped
+abbrev pub HasTightBounds : DeriveInput → Item → Type 0
+HasTightBounds definition (Impl item) = bound_for item.which definition ≡ Auto → AreTight item.which definition (keys_of item.generics.predicates)

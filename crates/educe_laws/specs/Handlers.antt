@@ -1,12 +1,14 @@
 -- What the handler of a trait is asked for, and what it adds to the items and notes for later ones.
-use Rattle.std.specs.Prelude.{◌≡◌, true, List, [], ◌∷◌, ◌++◌}
-use Rattle.std.specs.List.{filter, before_first, AllByRecursion}
+use Rattle.std.specs.Prelude.{◌≡◌, true, List, [], ◌∷◌, ◌++◌, if◌then◌else◌}
+use Rattle.std.specs.List.{filter, flat_map, before_first, AllByRecursion, AllZip}
 use Rattle.educe_syntax.specs.DeriveInput.{DeriveInput}
 use Rattle.educe_bound.specs.declared.traits.Trait.{Trait}
+use Rattle.educe_bound.specs.Predicates.{Key}
 use Rattle.educe_bound.specs.Traits.{is_listed, same_trait}
 use Rattle.educe_body.specs.declared.body.Item.{Item}
 use Rattle.educe_laws.specs.Blocks.{IsBlock, EachEvaluates}
 use Rattle.educe_laws.specs.Built.{built_traits, IsBuilt}
+use Rattle.educe_laws.specs.Headers.{AreOf}
 use Rattle.educe_laws.specs.Listed.{listed}
 
 -- the traits that are handled before this one
@@ -17,18 +19,40 @@ traits_before which = before_first (same_trait which) built_traits
 abbrev pub traits_through : Trait → List Trait
 traits_through which = traits_before which ++ which ∷ []
 
--- what the handlers of the traits that are done note, where the first list has the listed ones: that each of them that is listed
--- was handled
-abbrev pub noted_by : List Trait → List Trait → List Trait
-noted_by traits done = filter (is_listed traits) done
+-- of the traits that are done those that are listed, where the first list has the listed ones
+abbrev pub handled_of : List Trait → List Trait → List Trait
+handled_of traits done = filter (is_listed traits) done
+
+-- what a handler notes for later ones: its trait, and the predicates that its impl adds
+pub record Noted : Type 0 where
+  pub which : Trait
+  pub added : List Key
+
+-- what is noted of a trait
+pub record IsNoted (definition : DeriveInput) (which : Trait) (noted : Noted) : Type 0 where
+  pub which_is : noted.which ≡ which
+  pub added_are : AreOf definition which noted.added
+
+-- the handlers of those of these traits that are listed noted this, in their order
+abbrev pub AreNoted : DeriveInput → List Trait → List Noted → Type 0
+AreNoted definition done noted = AllZip (IsNoted definition) (handled_of (listed definition) done) noted
+
+-- the predicates that are noted of a trait; none where it was not handled
+abbrev pub noted_of : Trait → List Noted → List Key
+noted_of which [] = []
+noted_of which (n ∷ ns) = if same_trait n.which which then n.added else noted_of which ns
+
+-- those that are noted of these traits, one behind the other
+abbrev pub inherited_from : List Noted → List Trait → List Key
+inherited_from noted traits = flat_map (λ which. noted_of which noted) traits
 
 -- the definition is ready for the handler of this trait: it lists the traits, and this one among them; it is of the form that is
 -- built; and the context holds what the handlers before this one noted
-pub record IsReady (which : Trait) (definition : DeriveInput) (traits noted : List Trait) : Type 0 where
+pub record IsReady (which : Trait) (definition : DeriveInput) (traits : List Trait) (noted : List Noted) : Type 0 where
   pub traits_are : traits ≡ listed definition
   pub lists : is_listed traits which ≡ true
   pub built : IsBuilt definition
-  pub noted_is : noted ≡ noted_by traits (traits_before which)
+  pub noted_are : AreNoted definition (traits_before which) noted
 
 -- the items before are kept, and behind them stands the block of the trait
 pub record AddsBlock (which : Trait) (definition : DeriveInput) (before after : List Item) : Type 0 where

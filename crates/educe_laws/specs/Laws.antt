@@ -19,10 +19,13 @@ use Rattle.educe_body.specs.declared.comparison.Comparison.{Comparison}
 use Rattle.educe_syntax.specs.Few.{all_fields}
 use Rattle.educe_body.specs.Words.{HasWord}
 use Rattle.educe_laws.specs.Arms.{Names, AreNames, AreScoped, variables, AreConstants, AreNumbers}
-use Rattle.educe_laws.specs.Blocks.{IsParameter, IsComparisonBlock, EachEvaluates}
+use Rattle.educe_laws.specs.Blocks.{IsParameter, IsComparisonBlock, OneEach, EachEvaluates, HasTightBounds}
 use Rattle.educe_laws.specs.Comparisons.{trait_of, field_row}
 use Rattle.educe_laws.specs.Discriminants.{HaveNumbers}
 use Rattle.educe_laws.specs.Handled.{handling}
+use Rattle.educe_laws.specs.Handlers.{Noted, AreNoted, inherited_from, traits_before}
+use Rattle.educe_laws.specs.Headers.{AreInherited, prerequisites}
+use Rattle.educe_laws.specs.Built.{IsBuilt}
 use Rattle.educe_laws.specs.Listed.{listed}
 use Rattle.educe_laws.specs.Settings.{settings_of, AreSaid}
 
@@ -43,7 +46,13 @@ pub record ComparisonLaws : Type 0 where
   -- where the discriminants are numbers of the type, they are the numbers of the constants
   pub constants : (table : Answers) (definition : DeriveInput) (ty : DiscriminantType) (numbers : List ℤ) (constants : List Constant)
       → HaveNumbers table definition numbers → IsDiscriminantType definition.attrs ty → AreConstants definition ty constants → AreNumbers table numbers constants
+  -- what the context notes of a trait's prerequisites is what its impl inherits
+  pub inherits : (which : Comparison) (definition : DeriveInput) (noted : List Noted) → IsBuilt definition → AreNoted definition (traits_before (trait_of which)) noted
+      → AreInherited definition (prerequisites (trait_of which)) (inherited_from noted (prerequisites (trait_of which)))
   -- where no field of a definition says something wrong of the comparison, the functions of its block evaluate to what it means
   pub evaluates : (which : Comparison) (definition : DeriveInput) (items : List Item) → IsDefinition definition.tokens definition → length definition.tokens ≤ 2 ^ 64
       → HaveNoCauses (trait_of which) (field_row which) (listed definition) (all_fields definition)
       → IsComparisonBlock which definition items → AllByRecursion (EachEvaluates definition) items
+  -- and where the bound of a comparison is the automatic one, the own predicates of its impl suffice, and none can be dropped
+  pub bounded : (definition : DeriveInput) (items : List Item) → IsDefinition definition.tokens definition → OneEach definition items
+      → AllByRecursion (HasTightBounds definition) items

@@ -11,6 +11,7 @@ pub mod Settings
 pub mod Comparing
 -- What the items of a trait hold, and what their functions evaluate to.
 pub mod Steps
+pub mod Headers
 pub mod Arms
 pub mod Blocks
 -- The form of definitions that is built so far, and why a trait is refused.

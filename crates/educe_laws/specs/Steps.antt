@@ -1,5 +1,5 @@
 -- The steps of comparisons: what a function does with each field that takes part.
-use Rattle.std.specs.Prelude.{ℕ, ◌≡◌, true, false, List, [], ◌∷◌, ◌++◌, None, IsPermutation}
+use Rattle.std.specs.Prelude.{ℕ, ◌≡◌, Bool, true, false, List, [], ◌∷◌, ◌++◌, None, IsPermutation}
 use Rattle.std.specs.List.{AllZip}
 use Rattle.std.specs.declared.cmp.Ordering.TheVariants.{Less, Greater}
 use Rattle.educe_tokens.specs.declared.word.Word.{Word}
@@ -9,7 +9,7 @@ use Rattle.educe_syntax.specs.ExprPath.{ExprPath}
 use Rattle.educe_syntax.specs.Field.{Field}
 use Rattle.educe_body.specs.declared.comparison.Comparison.{Comparison}
 use Rattle.educe_body.specs.declared.comparison.Comparison.TheVariants.{PartialEq, PartialOrd, Ord}
-use Rattle.educe_body.specs.declared.form.Form.{Form, Local, Reference, Call, Not, SomeOf, IfReturn, MatchOrdering}
+use Rattle.educe_body.specs.declared.form.Form.{Form, Local, Reference, BracedCopy, Call, Not, SomeOf, IfReturn, MatchOrdering}
 use Rattle.educe_body.specs.BuiltIn.{IsBuiltIn}
 use Rattle.educe_body.specs.Keys.{key_of, binding_key}
 use Rattle.educe_laws.specs.Ranks.{Rises}
@@ -18,11 +18,16 @@ use Rattle.educe_laws.specs.Comparing.{comparison}
 
 -- ---- how a field is read
 
--- `& base . key` for the field at a place: the key is its name, or its place where it has none
-pub record IsReference (base : List ℕ) (place : ℕ) (field : Field) (x : Form) : Type 0 where
+-- `& base . key`, or with true `& { base . key }`, which reads a copy
+abbrev pub reference_form : Bool → Ident → Word → Form
+reference_form false base key = Reference base key
+reference_form true base key = BracedCopy base key
+
+-- the reference to the field at a place, or with true to a copy of it: the key is its name, or its place where it has none
+pub record IsReference (copied : Bool) (base : List ℕ) (place : ℕ) (field : Field) (x : Form) : Type 0 where
   pub base_name : Ident
   pub key : Word
-  pub is : x ≡ Reference base_name key
+  pub is : x ≡ reference_form copied base_name key
   pub base_is : base_name.text ≡ base
   pub nowhere : base_name.span ≡ no_place
   pub key_is : key.text ≡ key_of place field
@@ -34,14 +39,14 @@ pub record IsVariable (prefix : List ℕ) (place : ℕ) (field : Field) (x : For
   pub name_is : name.text ≡ prefix ++ binding_key place field
   pub nowhere : name.span ≡ no_place
 
--- a field is read of the value of this name, or as the local variable behind this prefix
+-- a field is read of the value of this name, with true by a copy; or as the local variable behind this prefix
 pub data Reading : Type 0 where
-  of_base : List ℕ → Reading
+  of_base : Bool → List ℕ → Reading
   bound : List ℕ → Reading
 
 -- the form reads the field so
 abbrev pub IsRead : Reading → Kept → Form → Type 0
-IsRead (of_base base) kept x = IsReference base kept.place kept.field x
+IsRead (of_base copied base) kept x = IsReference copied base kept.place kept.field x
 IsRead (bound prefix) kept x = IsVariable prefix kept.place kept.field x
 
 -- ---- steps
