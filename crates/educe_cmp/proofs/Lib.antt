@@ -9,3 +9,6 @@ pub mod Named
 pub mod Counted
 pub mod Refused
 pub mod Added
+pub mod Inherited
+pub mod Visited
+pub mod Headed

@@ -3,10 +3,6 @@ use Rattle.std.proofs.Common.{◌≡◌, refl, chars}
 use Rattle.std.specs.Prelude.{codes}
 use Rattle.educe_syntax.specs.TokenLaws.{ascii_chars}
 
--- the characters of `bound`
-pub chars_bound : chars (codes "bound") ≡ codes "bound"
-chars_bound = ascii_chars (codes "bound") refl
-
 -- the characters of `other`
 pub chars_other : chars (codes "other") ≡ codes "other"
 chars_other = ascii_chars (codes "other") refl

@@ -3,5 +3,7 @@ pub mod Ranked
 pub mod OneWord
 pub mod Names
 pub mod Readings
+-- The types of fields that bounds speak of, and the predicates that are added.
+pub mod Visits
 -- The laws of comparisons as terms.
 pub mod Laws

@@ -8,10 +8,10 @@ use Rattle.educe_laws.specs.Steps as steps
 
 -- how a field is read, by the texts of the names
 abbrev pub reading_of : Reading → steps.Reading
-reading_of (OfBase base) = steps.of_base base.now.text
+reading_of (OfBase base copied) = steps.of_base copied base.now.text
 reading_of (Bound prefix) = steps.bound prefix.now
 
 -- the name stands at no place; the prefix is a word
 abbrev pub CanRead : Reading → Type 0
-CanRead (OfBase base) = base.now.span ≡ no_place
+CanRead (OfBase base copied) = base.now.span ≡ no_place
 CanRead (Bound prefix) = IsWord prefix.now

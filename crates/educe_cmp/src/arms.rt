@@ -47,7 +47,7 @@ pub fn arm(
     names: &Names,
     variant: &Variant,
     settings: &[FieldSettings],
-    fields: &[Ranked<'_>],
+    fields: &[Ranked<'_, '_>],
 ) -> Result<Arm, AllocError>
     requires plain { IsBuiltIn (meaning.comparison which) plain.now }
     requires each { length settings.now ≡ length (fields_in variant.now) }

@@ -58,7 +58,7 @@ fn compared(
     plain: &Shared<ExprPath>,
     own: Reading<'_>,
     others: Reading<'_>,
-    ranked: &Ranked<'_>,
+    ranked: &Ranked<'_, '_>,
 ) -> Result<Form, AllocError>
     requires plain { IsBuiltIn (meaning.comparison which) plain.now }
     requires own { CanRead own }
@@ -112,7 +112,7 @@ fn step(
     plain: &Shared<ExprPath>,
     own: Reading<'_>,
     others: Reading<'_>,
-    ranked: &Ranked<'_>,
+    ranked: &Ranked<'_, '_>,
 ) -> Result<Form, AllocError>
     requires plain { IsBuiltIn (meaning.comparison which) plain.now }
     requires own { CanRead own }
@@ -142,7 +142,7 @@ pub fn steps(
     plain: &Shared<ExprPath>,
     own: Reading<'_>,
     others: Reading<'_>,
-    fields: &[Ranked<'_>],
+    fields: &[Ranked<'_, '_>],
 ) -> Result<Forms, AllocError>
     requires plain { IsBuiltIn (meaning.comparison which) plain.now }
     requires own { CanRead own }

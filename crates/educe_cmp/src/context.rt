@@ -1,23 +1,68 @@
 //! What handlers note for those that follow.
 ghost use Rattle.std.specs.Prelude.{◌≡◌, [], ◌∷◌, ◌++◌, OnOk, OnErr};
+ghost use Rattle.educe_bound_classes.specs.Deriving.{Extends};
+ghost use Rattle.educe_bound.specs.Predicates.{keys_of};
+ghost use Rattle.educe_bound.specs.Traits as traits;
+ghost use Rattle.educe_laws.specs.Handlers as spec;
 
-use educe_bound::{Trait, Traits};
+use educe_bound::{Trait, extend_where_predicates, same_trait};
+use educe_syntax::Predicates;
 use educe_tokens::Seq;
 use std::alloc::{AllocError, Global};
 use std::marker::Model;
 
-/// What the handlers of one definition noted, in the order in which they ran: the traits whose
-/// handlers ran. In the supported subset no impl has predicates, so none are noted.
+/// What the handler of a trait noted: the predicates that its impl has besides those of the
+/// definition (documentation of `educe`, Bounds).
+#[derive(Drop)]
+pub struct Noted {
+    which: Trait,
+    predicates: Predicates,
+}
+
+impl Model for Noted {
+    ghost use Rattle.educe_bound.specs.Predicates.{keys_of};
+    ghost use Rattle.educe_laws.specs.Handlers as spec;
+
+    ghost Value = { spec.Noted };
+
+    ghost view = { λ noted. record { which = noted.which; added = keys_of noted.predicates } };
+}
+
+impl Noted {
+    /// What is noted of a trait.
+    fn new(which: Trait, predicates: Predicates) -> Noted
+        ensures { result ≡ record { which = which; added = keys_of predicates } }
+    {
+        Noted { which, predicates }
+    }
+
+    /// Whether it is noted of this trait.
+    fn is_of(&self, which: Trait) -> bool
+        ensures { result ≡ traits.same_trait self.now.which which }
+    {
+        same_trait(self.which, which)
+    }
+
+    /// Appends, one after the other, those of the predicates that are not there yet.
+    fn add_to(&self, alloc: Global, own: &mut Predicates) -> Result<(), AllocError>
+        ensures { OnOk result (Extends (keys_of own.old) self.now.added (keys_of own.new)) }
+    {
+        extend_where_predicates(alloc, own, &self.predicates)
+    }
+}
+
+/// What the handlers of one definition noted, in the order in which they ran: the predicates that
+/// later impls inherit (documentation of `educe`, Bounds).
 #[derive(Drop)]
 pub struct TraitHandlerContext {
-    noted: Traits,
+    noted: Seq<Noted>,
 }
 
 impl Model for TraitHandlerContext {
     ghost use Rattle.std.specs.Prelude.{List};
-    ghost use Rattle.educe_bound.specs.declared.traits.Trait.{Trait};
+    ghost use Rattle.educe_laws.specs.Handlers as spec;
 
-    ghost Value = { List Trait };
+    ghost Value = { List spec.Noted };
 
     ghost view = { λ context. context.noted };
 }
@@ -32,11 +77,43 @@ impl TraitHandlerContext {
         }
     }
 
-    /// Notes that the handler of a trait ran.
-    pub fn note(&mut self, which: Trait) -> Result<(), AllocError>
-        ensures ok { OnOk result (self.new ≡ self.old ++ which ∷ []) }
+    /// Notes that the handler of a trait ran, and which predicates its impl adds.
+    pub fn note_predicates(
+        &mut self,
+        which: Trait,
+        predicates: Predicates,
+    ) -> Result<(), AllocError>
+        ensures ok { OnOk result (self.new ≡ self.old ++ record { which = which; added = keys_of predicates } ∷ []) }
         ensures err { OnErr result (self.new ≡ self.old) }
     {
-        self.noted.push(which)
+        self.noted.push(Noted::new(which, predicates))
+    }
+
+    /// Appends the predicates that are noted of a trait, as far as they are not there yet.
+    fn inherit(&self, alloc: Global, which: Trait, own: &mut Predicates) -> Result<(), AllocError>
+        ensures { OnOk result (Extends (keys_of own.old) (spec.noted_of which self.now) (keys_of own.new)) }
+    {
+        for noted in self.noted.as_slice() {
+            if noted.is_of(which) {
+                return noted.add_to(alloc, own);
+            }
+        }
+        Ok(())
+    }
+
+    /// Appends the predicates that are noted of these traits, as far as they are not there yet, those of
+    /// one trait behind those of the one before (documentation of `educe`, Bounds).
+    pub fn inherit_from(
+        &self,
+        alloc: Global,
+        prerequisites: &[Trait],
+        own: &mut Predicates,
+    ) -> Result<(), AllocError>
+        ensures ok { OnOk result (Extends (keys_of own.old) (spec.inherited_from self.now prerequisites.now) (keys_of own.new)) }
+    {
+        for which in prerequisites {
+            self.inherit(alloc, *which, own)?;
+        }
+        Ok(())
     }
 }

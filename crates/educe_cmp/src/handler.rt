@@ -1,5 +1,5 @@
 //! The trait that handlers implement.
-ghost use Rattle.std.specs.Prelude.{◌≡◌, Bool, IsTrue, OnOk, IfErr};
+ghost use Rattle.std.specs.Prelude.{Bool, IsTrue, OnOk, IfErr};
 ghost use Rattle.educe_tokens.specs.Prefix.{HasPrefix};
 ghost use Rattle.educe_syntax.specs.Shape.{Shape};
 ghost use Rattle.educe_syntax.specs.Refusal.{IsDefinition};
@@ -7,7 +7,7 @@ ghost use Rattle.educe_bound.specs.declared.traits.Trait.{Trait};
 ghost use Rattle.educe_attrs.specs.Causes.{NoCause, OfStop};
 ghost use Rattle.educe_attrs.specs.Phases.{OfHandler};
 ghost use Rattle.educe_laws.specs.Handled.{handling};
-ghost use Rattle.educe_laws.specs.Handlers.{IsReady, AddsBlock, AddsMeaning, noted_by, traits_through};
+ghost use Rattle.educe_laws.specs.Handlers.{IsReady, AddsBlock, AddsMeaning, AreNoted, traits_through};
 
 use crate::context::TraitHandlerContext;
 use educe_attrs::Stop;
@@ -26,8 +26,8 @@ pub trait TraitHandler {
 
     ghost takes: { Shape → Bool };
 
-    /// Adds the items of the trait behind those that are there, and notes in the context that the
-    /// trait is handled. Handlers of the listed traits are called in the fixed order. After an error
+    /// Adds the items of the trait behind those that are there, and notes in the context which
+    /// predicates its impl adds. Handlers of the listed traits are called in the fixed order. After an error
     /// the items hold what they held, and the context may have a note more.
     fn trait_meta_handler(
         alloc: Global,
@@ -43,7 +43,7 @@ pub trait TraitHandler {
         // Its functions evaluate to what the trait means, where the definition is one that a text gives.
         ensures means { IsDefinition ast.now.tokens ast.now → OnOk result (AddsMeaning ast.now items.old items.new) }
         // The context is the one that the handler of the next trait asks for.
-        ensures notes { OnOk result (ctx.new ≡ noted_by traits.now (traits_through TRAIT)) }
+        ensures notes { OnOk result (AreNoted ast.now (traits_through TRAIT) ctx.new) }
         // It refuses exactly where a cause stands, or memory fails.
         ensures uncaused { OnOk result (NoCause (OfHandler (handling ast.now) TRAIT)) }
         ensures err { IfErr result (λ s. OfStop (OfHandler (handling ast.now) TRAIT) s) };

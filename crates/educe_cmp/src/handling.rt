@@ -1,64 +1,82 @@
 //! What the handler of each comparison does.
-ghost use Rattle.std.specs.Prelude.{◌≡◌, [], ◌∷◌, List, true, length, map, IsTrue, OnOk, IfOk, IfErr};
+ghost use Rattle.std.specs.Prelude.{◌≡◌, [], ◌∷◌, OnOk, IfOk, IfErr};
 ghost use Rattle.educe_tokens.specs.Prefix.{HasPrefix};
 ghost use Rattle.educe_syntax.specs.Few.{all_fields};
 ghost use Rattle.educe_syntax.specs.Refusal.{IsDefinition};
-ghost use Rattle.educe_bound.specs.Traits as traits;
 ghost use Rattle.educe_attrs.specs.Causes.{NoCause, OfStop};
 ghost use Rattle.educe_attrs.specs.Fields.{HaveNoCauses};
 ghost use Rattle.educe_attrs.specs.Phases.{OfHandler};
+ghost use Rattle.educe_bound.specs.Predicates.{keys_of};
+ghost use Rattle.educe_cmp.specs.Visits.{Visits};
 ghost use Rattle.educe_laws.specs.Blocks.{IsComparisonBlock, IsBody};
+ghost use Rattle.educe_laws.specs.Cases.{cases_of};
 ghost use Rattle.educe_laws.specs.Comparisons as comparisons;
 ghost use Rattle.educe_laws.specs.Handled.{OfShape, handling};
-ghost use Rattle.educe_laws.specs.Handlers.{IsReady, AddsBlock, AddsMeaning, noted_by, traits_through};
+ghost use Rattle.educe_laws.specs.Handlers.{IsReady, AddsBlock, AddsMeaning, AreNoted, traits_through};
+ghost use Rattle.educe_laws.specs.Headers.{AreCopied, AreOf};
 ghost use Rattle.educe_laws.specs.Listed as listing;
 
 use crate::cases::{enum_case, struct_case};
-use crate::comparison::{trait_of, type_row};
+use crate::comparison::trait_of;
 use crate::context::TraitHandlerContext;
+use crate::header::{Header, bound_of_type, header_of, is_copied};
 use crate::items::comparison_item;
-use educe_attrs::{Stop, place_settings};
+use crate::task::Task;
+use crate::visits::Visit;
+use educe_attrs::Stop;
 use educe_body::{Body, Comparison, Item, Items};
 use educe_bound::Trait;
-use educe_syntax::{DeriveInput, Shape};
+use educe_syntax::{DeriveInput, Predicates, Shape};
 use std::alloc::Global;
 
-/// The body of a listed comparison. It is refused exactly where an attribute of a variant or a field or
-/// a rank is wrong, or memory fails.
-fn body(alloc: Global, which: Comparison, ast: &DeriveInput, listed: &[Trait]) -> Result<Body, Stop>
-    requires { listed.now ≡ listing.listed ast.now }
-    ensures ok { IfOk result (IsBody which ast.now) }
-    ensures uncaused { IfOk result (λ _. NoCause (OfShape which ast.now ast.now.shape)) }
-    ensures err { IfErr result (λ s. OfStop (OfShape which ast.now ast.now.shape) s) }
+/// The body of a listed comparison. Fields are read by copies where they have to be, and what bounds
+/// speak of is visited. It is refused exactly where an attribute of a variant or a field or a rank is
+/// wrong, or memory fails.
+fn body<'d>(
+    alloc: Global,
+    task: Task<'d, '_>,
+    copied: bool,
+    visits: &mut Vec<Visit<'d>>,
+) -> Result<Body, Stop>
+    requires listed { task.listed.now ≡ listing.listed task.ast.now }
+    requires copied { AreCopied task.ast.now copied }
+    ensures ok { IfOk result (IsBody task.entry.which task.entry.ast.now) }
+    ensures visits { OnOk result (Visits task.entry.which task.entry.ast.now (cases_of task.entry.ast.now) visits.old.items visits.new.items) }
+    ensures uncaused { IfOk result (λ _. NoCause (OfShape task.entry.which task.entry.ast.now task.entry.ast.now.shape)) }
+    ensures err { IfErr result (λ s. OfStop (OfShape task.entry.which task.entry.ast.now task.entry.ast.now.shape) s) }
 {
-    match &ast.shape {
-        Shape::Struct(shape) => struct_case(alloc, which, ast, shape.fields.as_slice(), listed),
-        Shape::Enum(variants) => enum_case(alloc, which, ast, variants.as_slice(), listed),
+    match &task.ast.shape {
+        Shape::Struct(shape) => {
+            struct_case(alloc, task, shape.fields.as_slice(), copied, visits)
+        }
+        Shape::Enum(variants) => enum_case(alloc, task, variants.as_slice(), visits),
     }
 }
 
-/// The block of a listed comparison. It is refused exactly where an `educe` list, an attribute of the
-/// comparison or a rank is wrong, or memory fails.
+/// The block of a listed comparison, and the predicates that its impl adds. It is refused exactly where
+/// an `educe` list, an attribute of the comparison or a rank is wrong, or memory fails.
 fn block(
     alloc: Global,
-    which: Comparison,
-    ast: &DeriveInput,
-    listed: &[Trait],
-) -> Result<Item, Stop>
-    requires listed { listed.now ≡ listing.listed ast.now }
-    requires lists { traits.is_listed listed.now (comparisons.trait_of which) ≡ true }
-    ensures ok { IfOk result (λ item. IsComparisonBlock which ast.now (item ∷ [])) }
-    ensures read { IfOk result (λ _. HaveNoCauses (comparisons.trait_of which) (comparisons.field_row which) (listing.listed ast.now) (all_fields ast.now)) }
-    ensures uncaused { IfOk result (λ _. NoCause (OfHandler (handling ast.now) (comparisons.trait_of which))) }
-    ensures err { IfErr result (λ s. OfStop (OfHandler (handling ast.now) (comparisons.trait_of which)) s) }
+    task: Task<'_, '_>,
+    ctx: &TraitHandlerContext,
+) -> Result<(Item, Predicates), Stop>
+    requires { IsReady (comparisons.trait_of task.which) task.ast.now task.listed.now ctx.now }
+    ensures ok { IfOk result (λ found. IsComparisonBlock task.entry.which task.entry.ast.now (found.0 ∷ [])) }
+    ensures added { IfOk result (λ found. AreOf task.entry.ast.now (comparisons.trait_of task.entry.which) (keys_of found.1)) }
+    ensures read { IfOk result (λ _. HaveNoCauses (comparisons.trait_of task.entry.which) (comparisons.field_row task.entry.which) (listing.listed task.entry.ast.now) (all_fields task.entry.ast.now)) }
+    ensures uncaused { IfOk result (λ _. NoCause (OfHandler (handling task.entry.ast.now) (comparisons.trait_of task.entry.which))) }
+    ensures err { IfErr result (λ s. OfStop (OfHandler (handling task.entry.ast.now) (comparisons.trait_of task.entry.which)) s) }
 {
-    let own = trait_of(which);
-    let _type_settings = place_settings(alloc, own, &type_row(), listed, ast.attrs.as_slice())?;
-    let body = body(alloc, which, ast, listed)?;
-    Ok(comparison_item(alloc, which, ast, body)?)
+    let bound = bound_of_type(alloc, task)?;
+    let copied = is_copied(alloc, task.ast)?;
+    let mut visits = Vec::new(alloc);
+    let body = body(alloc, task, copied, &mut visits)?;
+    let Header { generics, added } = header_of(alloc, task, &bound, &visits, copied, ctx)?;
+    let item = comparison_item(alloc, task.which, task.ast, generics, body)?;
+    Ok((item, added))
 }
 
-/// The handler of a comparison: adds its block, and notes its trait.
+/// The handler of a comparison: adds its block, and notes which predicates its impl adds.
 pub fn compare(
     alloc: Global,
     which: Comparison,
@@ -71,14 +89,19 @@ pub fn compare(
     ensures kept { HasPrefix items.old items.new }
     ensures adds { OnOk result (AddsBlock (comparisons.trait_of which) ast.now items.old items.new) }
     ensures means { IsDefinition ast.now.tokens ast.now → OnOk result (AddsMeaning ast.now items.old items.new) }
-    ensures notes { OnOk result (ctx.new ≡ noted_by traits.now (traits_through (comparisons.trait_of which))) }
+    ensures notes { OnOk result (AreNoted ast.now (traits_through (comparisons.trait_of which)) ctx.new) }
     ensures uncaused { OnOk result (NoCause (OfHandler (handling ast.now) (comparisons.trait_of which))) }
     ensures err { IfErr result (λ s. OfStop (OfHandler (handling ast.now) (comparisons.trait_of which)) s) }
 {
     // There are as many tokens as a `usize` can count, so as many fields at the most.
     let _count = ast.tokens.len();
-    let item = block(alloc, which, ast, traits)?;
+    let task = Task {
+        which,
+        ast,
+        listed: traits,
+    };
+    let (item, added) = block(alloc, task, ctx)?;
     items.push(item)?;
-    ctx.note(trait_of(which))?;
+    ctx.note_predicates(trait_of(which), added)?;
     Ok(())
 }

@@ -3,10 +3,12 @@ ghost use Rattle.std.specs.Prelude.{◌≡◌, [], ◌∷◌, IfOk};
 ghost use Rattle.educe_tokens.specs.WrittenLexemes.{written_lexemes};
 ghost use Rattle.educe_attrs.specs.Lints.{impl_attributes};
 ghost use Rattle.educe_laws.specs.Blocks as spec;
+ghost use Rattle.educe_laws.specs.Comparisons.{trait_of};
+ghost use Rattle.educe_laws.specs.Headers.{IsHeader};
 
 use educe_attrs::generated_impl_attributes;
 use educe_body::{Body, Comparison, Function, Functions, ImplItem, Item};
-use educe_syntax::{DeriveInput, Duplicate};
+use educe_syntax::{DeriveInput, Duplicate, Generics};
 use educe_tokens::{Seq, TokenSlice, Word, Written};
 use std::alloc::{AllocError, Global};
 
@@ -38,14 +40,16 @@ fn attributes(alloc: Global, ast: &DeriveInput) -> Result<Written, AllocError>
     Ok(Written::new(TokenSlice::new(alloc, tokens)?))
 }
 
-/// The impl of a comparison whose function has this body.
+/// The impl of a comparison with these generics, whose function has this body.
 pub fn comparison_item(
     alloc: Global,
     which: Comparison,
     ast: &DeriveInput,
+    generics: Generics,
     body: Body,
 ) -> Result<Item, AllocError>
-    requires { spec.IsBody which ast.now body }
+    requires generics { IsHeader (trait_of which) ast.now generics }
+    requires body { spec.IsBody which ast.now body }
     ensures { IfOk result (λ item. spec.IsComparisonBlock which ast.now (item ∷ [])) }
 {
     let attributes = attributes(alloc, ast)?;
@@ -55,6 +59,7 @@ pub fn comparison_item(
     Ok(Item::Impl(ImplItem {
         which,
         attributes,
+        generics,
         ident,
         functions,
     }))

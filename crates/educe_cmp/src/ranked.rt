@@ -16,10 +16,10 @@ pub enum How<'a> {
 /// A field that takes part in a comparison, its place among all fields, counted from 0, its rank,
 /// where that stands, and how it is compared.
 #[derive(Clone, Copy)]
-pub struct Ranked<'a> {
-    pub field: &'a Field,
+pub struct Ranked<'f, 's> {
+    pub field: &'f Field,
     pub place: usize,
     pub rank: i64,
     pub rank_span: Span,
-    pub how: How<'a>,
+    pub how: How<'s>,
 }

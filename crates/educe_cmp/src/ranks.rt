@@ -16,11 +16,11 @@ use educe_tokens::{EduceError, Kind};
 use std::alloc::{AllocError, Global};
 
 /// The fields that take part by their settings, in written order.
-pub fn kept_fields<'a>(
+pub fn kept_fields<'f, 's>(
     alloc: Global,
-    fields: &'a [Field],
-    settings: &'a [FieldSettings],
-) -> Result<Vec<Ranked<'a>>, AllocError>
+    fields: &'f [Field],
+    settings: &'s [FieldSettings],
+) -> Result<Vec<Ranked<'f, 's>>, AllocError>
     requires { length settings.now ≡ length fields.now }
     ensures { IfOk result (λ kept. map kept_of kept.items ≡ spec.kept_by 0 fields.now settings.now) }
 {
@@ -41,7 +41,7 @@ pub fn kept_fields<'a>(
 }
 
 /// Of two places, the one whose next field was written first.
-fn earlier(sorted: &[Ranked<'_>], found: Option<usize>, at: usize) -> usize
+fn earlier(sorted: &[Ranked<'_, '_>], found: Option<usize>, at: usize) -> usize
     requires found { IfSome found (λ other. other + 1 < length sorted.now) }
     requires at { at + 1 < length sorted.now }
     ensures one { (result ≡ at) ⊎ (found ≡ Some result) }
@@ -56,7 +56,7 @@ fn earlier(sorted: &[Ranked<'_>], found: Option<usize>, at: usize) -> usize
 
 /// A place where a field and the next one have one rank; of such places the one whose next field
 /// was written first.
-fn repeat_at(sorted: &[Ranked<'_>]) -> Option<usize>
+fn repeat_at(sorted: &[Ranked<'_, '_>]) -> Option<usize>
     ensures none { IfNone result (NeighboursDiffer (λ (f : Ranked). f.rank) sorted.now) }
     ensures some { IfSome result (IsRepeatAt (λ (f : Ranked). f.rank) sorted.now) }
     ensures earliest { IfSome result (IsEarliestRepeat (λ (f : Ranked). f.rank) (λ f. f.place) sorted.now) }
@@ -71,7 +71,7 @@ fn repeat_at(sorted: &[Ranked<'_>]) -> Option<usize>
 }
 
 /// The refusal of a field that has the rank of an earlier one.
-fn reuse(alloc: Global, later: &Ranked<'_>) -> EduceError
+fn reuse(alloc: Global, later: &Ranked<'_, '_>) -> EduceError
     ensures { result ≡ reuse_of later.now.rank later.now.rank_span }
 {
     EduceError::new(
@@ -83,11 +83,11 @@ fn reuse(alloc: Global, later: &Ranked<'_>) -> EduceError
 
 /// The fields that take part in an order by their settings, the one of least rank first. Refused where
 /// two of them have one rank; of such fields the one that is written first behind another counts.
-pub fn by_rank<'a>(
+pub fn by_rank<'f, 's>(
     alloc: Global,
-    fields: &'a [Field],
-    settings: &'a [FieldSettings],
-) -> Result<Vec<Ranked<'a>>, Stop>
+    fields: &'f [Field],
+    settings: &'s [FieldSettings],
+) -> Result<Vec<Ranked<'f, 's>>, Stop>
     requires { length settings.now ≡ length fields.now }
     ensures sorted { IfOk result (λ sorted.
         IsByRank (spec.kept_by 0 fields.now settings.now) (map kept_of sorted.items)) }

@@ -15,20 +15,31 @@ use std::alloc::{AllocError, Global};
 /// How a field is read (Rust Reference, Field access expressions; Identifier patterns).
 #[derive(Clone, Copy)]
 pub enum Reading<'a> {
-    /// Of the value of this name: `&base.key`.
-    OfBase(&'a Ident),
+    /// Of the value of this name: `&base.key`, or where the truth value holds by a copy, `&{base.key}`.
+    OfBase(&'a Ident, bool),
     /// As the local variable behind this prefix.
     Bound(&'a Spelling),
 }
 
-/// `&base.key`, for the field at a place.
-fn reference(alloc: Global, base: &Ident, place: usize, field: &Field) -> Result<Form, AllocError>
+/// `&base.key`, or `&{base.key}`, for the field at a place (Rust Reference, Field access expressions;
+/// The alignment modifiers).
+fn reference(
+    alloc: Global,
+    base: &Ident,
+    copied: bool,
+    place: usize,
+    field: &Field,
+) -> Result<Form, AllocError>
     requires { base.now.span ≡ no_place }
-    ensures { IfOk result (spec.IsReference base.now.text place field.now) }
+    ensures { IfOk result (spec.IsReference copied base.now.text place field.now) }
 {
     let base = base.duplicate(alloc)?;
     let key = key_word(alloc, place, field)?;
-    Ok(Form::Reference(base, key))
+    if copied {
+        Ok(Form::BracedCopy(base, key))
+    } else {
+        Ok(Form::Reference(base, key))
+    }
 }
 
 /// The local variable of the field at a place.
@@ -45,12 +56,18 @@ fn variable(
 }
 
 /// The form that reads the field at a place.
-pub fn read(alloc: Global, reading: Reading<'_>, ranked: &Ranked<'_>) -> Result<Form, AllocError>
+pub fn read(
+    alloc: Global,
+    reading: Reading<'_>,
+    ranked: &Ranked<'_, '_>,
+) -> Result<Form, AllocError>
     requires { CanRead reading }
     ensures { IfOk result (spec.IsRead (reading_of reading.entry) (kept_of ranked.now)) }
 {
     match reading {
-        Reading::OfBase(base) => reference(alloc, base, ranked.place, ranked.field),
+        Reading::OfBase(base, copied) => {
+            reference(alloc, base, copied, ranked.place, ranked.field)
+        }
         Reading::Bound(prefix) => variable(alloc, prefix, ranked.place, ranked.field),
     }
 }

@@ -4,6 +4,7 @@ ghost use Rattle.educe_tokens.specs.Appends.{no_place};
 ghost use Rattle.educe_syntax.specs.Field.{Field};
 ghost use Rattle.educe_cmp.specs.Ranked.{kept_of};
 ghost use Rattle.educe_laws.specs.Blocks as spec;
+ghost use Rattle.educe_laws.specs.Headers.{AreCopied};
 ghost use Rattle.educe_laws.specs.Settings.{kept_fields};
 ghost use Rattle.educe_laws.specs.Steps.{IsInOrder};
 
@@ -29,20 +30,26 @@ fn parameter(alloc: Global, ast: &DeriveInput) -> Result<Ident, AllocError>
     used.select(alloc, "other")
 }
 
-/// The body of a comparison of a struct, over its fields in the order of the trait.
+/// The body of a comparison of a struct, over its fields in the order of the trait, which are read by
+/// copies where they have to be.
 pub fn struct_body(
     alloc: Global,
     which: Comparison,
     ast: &DeriveInput,
-    fields: &[Ranked<'_>],
+    copied: bool,
+    fields: &[Ranked<'_, '_>],
 ) -> Result<Body, AllocError>
+    requires { AreCopied ast.now copied }
     ensures { (all : List Field) → IsInOrder which (kept_fields which ast.now all) (map kept_of fields.now) →
         IfOk result (spec.IsStructBody which ast.now all) }
 {
     let own = Ident::from_name(alloc, "self")?;
     let other = parameter(alloc, ast)?;
     let plain = comparison_path(alloc, which)?;
-    let (first, second) = (Reading::OfBase(&own), Reading::OfBase(&other));
+    let (first, second) = (
+        Reading::OfBase(&own, copied),
+        Reading::OfBase(&other, copied),
+    );
     let mut block = steps(alloc, which, &plain, first, second, fields)?;
     block.push(Form::Known(neutral(which)))?;
     let mut params = Seq::new(alloc);

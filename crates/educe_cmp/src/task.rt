@@ -1,0 +1,12 @@
+//! What the functions of a handler are asked for.
+use educe_body::Comparison;
+use educe_bound::Trait;
+use educe_syntax::DeriveInput;
+
+/// A comparison, the definition that it is derived for, and the traits that this lists.
+#[derive(Clone, Copy)]
+pub struct Task<'d, 'l> {
+    pub which: Comparison,
+    pub ast: &'d DeriveInput,
+    pub listed: &'l [Trait],
+}
