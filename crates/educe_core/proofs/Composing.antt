@@ -1,7 +1,7 @@
 -- One handler behind the other.
 use Rattle.std.proofs.Common.{◌≡◌, ◌≢◌, ◌∙◌, Bool, true, false, cond, List, [], ◌∷◌, ◌++◌, Result, Ok, Err, refl, sym, ap, subst, append_assoc, append-nil, arith}
 use Rattle.std.specs.Prelude.{IsTrue, Contains, OnOk, slice_index_or}
-use Rattle.std.specs.List.{filter, AllByRecursion}
+use Rattle.std.specs.List.{filter, AllByRecursion, AllZip}
 use Rattle.std.proofs.lemmas.Bool.{true≢false, false≢true, eq-eqb}
 use Rattle.std.proofs.lemmas.List.Elements.{filter-append, All-contains, All-from_recursion}
 use Rattle.std.proofs.lemmas.List.Folds.{list_any_at}
@@ -25,7 +25,7 @@ use Rattle.educe_cmp.specs.Laws.{lawful_comparisons}
 use Rattle.educe_laws.specs.Blocks.{IsBlock, Blocks, OneEach, EachEvaluates}
 use Rattle.educe_laws.specs.Built.{built_traits, are_built}
 use Rattle.educe_laws.specs.Handled.{handling, IsListedCause}
-use Rattle.educe_laws.specs.Handlers.{AddsBlock, AddsMeaning, noted_by}
+use Rattle.educe_laws.specs.Handlers.{Noted, IsNoted, AreNoted, AddsBlock, AddsMeaning, handled_of}
 use Rattle.educe_laws.specs.Listed.{listed, listed_in_order}
 use Rattle.educe_laws.specs.Settings.{AreAllSaid}
 use Rattle.educe_laws.proofs.Elements.{each_joined}
@@ -60,7 +60,7 @@ filter-within p q [] within = refl
 filter-within p q (x ∷ xs) within = within_step p x (filter q xs) (filter p xs) (q x) (p x) refl (within x) (filter-within p q xs within)
 
 -- where the items of all listed traits are built, these are the listed ones among those that are built
-built_in_order : (d : DeriveInput) → IsTrue (are_built (listed d)) → noted_by (listed d) built_traits ≡ listed_in_order d
+built_in_order : (d : DeriveInput) → IsTrue (are_built (listed d)) → handled_of (listed d) built_traits ≡ listed_in_order d
 built_in_order d built =
     filter-within (is_listed (listed d)) (is_listed built_traits) variants (λ which lists. standing_built (listed d) which built (listed_stands (listed d) which lists))
 
@@ -76,21 +76,21 @@ blocks_more [] which d items own none block = (own, [], ap (λ front. front ++ o
 blocks_more (t ∷ traits) which d items own (first, rest, is, here, later) block =
     (first, rest ++ own, ap (λ all. all ++ own) is ∙ append_assoc first rest own, here, blocks_more traits which d rest own later block)
 
-module _ (done : List Trait) (which : Trait) (d : DeriveInput) (noted : List Trait) (items : List Item) (before : AreHandled done d noted items) where
-  -- what was noted before, and this trait where it is listed
-  noted_more : noted_by (listed d) (done ++ which ∷ []) ≡ noted_by (listed d) done ++ cond (is_listed (listed d) which) (which ∷ []) []
-  noted_more = filter-append (is_listed (listed d)) done (which ∷ [])
+module _ (done : List Trait) (which : Trait) (d : DeriveInput) (noted : List Noted) (items : List Item) (before : AreHandled done d noted items) where
+  -- the traits that were handled before, and this one where it is listed
+  handled_more : handled_of (listed d) (done ++ which ∷ []) ≡ handled_of (listed d) done ++ cond (is_listed (listed d) which) (which ∷ []) []
+  handled_more = filter-append (is_listed (listed d)) done (which ∷ [])
 
   -- the trait is listed, and its handler ran
-  listed_more : (after : List Trait) (new : List Item) → is_listed (listed d) which ≡ true → AddsBlock which d items new → (IsDefinition d.tokens d → AddsMeaning d items new)
-      → after ≡ noted_by (listed d) (done ++ which ∷ []) → NoCause (OfHandler (handling d) which) → AreHandled (done ++ which ∷ []) d after new
+  listed_more : (after : List Noted) (new : List Item) → is_listed (listed d) which ≡ true → AddsBlock which d items new → (IsDefinition d.tokens d → AddsMeaning d items new)
+      → AreNoted d (done ++ which ∷ []) after → NoCause (OfHandler (handling d) which) → AreHandled (done ++ which ∷ []) d after new
   listed_more after new lists adds means notes uncaused =
-      let now_noted : noted_by (listed d) done ++ which ∷ [] ≡ noted_by (listed d) (done ++ which ∷ []) =
-      ap (λ b. noted_by (listed d) done ++ cond b (which ∷ []) []) (sym lists) ∙ sym noted_more in
-      let more = blocks_more (noted_by (listed d) done) which d items adds.own before.blocks adds.block in
+      let now_handled : handled_of (listed d) done ++ which ∷ [] ≡ handled_of (listed d) (done ++ which ∷ []) =
+      ap (λ b. handled_of (listed d) done ++ cond b (which ∷ []) []) (sym lists) ∙ sym handled_more in
+      let more = blocks_more (handled_of (listed d) done) which d items adds.own before.blocks adds.block in
       record {
-        noted_is = notes;
-        blocks = subst (λ is. Blocks (noted_by (listed d) (done ++ which ∷ [])) d is) (sym adds.is) (subst (λ ts. Blocks ts d (items ++ adds.own)) now_noted more);
+        noted_are = notes;
+        blocks = subst (λ is. Blocks (handled_of (listed d) (done ++ which ∷ [])) d is) (sym adds.is) (subst (λ ts. Blocks ts d (items ++ adds.own)) now_handled more);
         evaluates = λ definition.
             let meaning = means definition in
             subst (AllByRecursion (EachEvaluates d)) (sym meaning.is) (each_joined (EachEvaluates d) items meaning.own (before.evaluates definition) meaning.each);
@@ -100,18 +100,18 @@ module _ (done : List Trait) (which : Trait) (d : DeriveInput) (noted : List Tra
   -- the trait is not listed
   pub unlisted_more : is_listed (listed d) which ≡ false → AreHandled (done ++ which ∷ []) d noted items
   unlisted_more fails =
-      let as_before : noted_by (listed d) done ≡ noted_by (listed d) (done ++ which ∷ []) =
-      sym (noted_more ∙ ap (λ b. noted_by (listed d) done ++ cond b (which ∷ []) []) fails ∙ append-nil (noted_by (listed d) done)) in
+      let as_before : handled_of (listed d) done ≡ handled_of (listed d) (done ++ which ∷ []) =
+      sym (handled_more ∙ ap (λ b. handled_of (listed d) done ++ cond b (which ∷ []) []) fails ∙ append-nil (handled_of (listed d) done)) in
       record {
-        noted_is = before.noted_is ∙ as_before;
+        noted_are = subst (λ ts. AllZip (IsNoted d) ts noted) as_before before.noted_are;
         blocks = subst (λ ts. Blocks ts d items) as_before before.blocks;
         evaluates = before.evaluates;
         uncaused = each_joined _ done (which ∷ []) before.uncaused ((λ lists. absurd (true≢false (sym lists ∙ fails))), tt);
       }
 
   -- the trait is listed, and its handler answered this
-  pub listed_answered : {A : Type 0} (r : Result A Stop) (after : List Trait) (new : List Item) → is_listed (listed d) which ≡ true → OnOk r (AddsBlock which d items new)
-      → (IsDefinition d.tokens d → OnOk r (AddsMeaning d items new)) → OnOk r (after ≡ noted_by (listed d) (done ++ which ∷ [])) → OnOk r (NoCause (OfHandler (handling d) which))
+  pub listed_answered : {A : Type 0} (r : Result A Stop) (after : List Noted) (new : List Item) → is_listed (listed d) which ≡ true → OnOk r (AddsBlock which d items new)
+      → (IsDefinition d.tokens d → OnOk r (AddsMeaning d items new)) → OnOk r (AreNoted d (done ++ which ∷ []) after) → OnOk r (NoCause (OfHandler (handling d) which))
       → OnOk r (AreHandled (done ++ which ∷ []) d after new)
   listed_answered (Ok x) after new lists adds means notes uncaused = listed_more after new lists adds means notes uncaused
   listed_answered (Err s) after new lists adds means notes uncaused = tt
@@ -119,9 +119,9 @@ module _ (done : List Trait) (which : Trait) (d : DeriveInput) (noted : List Tra
 -- ---- all of them
 
 -- no handler ran
-pub none_handled : (d : DeriveInput) (noted : List Trait) (items : List Item) → noted ≡ [] → items ≡ [] → AreHandled [] d noted items
+pub none_handled : (d : DeriveInput) (noted : List Noted) (items : List Item) → noted ≡ [] → items ≡ [] → AreHandled [] d noted items
 none_handled d noted items unnoted empty = record {
-  noted_is = unnoted;
+  noted_are = subst (AreNoted d []) (sym unnoted) tt;
   blocks = empty;
   evaluates = λ _. subst (AllByRecursion (EachEvaluates d)) (sym empty) tt;
   uncaused = tt;
@@ -132,7 +132,7 @@ some_stands : (traits : List Trait) → traits ≢ [] → (which : Trait) × Con
 some_stands [] some_listed = absurd (some_listed refl)
 some_stands (which ∷ more) some_listed = (which, (0, omega arith, refl))
 
-module _ (d : DeriveInput) (noted : List Trait) (items : List Item) (built : IsTrue (are_built (listed d))) (all : AreHandled built_traits d noted items) where
+module _ (d : DeriveInput) (noted : List Noted) (items : List Item) (built : IsTrue (are_built (listed d))) (all : AreHandled built_traits d noted items) where
   -- each listed trait has its block, and there is nothing else
   pub one_each : OneEach d items
   one_each = subst (λ ts. Blocks ts d items) (built_in_order d built) all.blocks

@@ -10,13 +10,13 @@ use Rattle.educe_attrs.specs.Phases.{OfHandler}
 use Rattle.educe_body.specs.declared.body.Item.{Item}
 use Rattle.educe_laws.specs.Blocks.{Blocks, EachEvaluates}
 use Rattle.educe_laws.specs.Handled.{handling}
-use Rattle.educe_laws.specs.Handlers.{noted_by}
+use Rattle.educe_laws.specs.Handlers.{Noted, AreNoted, handled_of}
 use Rattle.educe_laws.specs.Listed.{listed}
 
 -- each of these traits that is listed was handled, and no other trait: the context holds what their handlers noted; the items are
 -- their blocks, one behind the other, whose functions evaluate to what the traits mean; and no cause of theirs stands
-pub record AreHandled (done : List Trait) (definition : DeriveInput) (noted : List Trait) (items : List Item) : Type 0 where
-  pub noted_is : noted ≡ noted_by (listed definition) done
-  pub blocks : Blocks (noted_by (listed definition) done) definition items
+pub record AreHandled (done : List Trait) (definition : DeriveInput) (noted : List Noted) (items : List Item) : Type 0 where
+  pub noted_are : AreNoted definition done noted
+  pub blocks : Blocks (handled_of (listed definition) done) definition items
   pub evaluates : IsDefinition definition.tokens definition → AllByRecursion (EachEvaluates definition) items
   pub uncaused : AllByRecursion (λ which. is_listed (listed definition) which ≡ true → NoCause (OfHandler (handling definition) which)) done

@@ -17,7 +17,7 @@ use Rattle.educe_body.specs.declared.body.Item.{Item}
 use Rattle.educe_body.specs.Tokens.{tokens_of, spelling}
 use Rattle.educe_attrs.specs.Causes.{NoCause}
 use Rattle.educe_attrs.specs.Listing.{IsListing}
-use Rattle.educe_laws.specs.Blocks.{OneEach, EachEvaluates}
+use Rattle.educe_laws.specs.Blocks.{OneEach, EachEvaluates, HasTightBounds}
 use Rattle.educe_laws.specs.Built.{IsBuilt}
 use Rattle.educe_laws.specs.Handled.{IsListedCause}
 use Rattle.educe_laws.specs.Listed.{listed, IsListingCause}
@@ -66,8 +66,9 @@ IsAlone source e = (other : EduceError) → other.kind ≢ Alloc → IsCause sou
 
 -- A source is expanded to these items, written as these bytes: the bytes are the spelling of the items, which lexes to their
 -- tokens; no cause of a listed trait stands, and the settings of each field are what its attributes say; the items hold one block
--- for each listed trait of the definition, and nothing else; and over each table and any two values that it covers, their functions
--- evaluate to what the traits mean.
+-- for each listed trait of the definition, and nothing else; over each table and any two values that it covers, their functions
+-- evaluate to what the traits mean; and where the bound of a trait is the automatic one, its own predicates suffice, and none of
+-- them can be dropped.
 pub record IsExpansion (source : List ℕ) (items : List Item) (written : List ℕ) : Type 0 where
   pub definition : DeriveInput
   pub defines : Defines (chars source) definition
@@ -77,5 +78,6 @@ pub record IsExpansion (source : List ℕ) (items : List Item) (written : List �
   pub said : AreAllSaid definition
   pub one_each : OneEach definition items
   pub evaluates : AllByRecursion (EachEvaluates definition) items
+  pub bounded : AllByRecursion (HasTightBounds definition) items
   pub bytes : written ≡ encode_utf8_all (spelling items)
   pub lexes : LexesAside (spelling items) (tokens_of items)

@@ -5,7 +5,7 @@ ghost use Rattle.educe_syntax.specs.Refusal.{IsDefinition};
 ghost use Rattle.educe_attrs.specs.Causes.{NoCause, OfStop};
 ghost use Rattle.educe_attrs.specs.Listing.{IsListing};
 ghost use Rattle.educe_core.specs.Composed.{AreHandled};
-ghost use Rattle.educe_laws.specs.Blocks.{OneEach, EachEvaluates};
+ghost use Rattle.educe_laws.specs.Blocks.{OneEach, EachEvaluates, HasTightBounds};
 ghost use Rattle.educe_laws.specs.Built.{IsBuilt};
 ghost use Rattle.educe_laws.specs.Handled.{IsListedCause};
 ghost use Rattle.educe_laws.specs.Handlers.{traits_before, traits_through};
@@ -52,6 +52,7 @@ pub fn blocks(alloc: Global, ast: &DeriveInput, listed: &[Trait]) -> Result<Item
     ensures one_each { IfOk result (OneEach ast.now) }
     ensures said { IfOk result (λ _. AreAllSaid ast.now) }
     ensures evaluates { IsDefinition ast.now.tokens ast.now → IfOk result (AllByRecursion (EachEvaluates ast.now)) }
+    ensures bounded { IsDefinition ast.now.tokens ast.now → IfOk result (AllByRecursion (HasTightBounds ast.now)) }
     ensures uncaused { IfOk result (λ _. NoCause (IsListedCause ast.now)) }
     ensures err { IfErr result (λ s. OfStop (IsListedCause ast.now) s) }
 {

@@ -7,7 +7,7 @@ ghost use Rattle.educe_syntax.specs.Refusal.{IsDefinition};
 ghost use Rattle.educe_attrs.specs.Causes.{NoCause, OfStop};
 ghost use Rattle.educe_attrs.specs.Listing.{IsListing};
 ghost use Rattle.educe_core.specs.Headline.{IsHandlerCause};
-ghost use Rattle.educe_laws.specs.Blocks.{OneEach, EachEvaluates};
+ghost use Rattle.educe_laws.specs.Blocks.{OneEach, EachEvaluates, HasTightBounds};
 ghost use Rattle.educe_laws.specs.Built.{IsBuilt};
 ghost use Rattle.educe_laws.specs.Handled.{IsListedCause};
 ghost use Rattle.educe_laws.specs.Listed as listing;
@@ -48,6 +48,7 @@ fn items_of(alloc: Global, ast: &DeriveInput) -> Result<Items, Stop>
     ensures one_each { IfOk result (OneEach ast.now) }
     ensures said { IfOk result (λ _. AreAllSaid ast.now) }
     ensures evaluates { IsDefinition ast.now.tokens ast.now → IfOk result (AllByRecursion (EachEvaluates ast.now)) }
+    ensures bounded { IsDefinition ast.now.tokens ast.now → IfOk result (AllByRecursion (HasTightBounds ast.now)) }
     ensures lists { IfOk result (λ _. IsListing ast.now.attrs (listing.listed ast.now)) }
     ensures listing { IfOk result (λ _. NoCause (listing.IsListingCause ast.now)) }
     ensures built { IfOk result (λ _. IsBuilt ast.now) }
@@ -55,7 +56,7 @@ fn items_of(alloc: Global, ast: &DeriveInput) -> Result<Items, Stop>
     ensures err { IfErr result (λ s. OfStop (IsHandlerCause ast.now) s) }
 {
     let listed = listed_traits(alloc, ast)?;
-    if !is_built(alloc, ast, listed.as_slice())? {
+    if !is_built(listed.as_slice()) {
         return Err(Stop::Refused(EduceError::new(alloc, Kind::NotBuilt, Span::NONE)));
     }
     blocks(alloc, ast, listed.as_slice())
@@ -69,6 +70,7 @@ pub fn derive_input_handler(alloc: Global, ast: &DeriveInput) -> Result<Items, E
     // The settings of each field, by which its items are made, are what its attributes say.
     ensures said { IfOk result (λ _. AreAllSaid ast.now) }
     ensures evaluates { IsDefinition ast.now.tokens ast.now → IfOk result (AllByRecursion (EachEvaluates ast.now)) }
+    ensures bounded { IsDefinition ast.now.tokens ast.now → IfOk result (AllByRecursion (HasTightBounds ast.now)) }
     ensures lists { IfOk result (λ _. IsListing ast.now.attrs (listing.listed ast.now)) }
     // No cause stands in any phase.
     ensures listing { IfOk result (λ _. NoCause (listing.IsListingCause ast.now)) }

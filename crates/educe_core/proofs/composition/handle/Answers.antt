@@ -4,7 +4,7 @@ use Rattle.educe_attrs.specs.Phases.{OfHandler}
 use Rattle.educe_bound.specs.declared.traits.Trait.{Trait}
 use Rattle.educe_bound.specs.Traits.{is_listed}
 use Rattle.educe_laws.specs.Handled.{handling, IsListedCause}
-use Rattle.educe_laws.specs.Handlers.{traits_before, traits_through, noted_by}
+use Rattle.educe_laws.specs.Handlers.{traits_before}
 use Rattle.educe_laws.specs.Listed.{listed}
 use Rattle.educe_laws.proofs.Stops.{stop_returned}
 use Rattle.educe_core.proofs.Composing.{listed_answered, unlisted_more, listed_refused}
@@ -15,7 +15,7 @@ trait_meta_handler-requires-clause-ready g c = record {
   traits_are = c.requires.listed;
   lists = ap (is_listed c.args.listed.now) (sym c.TRAIT.ensures) ∙ sym c.is_listed.ensures ∙ c.if-is_listed.true;
   built = c.requires.built;
-  noted_is = rw c.requires.listed c.requires.before.noted_is;
+  noted_are = c.requires.before.noted_are;
 }
 
 pub returns-then-is_listed-clause-through : goal.returns-then-is_listed-clause-through
@@ -24,8 +24,7 @@ returns-then-is_listed-clause-through g c =
     let d = c.args.ast.now in
     let lists : is_listed (listed d) which ≡ true = rw (← c.requires.listed, ← c.TRAIT.ensures) (sym c.is_listed.ensures ∙ c.if-is_listed.true) in
     let ran = c.trait_meta_handler in
-    let notes = subst (λ (traits : List Trait). OnOk ran.result (ran.new.ctx ≡ noted_by traits (traits_through which))) c.requires.listed ran.ensures.notes in
-    listed_answered (traits_before which) which d c.args.ctx.now c.args.items.now c.requires.before ran.result ran.new.ctx ran.new.items lists ran.ensures.adds ran.ensures.means notes
+    listed_answered (traits_before which) which d c.args.ctx.now c.args.items.now c.requires.before ran.result ran.new.ctx ran.new.items lists ran.ensures.adds ran.ensures.means ran.ensures.notes
     ran.ensures.uncaused
 
 pub returns-then-is_listed-clause-err : goal.returns-then-is_listed-clause-err

@@ -27,6 +27,8 @@ returns-in-Ok-spell-clause-done c = record {
   one_each = c.in-Ok-derive_input_handler.ensures.one_each;
   evaluates = c.in-Ok-derive_input_handler.ensures.evaluates
       (record { whole = c.in-Ok.ensures.defines.whole; apart = c.in-Ok.ensures.defines.names_apart });
+  bounded = c.in-Ok-derive_input_handler.ensures.bounded
+      (record { whole = c.in-Ok.ensures.defines.whole; apart = c.in-Ok.ensures.defines.names_apart });
   bytes = c.in-Ok-spell.ensures.spelled;
   lexes = c.in-Ok-spell.ensures.lexes;
 }
