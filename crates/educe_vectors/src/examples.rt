@@ -7,16 +7,19 @@ use educe_tokens::Kind;
 use std::cmp::Ordering;
 use std::test::Fail;
 
+mod bounds;
 mod builders;
 mod checks;
 mod devices;
 mod enum_orders;
 mod enums;
 mod fields;
+mod generics;
 mod impls;
 mod listings;
 mod methods;
 mod names;
+mod packed;
 mod phases;
 
 /// What a method answers where it is called on fields of two numbers, under the text of its path.
@@ -45,6 +48,8 @@ pub(crate) enum Answer {
     Text(&'static str),
     /// `expand` writes a text that contains this one.
     Holds(&'static str),
+    /// `expand` writes a text that contains each of these.
+    HoldsEach(&'static [&'static str]),
     /// `expand` writes a text.
     Expanded,
     /// The function of the first impl evaluates so over values whose fields have these numbers.

@@ -142,6 +142,14 @@ pub(crate) fn check_holds(alloc: Global, input: &str, part: &str) -> Result<(), 
     }
 }
 
+/// The input is expanded to a text that contains each of these.
+pub(crate) fn check_holds_each(alloc: Global, input: &str, parts: &[&str]) -> Result<(), Fail> {
+    for part in parts {
+        check_holds(alloc, input, part)?;
+    }
+    Ok(())
+}
+
 /// The input is refused with one of these notes.
 pub(crate) fn check_one_of(alloc: Global, input: &str, notes: &[&str]) -> Result<(), Fail> {
     let found = Case::of(input.as_bytes(), 1, "", "").outcome(alloc, 4096)?;

@@ -2,7 +2,7 @@
 
 use crate::examples::{Answer, Called, Example};
 use crate::program::bodies::{check_pairs, evaluated_by, evaluated_first};
-use crate::program::{Case, check_holds, check_notes, check_one_of};
+use crate::program::{Case, check_holds, check_holds_each, check_notes, check_one_of};
 use educe_body::{Comparison, Outcome};
 use educe_tokens::{EduceError, Kind, Token, int_value, string_value};
 use educe_vectors_checks::{check_at, lex_answer, lexed, printed_source};
@@ -73,6 +73,7 @@ fn check(alloc: Global, example: &Example) -> Result<(), Fail> {
     match answer {
         Answer::Text(text) => Case::of(source.as_bytes(), 0, text, "").check(alloc),
         Answer::Holds(part) => check_holds(alloc, source, part),
+        Answer::HoldsEach(parts) => check_holds_each(alloc, source, parts),
         Answer::Expanded => check_notes(alloc, source, ""),
         Answer::Value(this, other, outcome) => check_value(alloc, source, (this, other), *outcome),
         Answer::Called(which, calls, this, other, outcome) => {
