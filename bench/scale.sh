@@ -69,6 +69,17 @@ def numbered(front, part, back):
         return front + "".join(parts) + back
     return make
 
+def paired(front, first, between, second, back):
+    """As many pairs of parts as fit, each of which its number makes: the first ones, and behind them the second ones."""
+    def make(size):
+        firsts, seconds, used = [], [], len(front + between + back)
+        while used + len(first(len(firsts)) + second(len(firsts))) <= size:
+            used += len(first(len(firsts)) + second(len(firsts)))
+            seconds.append(second(len(firsts)))
+            firsts.append(first(len(firsts)))
+        return front + "".join(firsts) + between + "".join(seconds) + back
+    return make
+
 def enum(front, variant):
     """An enum with the three comparisons and as many variants as fit, each of which its number makes."""
     return numbered("#[educe(PartialEq,PartialOrd,Ord)] " + front + "enum E {", variant, "}")
@@ -79,6 +90,19 @@ def one_variant(field):
 
 SMALL = "#[educe(PartialEq)] struct S { a: u8 }"
 THREE = "#[educe(PartialEq,PartialOrd,Ord)] struct S { a: u8 }"
+
+EACH = "#[educe(PartialEq,PartialOrd,Ord)] "
+
+def type_of(n):
+    """A type with a parameter: of each class but the mentioning one."""
+    return (f"W<T{n}>", f"Vec<T{n}>", f"T{n}", f"[T{n};N]")[n % 4]
+
+def nested_types(size):
+    """Fields whose types nest as deep as fit: 128 with the brace of the struct."""
+    def field(n):
+        outer = ("Vec<", "Option<", "W<")[n % 3]
+        return f"f{n}:" + outer * 126 + "T" + ">" * 126 + ","
+    return numbered(EACH + "struct S<T> {", field, "}")(size)
 
 def at_a_field(front, part, back):
     """A field whose attributes hold as many equal parts as fit."""
@@ -150,6 +174,13 @@ shapes = [
     ("underscored", numbered("#[educe(PartialEq)] struct S {", lambda n: f"{'_' * n}other:u8,", "}")),
     ("underscores", repeated("#[educe(PartialEq)] struct S { ", "_", "other: u8 }")),
     ("words", repeated("/// ", "other ", "\n" + THREE)),
+    ("param_fields", paired(EACH + "struct S<const N:usize,", lambda n: f"T{n},", "> {", lambda n: f"f{n}:{type_of(n)},", "}")),
+    ("one_generic", numbered(EACH + "struct S<T> {", lambda n: f"f{n}:W<T>,", "}")),
+    ("nested_types", nested_types),
+    ("where_clause", numbered(EACH + "struct S<T> where ", lambda n: f"T:A{n}<T>,", "{ a: T }")),
+    ("listed_bounds", numbered("#[educe(PartialEq(bound(", lambda n: f"T:A{n}<T>,", ")),PartialOrd,Ord)] struct S<T> { a: T }")),
+    ("mentioned_params", paired(EACH + "struct S<", lambda n: f"T{n},", "> { a: (u8, S<", lambda n: f"T{n},", ">) }")),
+    ("packed_fields", paired(EACH + "#[repr(packed)] struct S<const N:usize,", lambda n: f"T{n},", "> {", lambda n: f"f{n}:{type_of(n)},", "}")),
 ]
 for name, make in shapes:
     for kib in (16, 32, 64, 128):
@@ -163,7 +194,7 @@ ratio() {
 }
 
 printf '%-18s %7s %8s %7s %10s %7s %9s\n' shape bytes seconds ratio 'Minstr' ratio 'peak MB'
-[ $# -gt 0 ] || set -- fields variants units unit_discriminants data data_discriminants one_discriminant long_discriminant variant_fields variant_ranks variant_settings prefixed prefixes deep_type generics predicates chains attributes own ord partial_ord all fallbacks settings equal_ranks lints lists field_lists repr type_list type_path params other_param value zeros digits last_word last_fault long_names blanks small_tokens comment nested string raw_string brackets script methods method_path underscored underscores words
+[ $# -gt 0 ] || set -- fields variants units unit_discriminants data data_discriminants one_discriminant long_discriminant variant_fields variant_ranks variant_settings prefixed prefixes deep_type generics predicates chains attributes own ord partial_ord all fallbacks settings equal_ranks lints lists field_lists repr type_list type_path params other_param value zeros digits last_word last_fault long_names blanks small_tokens comment nested string raw_string brackets script methods method_path underscored underscores words param_fields one_generic nested_types where_clause listed_bounds mentioned_params packed_fields
 for name in "$@"; do
   seconds_before=0
   count_before=0

@@ -32,7 +32,7 @@ for example in *.rs; do
   {
     grep -v '^ *#\[educe(.*)\] *$' "$example" || true
     cat "$folder/impls"
-    sed -n 's/.* impl :: core :: cmp :: Ord for \([^ ]*\) .*/impl Eq for \1 {}/p' "$folder/impls"
+    sed -n 's/.* impl \(.*\):: core :: cmp :: Ord for \(.*\) { fn cmp .*/impl \1 Eq for \2 {}/p' "$folder/impls"
   } > "$folder/$name.rs"
   if rustc --edition 2021 --crate-type lib -A dead_code --crate-name "$name" --out-dir "$folder" "$folder/$name.rs"; then
     echo "$name: compiled"

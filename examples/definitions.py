@@ -1,4 +1,4 @@
-"""Definitions, the values that they have, and programs of what is printed for them; for answers.py and pairs.py."""
+"""Definitions, the values that they have, and programs of what is printed for them; for answers.py, pairs.py and generics.py."""
 
 import re
 import subprocess
@@ -66,14 +66,26 @@ def fields_of(lexemes):
     return "{", [next(x for x, after in zip(item, item[1:]) if after == ":") for item in items]
 
 
+def behind_header(lexemes, at):
+    """The index behind the generic parameters at an index, and behind a where clause that follows them."""
+    depth = 0
+    while lexemes[at] == "<" or depth > 0:
+        depth += (lexemes[at] == "<") - (lexemes[at] == ">")
+        at += 1
+    if lexemes[at] == "where":
+        while lexemes[at] not in ("{", ";"):
+            at = closed(lexemes, at) if lexemes[at] in ("(", "[") else at + 1
+    return at
+
+
 def cases(definition):
     """The cases of a definition, which are the variants of an enum or the one of a struct: path, bracket, fields."""
     lexemes = lexemes_of(definition)
     if "struct" in lexemes:
         at = lexemes.index("struct") + 1
-        return [(lexemes[at], *fields_of(lexemes[at + 1:]))]
+        return [(lexemes[at], *fields_of(lexemes[behind_header(lexemes, at + 1):]))]
     at = lexemes.index("enum") + 1
-    variants = listed(lexemes[at + 1:], opening=None)
+    variants = listed(lexemes[behind_header(lexemes, at + 1):], opening=None)
     return [(f"{lexemes[at]}::{variant[0]}", *fields_of(variant[1:])) for variant in variants]
 
 
@@ -124,25 +136,34 @@ def bare(definition, name):
 FUNCTIONS = {"PartialEq": "eq", "PartialOrd": "partial_cmp", "Ord": "cmp"}
 
 ADDED = {
-    "PartialEq": "impl ::core::cmp::PartialEq for {0} {{ fn eq(&self, _: &Self) -> bool {{ ::core::unreachable!() }} }}",
-    "PartialOrd": "impl ::core::cmp::PartialOrd for {0} {{ fn partial_cmp(&self, _: &Self) -> ::core::option::Option<::core::cmp::Ordering> {{ ::core::unreachable!() }} }}",
-    "Eq": "impl ::core::cmp::Eq for {0} {{}}",
+    "PartialEq": "impl {0}::core::cmp::PartialEq for {1} {{ fn eq(&self, _: &Self) -> bool {{ ::core::unreachable!() }} }}",
+    "PartialOrd": "impl {0}::core::cmp::PartialOrd for {1} {{ fn partial_cmp(&self, _: &Self) -> ::core::option::Option<::core::cmp::Ordering> {{ ::core::unreachable!() }} }}",
+    "Eq": "impl {0}::core::cmp::Eq for {1} {{}}",
 }
 NEEDED = {"PartialEq": [], "PartialOrd": ["PartialEq"], "Ord": ["PartialEq", "PartialOrd", "Eq"]}
 
-IMPL = re.compile(r"impl :: core :: cmp :: (\w+) for (\S+)")
+# The head of an impl: its parameters, the trait, and what the trait is implemented for, with a where clause.
+HEAD = re.compile(r"^.*? impl (.*?):: core :: cmp :: (\w+) for (.*?) \{ fn (?:eq|partial_cmp|cmp) \(", re.M)
+
+
+def heads_of(impls):
+    """The heads of the impls that are printed, under their traits: parameters, and the type with the where clause."""
+    return {trait: (params, rest) for params, trait, rest in HEAD.findall(impls)}
 
 
 def traits_of(impls):
-    """The traits of the impls that are printed, and the type."""
-    return dict(IMPL.findall(impls))
+    """The traits of the impls that are printed, and the name of the type."""
+    return {trait: rest.split(" ")[0] for trait, (_, rest) in heads_of(impls).items()}
 
 
 def added(impls):
-    """The impls that those which are printed ask for."""
-    printed = traits_of(impls)
-    needed = {trait: name for which, name in printed.items() for trait in NEEDED[which]}
-    return [ADDED[trait].format(name) for trait, name in needed.items() if trait not in printed]
+    """The impls that those which are printed ask for, each with the head of the first one that does."""
+    printed = heads_of(impls)
+    needed = {}
+    for which, head in printed.items():
+        for trait in NEEDED[which]:
+            needed.setdefault(trait, head)
+    return [ADDED[trait].format(*head) for trait, head in needed.items() if trait not in printed]
 
 
 def expanded(program, definition):
@@ -151,11 +172,22 @@ def expanded(program, definition):
     return run.stdout.decode() if run.returncode == 0 else None
 
 
-def compiled(folder, text, quietly=False):
-    """A function that runs a program and answers what it prints, or nothing where it fails; nothing where rustc does."""
+def built(folder, text, stderr=None):
+    """The run of rustc on a program."""
     with open(f"{folder}/example.rs", "w", encoding="utf-8") as out:
         out.write(text)
-    if subprocess.run(["rustc", "--edition", "2021", "--cap-lints", "allow", "-o", f"{folder}/example", f"{folder}/example.rs"], stderr=subprocess.DEVNULL if quietly else None, check=False).returncode != 0:
+    return subprocess.run(["rustc", "--edition", "2021", "--cap-lints", "allow", "-o", f"{folder}/example", f"{folder}/example.rs"], stderr=stderr, check=False)
+
+
+def errors(folder, text):
+    """The codes of the errors of rustc in a program; nothing where it compiles."""
+    run = built(folder, text, subprocess.PIPE)
+    return None if run.returncode == 0 else sorted(set(re.findall(r"error\[(E\d+)\]", run.stderr.decode())))
+
+
+def compiled(folder, text, quietly=False):
+    """A function that runs a program and answers what it prints, or nothing where it fails; nothing where rustc does."""
+    if built(folder, text, subprocess.DEVNULL if quietly else None).returncode != 0:
         return None
 
     def run():

@@ -1,0 +1,12 @@
+/// A stack whose topmost items stand in an array. Stacks are compared from the top on.
+#[derive(Debug)]
+#[educe(PartialEq, PartialOrd, Ord)]
+pub struct Stack<T, const N: usize = 4>
+where
+    T: Copy,
+{
+    #[educe(PartialEq(ignore), Ord(ignore))]
+    pub name: &'static str,
+    top: [T; N],
+    below: Option<Box<Stack<T, N>>>,
+}
