@@ -61,7 +61,7 @@ distinct_last (j ∷ ks) k apart new = (
 )
 
 -- those of distinct ones with new ones are distinct
-extends_distinct : {K : Type 0} {known more all : List K} → AreDistinct known → Extends known more all → AreDistinct all
+pub extends_distinct : {K : Type 0} {known more all : List K} → AreDistinct known → Extends known more all → AreDistinct all
 extends_distinct apart (Extends.done known) = apart
 extends_distinct apart (Extends.held known j has e) = extends_distinct apart e
 extends_distinct apart (Extends.added known j new e) = extends_distinct (distinct_last known j apart new) e

@@ -6,7 +6,8 @@ use Rattle.educe_tree.specs.declared.derive.Shape.{Shape}
 use Rattle.educe_tree.specs.declared.derive.Shape.TheVariants as shape
 use Rattle.educe_grammar.specs.Few.{shape_fields}
 use Rattle.educe_bound_classes.specs.Laws.{DefinitionLaws}
-use Rattle.educe_bound_classes.specs.Needs.{AlwaysSuffice, AreAlwaysMinimal}
+use Rattle.educe_bound_classes.specs.Needs.{AlwaysSuffice, AreAlwaysMinimal, AreAlwaysDistinct}
+use Rattle.educe_bound_classes.proofs.Bounds.{extends_distinct}
 use Rattle.educe_bound_classes.proofs.ByText.{own_suffices, own_minimal}
 use Rattle.educe_bound_classes.proofs.Definitions.{FieldIs, VariantIs, AllRead, definition_read}
 
@@ -38,3 +39,7 @@ always_suffice ex params self bound types own is = own_suffices ex params self b
 -- none of them can be dropped
 pub always_minimal : AreAlwaysMinimal
 always_minimal ex params self bound types own names read is = own_minimal ex params self bound types own names read is
+
+-- no two of them are equal
+pub always_distinct : AreAlwaysDistinct
+always_distinct ex params self bound types own is = extends_distinct tt is.2

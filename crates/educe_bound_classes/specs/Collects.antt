@@ -11,6 +11,6 @@ use Rattle.educe_bound_classes.specs.Classes.{name_of}
 abbrev pub AddsWhere : (List ℕ → Bool) → List (List ℕ) → List (List ℕ) → Type 0
 AddsWhere test old new = (text : List ℕ) → has_text new text ≡ (has_text old text || test text)
 
--- The type parameters are added of which the answer is yes, when it is asked whether they begin a path.
+-- Those type parameters are added for whose names the answer is yes.
 abbrev pub Collects : List GenericParam → Exceptions → (Question → Bool) → List (List ℕ) → List (List ℕ) → Type 0
 Collects params ex answer old new = AddsWhere (λ text. is_type_param params text && answer (name_of params ex text)) old new

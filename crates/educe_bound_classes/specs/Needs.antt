@@ -11,7 +11,7 @@ use Rattle.educe_grammar.specs.Reads.{Reads}
 use Rattle.educe_grammar.specs.Alike.{lexemes_aside}
 use Rattle.educe_bound_classes.specs.Exceptions.{Exceptions}
 use Rattle.educe_bound_classes.specs.Params.{is_type_param}
-use Rattle.educe_bound_classes.specs.Deriving.{Needs, AllNeed, AllDerivable, IsAutomatic, IsMinimal}
+use Rattle.educe_bound_classes.specs.Deriving.{AreDistinct, Needs, AllNeed, AllDerivable, IsAutomatic, IsMinimal}
 use Rattle.educe_bound_classes.specs.Classes.{type_name, class_of}
 
 -- the type is the reading of its tokens as they were written
@@ -66,3 +66,9 @@ abbrev pub AreAlwaysMinimal : Type 0
 AreAlwaysMinimal =
     (ex : Exceptions) (params : List GenericParam) (self : List ℕ) (bound : List Lexeme) (types : List Ty) (own : List (List Lexeme))
     → AreNames params → AllByRecursion IsReading types → AreOwn ex params self bound types own → AreMinimal ex params self bound types own
+
+-- And no two of them are equal.
+abbrev pub AreAlwaysDistinct : Type 0
+AreAlwaysDistinct =
+    (ex : Exceptions) (params : List GenericParam) (self : List ℕ) (bound : List Lexeme) (types : List Ty) (own : List (List Lexeme))
+    → AreOwn ex params self bound types own → AreDistinct own

@@ -1,4 +1,4 @@
-//! Of what types ask predicates (documentation of the crate `educe`, Bounds).
+//! The subjects of the predicates that types need (documentation of the crate `educe`, Bounds).
 ghost use Rattle.std.specs.Prelude.{◌≡◌, [], filter, IfOk, OnOk};
 ghost use Rattle.std.specs.List.{cons_option, filter_map};
 ghost use Rattle.educe_bound_classes.specs.Classes.{plain_of, angle_of, last_types, types_behind, type_name, names_in};
@@ -15,12 +15,12 @@ use educe_tokens::Spelling;
 use educe_tree::{AngleArg, AngleArgs, Args, GenericParam, Ident, Params, Path, Ty, TypeForm};
 use std::alloc::{AllocError, Global};
 
-/// Of what a predicate is asked (documentation of the crate `educe`, Bounds).
+/// The subject of a predicate (documentation of the crate `educe`, Bounds).
 #[derive(Clone, Copy)]
 pub enum Asked<'a> {
-    /// Of a type.
+    /// A type.
     Itself(&'a Ty),
-    /// Of the type parameter of this name.
+    /// The type parameter of this name.
     Param(&'a Ident),
 }
 
@@ -56,7 +56,7 @@ impl<'a> Asker<'a> {
     }
 }
 
-/// Adds of what the type asks predicates, by its class (documentation of the crate `educe`, Bounds).
+/// Appends the subjects that a type needs, by its class (documentation of the crate `educe`, Bounds).
 #[cycle(needs)]
 pub fn append_needs<'a>(
     asker: &Asker<'a>,
@@ -200,8 +200,8 @@ fn append_all<'a>(
     Ok(())
 }
 
-/// Of what the types ask predicates, one behind the other (documentation of the crate `educe`,
-/// Bounds).
+/// The subjects that the types need, those of one behind those of the other (documentation of the
+/// crate `educe`, Bounds).
 pub fn needs_of<'a>(
     alloc: Global,
     asker: &Asker<'a>,

@@ -1,4 +1,4 @@
-//! What is asked, each once: an ordered set knows it again by numbers that stand for its tokens.
+//! Subjects of predicates, each once: an ordered set knows one by numbers that stand for its tokens.
 ghost use Rattle.std.specs.Prelude.{◌≡◌, [], ◌++◌, IfOk, OnOk, chars};
 ghost use Rattle.std.specs.List.{flat_map};
 ghost use Rattle.educe_bound_classes.specs.Deriving.{Extends};
@@ -113,7 +113,7 @@ fn key_of_word(alloc: Global, text: &Spelling) -> Result<Vec<u32>, AllocError>
     Ok(key)
 }
 
-/// The numbers by which what a predicate is asked of is told apart.
+/// The numbers by which subjects of predicates are told apart.
 fn key_of(alloc: Global, asked: &Asked<'_>) -> Result<Vec<u32>, AllocError>
     ensures { IfOk result (λ key. key.items ≡ spec.asked_key asked.now) }
 {
@@ -123,8 +123,8 @@ fn key_of(alloc: Global, asked: &Asked<'_>) -> Result<Vec<u32>, AllocError>
     }
 }
 
-/// What is asked, each once, in the order in which it is asked first: predicates of equal tokens are
-/// the same (documentation of the crate `educe`, Bounds).
+/// Each subject once, in the order of first need: subjects of equal tokens are the same
+/// (documentation of the crate `educe`, Bounds).
 pub fn each_once<'a>(alloc: Global, asked: &[Asked<'a>]) -> Result<Vec<Asked<'a>>, AllocError>
     ensures { IfOk result (λ own. Extends [] (spec.all_keys asked.now) (spec.all_keys own.items)) }
 {
@@ -139,8 +139,8 @@ pub fn each_once<'a>(alloc: Global, asked: &[Asked<'a>]) -> Result<Vec<Asked<'a>
     Ok(own)
 }
 
-/// Of what the automatic mode asks predicates, each once (documentation of the crate `educe`,
-/// Bounds).
+/// The subjects of the predicates that the automatic bound asks for, each once (documentation of the
+/// crate `educe`, Bounds).
 pub fn own_needs<'a>(
     alloc: Global,
     asker: &Asker<'a>,
