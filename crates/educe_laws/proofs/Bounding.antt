@@ -2,6 +2,7 @@
 use Rattle.std.proofs.Common.{◌≡◌, ℕ, ◌+◌, Bool, true, false, List, [], ◌∷◌, ◌++◌, sym, ap, ◌∙◌, subst, append_assoc, append-nil}
 use Rattle.std.specs.Prelude.{if◌then◌else◌}
 use Rattle.std.specs.List.{AllByRecursion, cons_option}
+use Rattle.std.proofs.lemmas.List.{map-append}
 use Rattle.educe_syntax.specs.DeriveInput.{DeriveInput}
 use Rattle.educe_syntax.specs.Few.{shape_fields, all_fields}
 use Rattle.educe_syntax.specs.Field.{Field}
@@ -15,7 +16,7 @@ use Rattle.educe_bound.specs.declared.bound.Bound.{Bound}
 use Rattle.educe_bound.specs.declared.bound.Bound.TheVariants.{Auto}
 use Rattle.educe_bound.specs.declared.traits.Trait.{Trait}
 use Rattle.educe_bound.specs.declared.traits.Trait.TheVariants as trait
-use Rattle.educe_bound.specs.Predicates.{Key, keys_of, exceptions_of, asks_for, AreByBound}
+use Rattle.educe_bound.specs.Predicates.{Key, key_of, keys_of, exceptions_of, asks_for, AreByBound}
 use Rattle.educe_body.specs.declared.body.Item.{Item}
 use Rattle.educe_body.specs.declared.comparison.Comparison.{Comparison}
 use Rattle.educe_body.specs.declared.comparison.Comparison.TheVariants.{PartialEq, PartialOrd, Ord}
@@ -90,22 +91,23 @@ module _ (suffice : AlwaysSuffice) (minimal : AreAlwaysMinimal) (d : DeriveInput
   -- the header of a comparison has tight bounds, where its bound is the automatic one
   header_tight : (which : Comparison) (generics : Generics) → IsHeader (trait_of which) d generics → bound_for which d ≡ Auto → AreTight which d (keys_of generics.predicates)
   header_tight which generics header auto =
-      let adds = added_of which d header.inherited header.own header.all header.added_are in
+      let all = keys_of header.added in
+      let adds = added_of which d header.inherited header.own all header.added_are in
       let types_touched = touched_types adds.visited in
       let name = trait_of which in
       let own_are : AreOwn (exceptions_of name) d.generics.params d.ident.text (asks_for name) types_touched header.own =
       subst (λ (bound : Bound). AreByBound bound (exceptions_of name) d.generics.params d.ident.text name types_touched header.own) auto adds.own_are in
-      let inherits : Extends adds.with_copies header.inherited header.all = subst (λ (bound : Bound). Inherits bound adds.with_copies header.inherited header.all) auto adds.inherited_added in
+      let inherits : Extends adds.with_copies header.inherited all = subst (λ (bound : Bound). Inherits bound adds.with_copies header.inherited all) auto adds.inherited_added in
       let copies = extends_behind adds.copies_added in
       let more = extends_behind inherits in
-      let whole : header.all ≡ header.own ++ (copies.0 ++ more.0) = more.1 ∙ ap (λ front. front ++ more.0) copies.1 ∙ append_assoc header.own copies.0 more.0 in
+      let whole : all ≡ header.own ++ (copies.0 ++ more.0) = more.1 ∙ ap (λ front. front ++ more.0) copies.1 ∙ append_assoc header.own copies.0 more.0 in
       let read = touched_read adds.visited (visited_hold which d IsFieldRead (cases_of d) adds.visited (cases_hold IsFieldRead d.shape types) adds.visited_are) in
       record {
         visited = adds.visited;
         visited_are = adds.visited_are;
         own = header.own;
         others = copies.0 ++ more.0;
-        header_is = header.predicates_are ∙ ap (λ added. keys_of d.generics.predicates ++ added) whole;
+        header_is = ap keys_of header.predicates_are ∙ map-append key_of d.generics.predicates header.added ∙ ap (λ added. keys_of d.generics.predicates ++ added) whole;
         suffices = suffice (exceptions_of name) d.generics.params d.ident.text (asks_for name) types_touched header.own own_are;
         minimal = minimal (exceptions_of name) d.generics.params d.ident.text (asks_for name) types_touched header.own names read own_are;
       }

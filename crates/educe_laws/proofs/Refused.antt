@@ -123,7 +123,7 @@ module _ (which : Comparison) (d : DeriveInput) where
           case_refused (fields_in variant) (subst (IsAmong (fields_in variant)) (sym cases) (among_mapped fields_in variant variants among))
           (λ field inner. subst (IsAmong field) (sym fields) (among_flat fields_in variant variants field among inner)) e cause
 
--- where the handler has no cause, the settings of each field are what its attributes say, and no others are
+-- where the handler has no cause, the settings of the type and of each field are what their attributes say, and no others are
 module _ (which : Comparison) (d : DeriveInput) (uncaused : NoCause (OfHandler (handling d) (trait_of which))) where
   -- the attributes of a field say this
   abbrev Says : Field → FieldSettings → Type 0
@@ -141,7 +141,10 @@ module _ (which : Comparison) (d : DeriveInput) (uncaused : NoCause (OfHandler (
   )
 
   pub are_said : AreSaid which d
-  are_said = each_said [] (all_fields d) refl
+  are_said = record {
+    type_said = lawful_settings.place_said (trait_of which) type_row (listed d) d.attrs (record { none_stands = λ e cause. uncaused.none_stands e (type_refused which d e cause) });
+    fields_said = each_said [] (all_fields d) refl;
+  }
 
   each_only : (settings : Field → FieldSettings) (front fields : List Field) → all_fields d ≡ front ++ fields → AllByRecursion (λ field. Says field (settings field)) fields
       → AllByRecursion (λ field. settings field ≡ settings_of which d field) fields

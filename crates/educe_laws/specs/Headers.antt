@@ -5,6 +5,7 @@ use Rattle.educe_syntax.specs.DeriveInput.{DeriveInput}
 use Rattle.educe_syntax.specs.Field.{Field}
 use Rattle.educe_syntax.specs.Generics.{Generics}
 use Rattle.educe_syntax.specs.Ty.{Ty}
+use Rattle.educe_syntax.specs.WherePredicate.{WherePredicate}
 use Rattle.educe_bound_classes.specs.Deriving.{Extends}
 use Rattle.educe_bound_classes.specs.Needs.{Suffices, AreMinimal}
 use Rattle.educe_bound.specs.declared.bound.Bound.{Bound}
@@ -126,16 +127,16 @@ mutual
 
 -- ---- headers
 
--- The header of the impl of a trait: the parameters without their defaults, lifetimes first; and the predicates of the definition,
--- behind which stand those that the impl adds.
+-- The header of the impl of a trait: the parameters without their defaults, lifetimes first; and the predicates of the definition as
+-- they were written, behind which stand those that the impl adds.
 pub record IsHeader (which : Trait) (definition : DeriveInput) (generics : Generics) : Type 0 where
   pub params_are : generics.params ≡ lifetimes_first definition.generics.params
   pub inherited : List Key
   pub own : List Key
-  pub all : List Key
+  pub added : List WherePredicate
   pub inherited_are : AreInherited definition (prerequisites which) inherited
-  pub added_are : AreAddedBy which definition inherited own all
-  pub predicates_are : keys_of generics.predicates ≡ keys_of definition.generics.predicates ++ all
+  pub added_are : AreAddedBy which definition inherited own (keys_of added)
+  pub predicates_are : generics.predicates ≡ definition.generics.predicates ++ added
 
 -- ---- automatic bounds
 

@@ -31,9 +31,9 @@ use Rattle.educe_laws.specs.Settings.{settings_of, AreSaid}
 
 -- The settings of fields, and the blocks of comparisons.
 pub record ComparisonLaws : Type 0 where
-  -- where the handler of a comparison has no cause, the settings of each field are what its attributes say
+  -- where the handler of a comparison has no cause, the settings of the type and of each field are what their attributes say
   pub said : (which : Comparison) (definition : DeriveInput) → NoCause (OfHandler (handling definition) (trait_of which)) → AreSaid which definition
-  -- and no other settings are
+  -- and no other settings of fields are
   pub only : (which : Comparison) (definition : DeriveInput) → NoCause (OfHandler (handling definition) (trait_of which)) → (settings : Field → FieldSettings)
       → AllByRecursion (λ field. IsFieldSaid (trait_of which) (field_row which) (listed definition) field.attrs (settings field)) (all_fields definition)
       → AllByRecursion (λ field. settings field ≡ settings_of which definition field) (all_fields definition)

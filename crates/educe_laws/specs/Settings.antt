@@ -1,4 +1,4 @@
--- What the attributes of a field say of it to a comparison.
+-- What the attributes of a type and of its fields say to a comparison.
 use Rattle.std.specs.Prelude.{ℕ, ℤ, pos, ◌-ℤ◌, ◌+◌, ◌^◌, ◌<◌, ◌≤◌, ◌≡◌, Bool, true, false, not, List, [], ◌∷◌, map, Option, None, Some, if◌then◌else◌, unwrap_or}
 use Rattle.std.specs.List.{AllByRecursion, Contains}
 use Rattle.educe_tokens.specs.declared.span.Span.{Span}
@@ -8,11 +8,11 @@ use Rattle.educe_syntax.specs.DeriveInput.{DeriveInput}
 use Rattle.educe_attrs.specs.FieldSettings.{FieldSettings}
 use Rattle.educe_attrs.specs.Fields.{settings_at}
 use Rattle.educe_attrs.specs.Compared.{number_of, place_of}
-use Rattle.educe_attrs.specs.Places.{IsFieldSaid}
+use Rattle.educe_attrs.specs.Places.{place_settings, IsSaid, IsFieldSaid}
 use Rattle.educe_bound.specs.Traits.{is_listed}
 use Rattle.educe_body.specs.declared.comparison.Comparison.{Comparison}
 use Rattle.educe_syntax.specs.Few.{all_fields}
-use Rattle.educe_laws.specs.Comparisons.{trait_of, field_row}
+use Rattle.educe_laws.specs.Comparisons.{trait_of, type_row, field_row}
 use Rattle.educe_laws.specs.Listed.{listed}
 use Rattle.educe_laws.specs.Ranks.{AreRanksApart}
 
@@ -22,11 +22,11 @@ use Rattle.educe_laws.specs.Ranks.{AreRanksApart}
 abbrev pub settings_of : Comparison → DeriveInput → Field → FieldSettings
 settings_of which definition = settings_at (trait_of which) (field_row which) (listed definition)
 
--- the settings of each field are what its attributes say of the comparison, or, where both orders are listed and an order has
--- none of its own, of the other
-abbrev pub AreSaid : Comparison → DeriveInput → Type 0
-AreSaid which definition =
-    AllByRecursion (λ field. IsFieldSaid (trait_of which) (field_row which) (listed definition) field.attrs (settings_of which definition field)) (all_fields definition)
+-- The settings of the type, among them its bound, are what its attributes say of the comparison. Those of each field are what its
+-- attributes say of it, or, where both orders are listed and an order has none of its own, of the other.
+pub record AreSaid (which : Comparison) (definition : DeriveInput) : Type 0 where
+  pub type_said : IsSaid (trait_of which) type_row definition.attrs (place_settings (trait_of which) type_row (listed definition) definition.attrs)
+  pub fields_said : AllByRecursion (λ field. IsFieldSaid (trait_of which) (field_row which) (listed definition) field.attrs (settings_of which definition field)) (all_fields definition)
 
 -- that of each listed comparison
 abbrev pub AreAllSaid : DeriveInput → Type 0
