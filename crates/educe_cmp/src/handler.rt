@@ -1,5 +1,5 @@
 //! The trait that handlers implement.
-ghost use Rattle.std.specs.Prelude.{Bool, IsTrue, OnOk, IfErr};
+ghost use Rattle.std.specs.Prelude.{◌≡◌, Bool, IsTrue, OnOk, OnErr, IfErr};
 ghost use Rattle.educe_tokens.specs.Prefix.{HasPrefix};
 ghost use Rattle.educe_syntax.specs.Shape.{Shape};
 ghost use Rattle.educe_syntax.specs.Refusal.{IsDefinition};
@@ -28,7 +28,7 @@ pub trait TraitHandler {
 
     /// Adds the items of the trait behind those that are there, and notes in the context which
     /// predicates its impl adds. Handlers of the listed traits are called in the fixed order. After an error
-    /// the items hold what they held, and the context may have a note more.
+    /// the items may hold a part of the block behind what they held.
     fn trait_meta_handler(
         alloc: Global,
         ast: &DeriveInput,
@@ -44,6 +44,7 @@ pub trait TraitHandler {
         ensures means { IsDefinition ast.now.tokens ast.now → OnOk result (AddsMeaning ast.now items.old items.new) }
         // The context is the one that the handler of the next trait asks for.
         ensures notes { OnOk result (AreNoted ast.now (traits_through TRAIT) ctx.new) }
+        ensures unnoted { OnErr result (ctx.new ≡ ctx.old) }
         // It refuses exactly where a cause stands, or memory fails.
         ensures uncaused { OnOk result (NoCause (OfHandler (handling ast.now) TRAIT)) }
         ensures err { IfErr result (λ s. OfStop (OfHandler (handling ast.now) TRAIT) s) };

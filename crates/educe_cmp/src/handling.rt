@@ -1,5 +1,5 @@
 //! What the handler of each comparison does.
-ghost use Rattle.std.specs.Prelude.{◌≡◌, [], ◌∷◌, OnOk, IfOk, IfErr};
+ghost use Rattle.std.specs.Prelude.{◌≡◌, [], ◌∷◌, OnOk, OnErr, IfOk, IfErr};
 ghost use Rattle.educe_tokens.specs.Prefix.{HasPrefix};
 ghost use Rattle.educe_syntax.specs.Few.{all_fields};
 ghost use Rattle.educe_syntax.specs.Refusal.{IsDefinition};
@@ -90,6 +90,7 @@ pub fn compare(
     ensures adds { OnOk result (AddsBlock (comparisons.trait_of which) ast.now items.old items.new) }
     ensures means { IsDefinition ast.now.tokens ast.now → OnOk result (AddsMeaning ast.now items.old items.new) }
     ensures notes { OnOk result (AreNoted ast.now (traits_through (comparisons.trait_of which)) ctx.new) }
+    ensures unnoted { OnErr result (ctx.new ≡ ctx.old) }
     ensures uncaused { OnOk result (NoCause (OfHandler (handling ast.now) (comparisons.trait_of which))) }
     ensures err { IfErr result (λ s. OfStop (OfHandler (handling ast.now) (comparisons.trait_of which)) s) }
 {

@@ -153,7 +153,7 @@ fn generics_with(
     added: &Predicates,
 ) -> Result<Generics, AllocError>
     ensures params { IfOk result (λ found. found.params ≡ lifetimes_first generics.now.params) }
-    ensures predicates { IfOk result (λ found. keys_of found.predicates ≡ keys_of generics.now.predicates ++ keys_of added.now) }
+    ensures predicates { IfOk result (λ found. found.predicates ≡ generics.now.predicates ++ added.now) }
 {
     let Generics { params, predicates } = with_predicates(alloc, generics, added)?;
     let params = lifetimes_first(alloc, &params)?;
