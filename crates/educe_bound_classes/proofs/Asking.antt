@@ -1,8 +1,8 @@
 -- What is added behind what was asked.
-use Rattle.std.proofs.Common.{◌≡◌, ℕ, ◌+◌, ◌<◌, Bool, true, false, List, [], ◌∷◌, ◌++◌, map, take, get_or, length, filter, refl, ap, sym, subst, ◌∙◌, append_assoc, append-nil, Option, Some, None, cond}
+use Rattle.std.proofs.Common.{◌≡◌, ℕ, ◌+◌, ◌<◌, Bool, true, false, List, [], ◌∷◌, ◌++◌, map, take, get_or, length, refl, ap, sym, subst, ◌∙◌, append_assoc, append-nil, Option, Some, None}
 use Rattle.std.specs.Prelude.{Result, Ok, Err, OnOk, if◌then◌else◌}
 use Rattle.std.specs.List.{filter_map, cons_option}
-use Rattle.std.proofs.lemmas.List.{map-append, take_more}
+use Rattle.std.proofs.lemmas.List.{take_more}
 use Rattle.educe_tokens.specs.Lexes.{Lexeme}
 use Rattle.educe_tree.specs.declared.generics.GenericParam.{GenericParam}
 use Rattle.educe_tree.specs.declared.ty.Ty.{Ty}
@@ -17,7 +17,7 @@ use Rattle.educe_bound_classes.specs.Exceptions.{Exceptions}
 use Rattle.educe_bound_classes.specs.declared.needs.Asked.{Asked}
 use Rattle.educe_bound_classes.specs.Deriving.{Class, forwarding, mentioning, other, AsksNothing, Needs, AllNeed}
 use Rattle.educe_bound_classes.specs.Questions.{uses_params}
-use Rattle.educe_bound_classes.specs.Classes.{plain_of, types_behind, last_types, path_of_form, is_unconditional, forwards_at, is_forwarding, parts_by, mentions_named, type_name, names_in, class_by}
+use Rattle.educe_bound_classes.specs.Classes.{plain_of, types_behind, last_types, path_of_form, is_unconditional, forwards_at, is_forwarding, parts_by, mentions_named, names_in, class_by}
 use Rattle.educe_bound_classes.specs.Needs.{own_of, param_of}
 use Rattle.educe_bound_classes.specs.Asked.{keys_of, Adds, AddsAll, AddsNames}
 
@@ -43,37 +43,10 @@ pub filter_map-take : {A B : Type 0} (f : A → Option B) (xs : List A) (i : ℕ
 filter_map-take f xs i x within is =
     ap (filter_map f) (take_more xs i x within ∙ ap (λ y. take i xs ++ y ∷ []) (sym is)) ∙ filter_map-last f (take i xs) x
 
-cond_behind : {A : Type 0} (b : Bool) (y : A) (us vs ws : List A) → us ≡ vs ++ ws → cond b (y ∷ us) us ≡ cond b (y ∷ vs) vs ++ ws
-cond_behind true y us vs ws e = ap (λ xs. y ∷ xs) e
-cond_behind false y us vs ws e = e
-
-filter-append : {A : Type 0} (test : A → Bool) (xs ys : List A) → filter test (xs ++ ys) ≡ filter test xs ++ filter test ys
-filter-append test [] ys = refl
-filter-append test (x ∷ xs) ys = cond_behind (test x) x _ _ _ (filter-append test xs ys)
-
 -- what holds on `Ok` in another form
 pub into_ok : {A E : Type 0} (r : Result A E) (P Q : Type 0) → (P → Q) → OnOk r P → OnOk r Q
 into_ok (Ok x) P Q into h = into h
 into_ok (Err e) P Q into h = h
-
--- ---- names
-
-pub adds_more_names : (some more : List (List ℕ)) (old mid new : List Asked) → AddsNames some old mid → AddsNames more mid new → AddsNames (some ++ more) old new
-adds_more_names some more old mid new first second bound =
-    second bound ∙ ap (λ ks. ks ++ map (param_of bound) more) (first bound) ∙ append_assoc (keys_of bound old) (map (param_of bound) some) (map (param_of bound) more)
-    ∙ ap (λ ks. keys_of bound old ++ ks) (sym (map-append (param_of bound) some more))
-
--- the names at one more parameter
-pub names_take : (test : List ℕ → Bool) (items : List GenericParam) (i : ℕ) (p : GenericParam) → i < length items → p ≡ get_or items i p
-    → filter test (filter_map type_name (take (i + 1) items)) ≡ filter test (filter_map type_name (take i items)) ++ filter test (cons_option (type_name p) [])
-names_take test items i p within item = ap (filter test) (filter_map-take type_name items i p within item) ∙ filter-append test (filter_map type_name (take i items)) (cons_option (type_name p) [])
-
-pub step_names : (test : List ℕ → Bool) (items : List GenericParam) (i : ℕ) (p : GenericParam) (old mid new : List Asked) → i < length items → p ≡ get_or items i p
-    → AddsNames (filter test (filter_map type_name (take i items))) old mid → AddsNames (filter test (cons_option (type_name p) [])) mid new
-    → AddsNames (filter test (filter_map type_name (take (i + 1) items))) old new
-step_names test items i p old mid new within item all one =
-    subst (λ names. AddsNames names old new) (sym (names_take test items i p within item))
-    (adds_more_names (filter test (filter_map type_name (take i items))) (filter test (cons_option (type_name p) [])) old mid new all one)
 
 module _ (ex : Exceptions) (params : List GenericParam) (self : List ℕ) where
   -- ---- one more argument

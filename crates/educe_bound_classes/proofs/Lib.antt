@@ -13,3 +13,4 @@ pub mod Kept
 pub mod KeysApart
 pub mod Lawful
 pub mod Collecting
+pub mod Declared

@@ -32,7 +32,7 @@ alike false true into back = back refl
 alike false false into back = refl
 
 -- texts of the same characters are the same
-same_text : (xs ys : List ℕ) → IsUtf8 xs → IsUtf8 ys → chars xs ≡ chars ys → xs ≡ ys
+pub same_text : (xs ys : List ℕ) → IsUtf8 xs → IsUtf8 ys → chars xs ≡ chars ys → xs ≡ ys
 same_text xs ys first second same = sym (encodes-chars xs first) ∙ ap encodes same ∙ encodes-chars ys second
 
 -- texts are told apart by their characters

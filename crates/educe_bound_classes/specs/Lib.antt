@@ -13,3 +13,4 @@ pub mod Texts
 pub mod Laws
 pub mod Collects
 pub mod Names
+pub mod Places

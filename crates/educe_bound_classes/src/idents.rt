@@ -1,6 +1,8 @@
 //! Ordered sets of texts.
 ghost use Rattle.std.specs.Prelude.{◌≡◌, [], ◌∷◌, OnOk, OnErr, chars};
-ghost use Rattle.educe_bound_classes.specs.Texts.{has_text, AddsTexts};
+ghost use Rattle.std.specs.List.{AllByRecursion};
+ghost use Rattle.std.specs.Str.{IsUtf8};
+ghost use Rattle.educe_bound_classes.specs.Texts.{texts_of, has_text, AddsTexts};
 
 use educe_tokens::Spelling;
 use std::alloc::{AllocError, Global};
@@ -41,6 +43,14 @@ impl<'a> IdentSet<'a> {
         ensures { result ≡ has_text self.now (chars text.now) }
     {
         self.texts.contains(text)
+    }
+
+    /// The texts.
+    pub(crate) fn texts(&self) -> &BTreeSet<&'a str>
+        ensures same { texts_of result.now.keys ≡ self.now }
+        ensures utf8 { AllByRecursion (λ text. IsUtf8 text.now) result.now.keys }
+    {
+        &self.texts
     }
 
     /// Adds a text.

@@ -11,6 +11,7 @@ mod needs;
 mod once;
 mod params;
 mod paths;
+mod places;
 mod sought;
 mod tables;
 mod walk;

@@ -3,6 +3,7 @@ ghost use Rattle.std.specs.Prelude.{◌≡◌, [], filter, IfOk, OnOk};
 ghost use Rattle.std.specs.List.{cons_option, filter_map};
 ghost use Rattle.educe_bound_classes.specs.Classes.{plain_of, angle_of, last_types, types_behind, type_name, names_in};
 ghost use Rattle.educe_bound_classes.specs.Asked.{Adds, AddsAll, AddsNames, types_of};
+ghost use Rattle.educe_bound_classes.specs.Places.{names_at};
 ghost use Rattle.educe_bound_classes.specs.Texts.{has_text};
 
 use crate::collect::add_idents;
@@ -97,21 +98,37 @@ fn append_names<'a>(
         ty,
         &mut found,
     )?;
-    append_found(asker.params.listed(), &found, asked)
+    append_found(asker, &found, asked)
 }
 
 /// Adds what is asked of the type parameters that were found, in declared order.
 fn append_found<'a>(
-    params: &'a Params,
+    asker: &Asker<'a>,
     found: &IdentSet<'_>,
     asked: &mut Vec<Asked<'a>>,
 ) -> Result<(), AllocError>
-    ensures ok { OnOk result (AddsNames (filter (has_text found.now) (filter_map type_name params.now)) asked.old.items asked.new.items) }
+    ensures ok { OnOk result (AddsNames (filter (has_text found.now) (filter_map type_name asker.now.params.now)) asked.old.items asked.new.items) }
 {
-    for param in params.as_slice() {
-        append_name(param, found, asked)?;
+    let places = asker.params.found_places(asker.alloc, found)?;
+    for place in &places {
+        append_at(asker.params.listed(), *place, found, asked)?;
     }
     Ok(())
+}
+
+/// Adds what is asked of the parameter at the place, where it is a type parameter that was found.
+fn append_at<'a>(
+    params: &'a Params,
+    place: usize,
+    found: &IdentSet<'_>,
+    asked: &mut Vec<Asked<'a>>,
+) -> Result<(), AllocError>
+    ensures ok { OnOk result (AddsNames (filter (has_text found.now) (names_at params.now place)) asked.old.items asked.new.items) }
+{
+    match params.as_slice().get(place) {
+        Some(param) => append_name(param, found, asked),
+        None => Ok(()),
+    }
 }
 
 /// Adds what is asked of a parameter, where it is a type parameter that was found.

@@ -3,12 +3,15 @@ ghost use Rattle.std.specs.Prelude.{◌≡◌, IfOk, OnOk};
 ghost use Rattle.educe_bound_classes.specs.Collects.{AddsWhere};
 ghost use Rattle.educe_bound_classes.specs.Names.{params_of};
 ghost use Rattle.educe_bound_classes.specs.Params as spec;
-ghost use Rattle.educe_bound_classes.specs.Texts.{IsSetOf};
+ghost use Rattle.educe_bound_classes.specs.Texts.{has_text, IsSetOf};
+ghost use Rattle.educe_bound_classes.specs.Places.{HasFound};
 
 use crate::idents::IdentSet;
+use crate::places::{places_of, type_places};
 use educe_tokens::Spelling;
 use educe_tree::{GenericParam, Params, is_spelled};
 use std::alloc::{AllocError, Global};
+use std::collections::{BTreeMap, BTreeSet};
 use std::marker::Model;
 
 /// The parameters of a definition, with their names in order: so one is found without a walk over the
@@ -18,6 +21,7 @@ pub struct ParamNames<'a> {
     params: &'a Params,
     types: IdentSet<'a>,
     words: IdentSet<'a>,
+    places: BTreeMap<&'a str, Vec<usize>>,
 }
 
 impl<'a> Model for ParamNames<'a> {
@@ -25,13 +29,14 @@ impl<'a> Model for ParamNames<'a> {
     ghost use Rattle.std.specs.Borrow.{Bor};
     ghost use Rattle.educe_tree.specs.declared.generics.GenericParam.{GenericParam};
     ghost use Rattle.educe_bound_classes.specs.Params.{is_param, is_type_param};
+    ghost use Rattle.educe_bound_classes.specs.Places.{ArePlaced};
     ghost use Rattle.educe_bound_classes.specs.Texts.{IsSetOf};
 
     ghost Value = { Bor (List GenericParam) };
 
     ghost view = { λ names. names.params };
 
-    ghost invariant = { λ names. IsSetOf (is_type_param names.params.now) names.types × IsSetOf (is_param names.params.now) names.words };
+    ghost invariant = { λ names. IsSetOf (is_type_param names.params.now) names.types × IsSetOf (is_param names.params.now) names.words × ArePlaced names.params.now names.places };
 }
 
 /// Parameters among which one is sought by its name.
@@ -132,10 +137,12 @@ impl<'a> ParamNames<'a> {
     {
         let types = type_names(alloc, params)?;
         let words = all_names(alloc, params)?;
+        let places = type_places(alloc, params)?;
         Ok(ParamNames {
             params,
             types,
             words,
+            places,
         })
     }
 
@@ -144,6 +151,17 @@ impl<'a> ParamNames<'a> {
         ensures { result.now ≡ self.now.now }
     {
         self.params
+    }
+
+    /// The places of the type parameters that were found, in order.
+    pub fn found_places(
+        &self,
+        alloc: Global,
+        found: &IdentSet<'_>,
+    ) -> Result<BTreeSet<usize>, AllocError>
+        ensures { IfOk result (HasFound self.now.now (has_text found.now)) }
+    {
+        places_of(alloc, &self.places, found.texts())
     }
 
     /// Whether a type parameter or a const parameter has this name.

@@ -1,22 +1,21 @@
-use Rattle.std.proofs.Common.{◌≡◌, List, take, filter, subst, ◌∙◌, arith}
-use Rattle.std.specs.List.{filter_map}
-use Rattle.std.proofs.lemmas.Grind.{common_steps}
-use Rattle.educe_tree.specs.declared.generics.GenericParam.{GenericParam}
-use Rattle.educe_bound_classes.specs.Classes.{type_name}
-use Rattle.educe_bound_classes.specs.Texts.{has_text}
+use Rattle.std.proofs.Common.{ℕ, List, filter, ap, subst, ◌∙◌}
+use Rattle.std.specs.List.{flat_map}
+use Rattle.std.specs.Map.Iter.{deref}
+use Rattle.std.proofs.lemmas.Map.Iter.{iter_end}
 use Rattle.educe_bound_classes.specs.Asked.{AddsNames}
-use Rattle.educe_bound_classes.proofs.Asking.{step_names}
+use Rattle.educe_bound_classes.specs.Places.{names_at}
+use Rattle.educe_bound_classes.specs.Texts.{has_text}
+use Rattle.educe_bound_classes.proofs.Declared.{found_in_order}
 use Rattle.educe_bound_classes.proofs.needs.append_found.Goals as goal
-
-pub loop-param-preserved : goal.loop-param-preserved
-loop-param-preserved c =
-    step_names (has_text c.args.found.now) c.as_slice-param-items.result.now c.loop-param.param-index c.param-item.result c.args.asked.now.items c.loop-param.asked.items _ c.loop-param-test.true c.param-item.is c.loop-param.invariant c.in_ok-append_name.ensures.ok
 
 pub returns : goal.returns
 returns c =
-    let items = c.as_slice-param-items.result.now in
-    let whole : take c.loop-param.param-index items ≡ items = grind (arith, common_steps) in
+    let test = has_text c.args.found.now in
+    let params = c.args.asker.now.params.now in
+    let places = c.in_ok-places.places in
+    let gives = c.into_iter-place-iterator.ensures.into_iter_gives in
+    let end = iter_end deref places.keys c.loop-place.yielded c.into_iter-place-iterator.result c.loop-place.place-iterator c.next.new.self c.next.result gives.0 c.loop-place.yielded_by c.in-None.is c.next.ensures.steps in
     record {
-      ok = subst (λ (ps : List GenericParam). AddsNames (filter (has_text c.args.found.now) (filter_map type_name ps)) c.args.asked.now.items c.loop-param.asked.items)
-          (whole ∙ c.as_slice-param-items.ensures) c.loop-param.invariant;
+      ok = subst (λ (names : List (List ℕ)). AddsNames names c.args.asked.now.items c.loop-place.asked.items)
+          (ap (λ (ks : List ℕ). filter test (flat_map (names_at params) ks)) end.0 ∙ found_in_order test params places gives.4 c.in_ok-places.ensures) c.loop-place.invariant;
     }

@@ -1,9 +1,10 @@
-use Rattle.std.proofs.Common.{take, filter}
-use Rattle.std.specs.List.{filter_map}
-use Rattle.educe_bound_classes.specs.Classes.{type_name}
+use Rattle.std.proofs.Common.{map, filter}
+use Rattle.std.specs.List.{flat_map}
+use Rattle.std.specs.Map.Iter.{deref}
 use Rattle.educe_bound_classes.specs.Texts.{has_text}
+use Rattle.educe_bound_classes.specs.Places.{names_at}
 use Rattle.educe_bound_classes.specs.Asked.{AddsNames}
 use Rattle.educe_bound_classes.proofs.needs.append_found.Given as goal
 
-abbrev pub invariant-loop-param : goal.invariant-loop-param
-invariant-loop-param l = AddsNames (filter (has_text l.found) (filter_map type_name (take l.param-index l.param-items))) l.initial.asked.items l.asked.items
+abbrev pub invariant-loop-place : goal.invariant-loop-place
+invariant-loop-place l = AddsNames (filter (has_text l.found) (flat_map (names_at l.asker.params.now) (map deref l.yielded))) l.initial.asked.items l.asked.items
