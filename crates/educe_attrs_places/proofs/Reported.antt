@@ -1,8 +1,9 @@
--- The errors of a place's attributes have messages, and start at boundaries of tokens; so do the ranks of fields.
+-- The errors of a place's attributes have messages, and start at boundaries of tokens; so do the ranks of fields and the places of what is said.
 use Rattle.std.proofs.Common.{◌≡◌, ℕ, List, ◌∷◌, ◌++◌, Some, Result, Ok, Err, refl, sym, subst, inl, inr}
 use Rattle.std.specs.Prelude.{IfSome}
 use Rattle.std.specs.Result.{result_unwrap_or}
 use Rattle.educe_tokens.specs.declared.error.EduceError.{EduceError}
+use Rattle.educe_tokens.specs.declared.span.Span.{Span}
 use Rattle.educe_tokens.specs.declared.token.Token.{Token}
 use Rattle.educe_bound.specs.declared.traits.Trait.{Trait}
 use Rattle.educe_bound.specs.declared.traits.Trait.TheVariants.{PartialOrd}
@@ -14,20 +15,21 @@ use Rattle.educe_syntax.specs.Placed.{AreWithin, IsMetaPlaced, AreMetasPlaced, A
 use Rattle.educe_attrs_values.specs.declared.stop.Stop.{Stop}
 use Rattle.educe_attrs_values.specs.Reports.{HasMessage, IsBoundary}
 use Rattle.educe_attrs_values.specs.Sources.{inside}
-use Rattle.educe_attrs_values.specs.Words.{path_of, place_of}
-use Rattle.educe_attrs_values.proofs.Boundaries.{each_joined, metas_within, pair_placed, name_boundary}
+use Rattle.educe_attrs_values.specs.Words.{path_of, place_of, meta_place}
+use Rattle.educe_attrs_values.proofs.Boundaries.{each_joined, metas_within, pair_placed, name_boundary, meta_boundary}
 use Rattle.educe_attrs_rows.specs.declared.row.Row.{Row}
 use Rattle.educe_attrs_rows.specs.declared.values.Rank.{Rank}
 use Rattle.educe_attrs_rows.specs.declared.values.Values.{Values}
 use Rattle.educe_attrs_rows.specs.Among.{IsAmong}
-use Rattle.educe_attrs_rows.specs.Settings.{no_values}
+use Rattle.educe_attrs_rows.specs.Causes.{Says}
+use Rattle.educe_attrs_rows.specs.Settings.{values_at, no_values}
 use Rattle.educe_attrs_rows.proofs.Among.{among_all}
-use Rattle.educe_attrs_rows.proofs.Reported.{own_message, own_placed, rank_placed}
+use Rattle.educe_attrs_rows.proofs.Reported.{IsOther, behind_leaves, own_message, own_placed, rank_placed}
 use Rattle.educe_attrs_places.specs.declared.place.FieldSettings.{FieldSettings}
 use Rattle.educe_attrs_places.specs.Listing.{IsBareEduce, IsListingCause, OfListing}
 use Rattle.educe_attrs_places.specs.Lists.{IsEduce, AreOwn, AreMetas, IsNameIn, IsListCause}
 use Rattle.educe_attrs_places.specs.Named.{IsReused}
-use Rattle.educe_attrs_places.specs.Places.{own_settings, taken, read_field, field_settings, IsFieldSaid, IsFieldCause}
+use Rattle.educe_attrs_places.specs.Places.{IsSaid, own_settings, taken, read_field, field_settings, IsFieldSaid, IsFieldCause}
 use Rattle.educe_attrs_places.specs.Reports.{ReportLaws}
 use Rattle.educe_attrs_places.specs.Said.{SaysThere, IsPlaceCause, IsSaidCause}
 use Rattle.educe_attrs_places.proofs.FieldLaws.{field_said}
@@ -57,6 +59,18 @@ listing_message attributes end e (inl (IsListingCause.list cause)) = list_messag
 listing_message attributes end e (inl (IsListingCause.unsupported path n none)) = record { kind = λ same. cc; words = refl }
 listing_message attributes end e (inl (IsListingCause.reuse which found later path are reused path_is)) = record { kind = λ same. cc; words = refl }
 listing_message attributes end e (inr none) = subst HasMessage (sym none.1) (record { kind = λ same. cc; words = refl })
+
+-- ---- the place of what is said
+
+-- a value behind `=` leaves it
+span_other : IsOther (λ (values : Values). values.span)
+span_other = record { name = λ values x. refl; ignore = λ values b. refl; expression = λ values x. refl }
+
+-- it is that of the meta that says it
+says_at : (row : Row) (m : Meta) (values : Values) → Says row m values → values.span ≡ meta_place m
+says_at row _ _ (Says.bare path flag) = refl
+says_at row _ _ (Says.equals path x place b v is holds) = behind_leaves (λ (values : Values). values.span) span_other row.equals b is v (values_at place)
+says_at row _ _ (Says.params path group place found values whole given span_is) = span_is
 
 -- ---- what stands among tokens
 
@@ -131,6 +145,13 @@ module _ (tokens : List Token) where
     listing_placed end e (inl (IsListingCause.reuse which found later path are reused path_is)) = again_placed which found later path are reused path_is
     listing_placed end e (inr none) = subst Starts (sym none.1) IsBoundary.beginning
 
+    -- ---- places of what is said
+
+    said_span : (which : Trait) (row : Row) (values : Values) → IsSaid which row attributes values → IsBoundary tokens values.span.start
+    said_span which row _ (IsSaid.by_meta values s) =
+        subst (λ (place : Span). IsBoundary tokens place.start) (sym (says_at row s.meta values s.says)) (meta_boundary tokens s.meta (meta_placed s.found s.are s.meta s.among))
+    said_span which row _ (IsSaid.by_none none) = IsBoundary.beginning
+
     -- ---- places of ranks
 
     -- a rank, if there is one, starts at a boundary
@@ -170,4 +191,5 @@ lawful_reports = record {
   said_placed = said_placed;
   field_placed = field_placed;
   rank_placed = settings_rank;
+  span_placed = said_span;
 }

@@ -8,8 +8,9 @@ use Rattle.educe_syntax.specs.Placed.{AreAttributesPlaced}
 use Rattle.educe_attrs_values.specs.Reports.{HasMessage, IsBoundary}
 use Rattle.educe_attrs_rows.specs.declared.row.Row.{Row}
 use Rattle.educe_attrs_rows.specs.declared.values.Rank.{Rank}
+use Rattle.educe_attrs_rows.specs.declared.values.Values.{Values}
 use Rattle.educe_attrs_places.specs.Listing.{OfListing}
-use Rattle.educe_attrs_places.specs.Places.{field_settings, IsFieldCause}
+use Rattle.educe_attrs_places.specs.Places.{IsSaid, field_settings, IsFieldCause}
 use Rattle.educe_attrs_places.specs.Said.{IsPlaceCause, IsSaidCause}
 
 -- What holds of the attributes of a place, and of each error that has one of their causes.
@@ -31,3 +32,6 @@ pub record ReportLaws : Type 0 where
   -- so does the rank that a field's attributes give
   pub rank_placed : (tokens : List Token) (attributes : List Attribute) → AreAttributesPlaced tokens attributes
       → (which : Trait) (row : Row) (listed : List Trait) → IfSome (field_settings which row listed attributes).values.rank (λ (r : Rank). IsBoundary tokens r.span.start)
+  -- and the place of what is said at a type or a variant
+  pub span_placed : (tokens : List Token) (attributes : List Attribute) → AreAttributesPlaced tokens attributes
+      → (which : Trait) (row : Row) (values : Values) → IsSaid which row attributes values → IsBoundary tokens values.span.start
