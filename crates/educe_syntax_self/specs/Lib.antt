@@ -1,0 +1,6 @@
+pub mod Selves
+pub mod Heads
+pub mod Replacing
+pub mod Visits
+pub mod Nests
+pub mod Laws

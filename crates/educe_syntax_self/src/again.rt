@@ -1,0 +1,44 @@
+//! Values of tokens that are known to have one.
+ghost use Rattle.std.specs.Prelude.{◌≡◌, suc, IfOk, IfErr};
+ghost use Rattle.educe_grammar.specs.Expressions.{expr_path};
+ghost use Rattle.educe_grammar.specs.Parsed.{depth_limit};
+ghost use Rattle.educe_grammar.specs.Reads.{Reads};
+ghost use Rattle.educe_grammar.specs.Types.{any_type};
+ghost use Rattle.educe_tree.specs.declared.expr.ExprPath.{ExprPath};
+ghost use Rattle.educe_tree.specs.declared.ty.Ty.{Ty};
+
+use crate::knot::{read_path, read_type};
+use educe_grammar::{Cursor, ParseError};
+use educe_tokens::TokenSlice;
+use educe_tree::{ExprPath, Ty};
+use std::alloc::{AllocError, Global};
+
+/// What was read, where reading fails for want of memory alone.
+fn unless_memory<T: Drop>(read: Result<T, ParseError>) -> Result<T, AllocError>
+    requires { IfErr read (λ error. error ≡ ParseError.Memory) }
+    ensures { IfOk result (λ found. read ≡ Ok found) }
+{
+    match read {
+        Ok(found) => Ok(found),
+        Err(ParseError::Memory) => Err(AllocError),
+        Err(_) => unreachable!(),
+    }
+}
+
+/// The type that the tokens are.
+pub(crate) fn type_again(alloc: Global, tokens: &TokenSlice) -> Result<Ty, AllocError>
+    requires { (ty : Ty) × Reads (suc depth_limit) any_type tokens.now ty }
+    ensures { IfOk result (λ found. Reads (suc depth_limit) any_type tokens.now found) }
+{
+    let mut cursor = Cursor::new(tokens);
+    unless_memory(read_type(alloc, &mut cursor))
+}
+
+/// The path that the tokens are.
+pub(crate) fn path_again(alloc: Global, tokens: &TokenSlice) -> Result<ExprPath, AllocError>
+    requires { (path : ExprPath) × Reads (suc depth_limit) expr_path tokens.now path }
+    ensures { IfOk result (λ found. Reads (suc depth_limit) expr_path tokens.now found) }
+{
+    let mut cursor = Cursor::new(tokens);
+    unless_memory(read_path(alloc, &mut cursor))
+}
