@@ -2,6 +2,7 @@ pub mod Rows
 pub mod Binds
 pub mod Steps
 pub mod Tables
+pub mod Places
 pub mod Printed
 pub mod Separated
 pub mod Heads

@@ -1,21 +1,24 @@
 -- The tokens of forms that hold forms, as equations on the lists and the boxed forms that they were made of.
 use denote.Hole.Carrier.{hidden}
 use mathlib.Core.Former.{Count}
-use Rattle.std.proofs.Common.{◌≡◌, Bool, Some, None, List, [], ◌++◌, refl, sym, ap, ◌∙◌, codes, append-nil}
+use Rattle.std.proofs.Common.{◌≡◌, Bool, Option, Some, None, List, [], ◌++◌, refl, sym, ap, ◌∙◌, codes, append-nil}
 use Rattle.std.specs.List.{flat_map}
 use Rattle.std.specs.declared.cmp.Ordering.{Ordering}
 use Rattle.std.specs.declared.cmp.Ordering.TheVariants.{Equal}
 use Rattle.educe_tokens.specs.Quote.{quoted}
 use Rattle.educe_tokens.specs.WrittenLexemes.{written_lexemes}
 use Rattle.educe_tree.specs.declared.expr.ExprPath.{ExprPath}
+use Rattle.educe_tree.specs.declared.data.FieldForm.{FieldForm}
+use Rattle.educe_tree.specs.declared.data.FieldForm.TheVariants.{Named, Unnamed, Unit}
 use Rattle.educe_tree.specs.declared.ident.Ident.{Ident}
-use Rattle.educe_body.specs.declared.form.Form.{Form, Call, Call', Not, IfReturn, Return, SomeOf, MatchOrdering, MatchValue, MatchValue', IfLet, Block, Block', Row_of-Form, end_of-Form, more_of-Form, Row_of-Arm, end_of-Arm, more_of-Arm, items-the_row-Form, items_hidden-the_row-Form-0, items_shown-the_row-Form-0, items-the_row-Arm, items_hidden-the_row-Arm-2}
+use Rattle.educe_body.specs.declared.form.Form.{Form, Call, Call', Not, IfReturn, Return, SomeOf, MatchOrdering, MatchValue, MatchValue', IfLet, Block, Block', HashPart, Construct, Construct', Row_of-Form, end_of-Form, more_of-Form, Row_of-Arm, end_of-Arm, more_of-Arm, Row_of-Init, end_of-Init, more_of-Init, items-the_row-Form, items_hidden-the_row-Form-0, items_shown-the_row-Form-0, items-the_row-Arm, items_hidden-the_row-Arm-2, items-the_row-Init, items_hidden-the_row-Init-3}
 use Rattle.educe_body.specs.declared.form.Arm.{Arm}
+use Rattle.educe_body.specs.declared.form.Init.{Init}
 use Rattle.educe_body.specs.declared.form.Form.TheBlock.{hidden-the_row-Form-1}
 use Rattle.educe_body.specs.declared.pattern.Pattern.{Pattern}
 use Rattle.educe_body.specs.Printing.{separated}
-use Rattle.educe_body.specs.Printouts.{name, each, in_round, in_curly}
-use Rattle.educe_body.specs.Tokens.{order_printout, in_some, step_arms, other_arms, block_arms, pattern_printout, if_let_head, if_let_printout, else_printout, form_printout, form_lexemes, in_a_row, arms_in_a_row, arguments, behind_comma, arm_printout, match_value_printout}
+use Rattle.educe_body.specs.Printouts.{Printout, name, each, in_round, in_curly}
+use Rattle.educe_body.specs.Tokens.{order_printout, in_some, step_arms, other_arms, block_arms, pattern_printout, if_let_head, if_let_printout, else_printout, in_form, keyed, self_printout, construct_printout, form_printout, form_lexemes, init_printout, in_a_row, arms_in_a_row, inits_in_a_row, arguments, behind_comma, arm_printout, match_value_printout}
 
 -- the forms that a call or a block holds
 abbrev row_of : Form → (n : Count) × Row_of-Form n
@@ -88,6 +91,29 @@ form_lexemes-MatchValue value arms =
     ap (λ found. quoted (codes "match") ++ (name value).tokens ++ (quoted (codes "{") ++ found ++ quoted (codes "}")))
     (arms_in_a_row-items row.0 row.1 ∙ ap (flat_map (λ (arm : Arm). (arm_printout arm).tokens)) (items_hidden-the_row-Arm-2 arms))
 
+-- the fields that a value is built of
+abbrev inits_of : Form → (n : Count) × Row_of-Init n
+inits_of (Construct' variant form shape row) = (_, row)
+inits_of _ = (_, end_of-Init)
+
+-- the tokens of the fields of a row, behind one another
+inits_in_a_row-items : (n : _) (row : Row_of-Init n) → (inits_in_a_row row).tokens ≡ flat_map (λ init. (init_printout init).tokens) (items-the_row-Init n row)
+inits_in_a_row-items n end_of-Init = refl
+inits_in_a_row-items n (more_of-Init key value rest) = ap (λ found. (keyed key (form_printout value)).tokens ++ found) (inits_in_a_row-items _ rest)
+
+-- the same tokens in the brackets of a form
+in_form-same : (form : FieldForm) (x y : Printout) → x.tokens ≡ y.tokens → (in_form form x).tokens ≡ (in_form form y).tokens
+in_form-same Named x y same = ap (λ found. quoted (codes "{") ++ found ++ quoted (codes "}")) same
+in_form-same Unnamed x y same = ap (λ found. quoted (codes "(") ++ found ++ quoted (codes ")")) same
+in_form-same Unit x y same = refl
+
+-- a value that is built, by its fields
+pub form_lexemes-Construct : (variant : Option Ident) (form : FieldForm) (inits : List Init) → form_lexemes (Construct variant form inits) ≡ (construct_printout variant form (each init_printout inits)).tokens
+form_lexemes-Construct variant form inits =
+    let row = inits_of (Construct variant form inits) in
+    let same = inits_in_a_row-items row.0 row.1 ∙ ap (flat_map (λ (init : Init). (init_printout init).tokens)) (items_hidden-the_row-Init-3 inits) in
+    ap (λ found. (self_printout variant).tokens ++ found) (in_form-same form (inits_in_a_row row.1) (each init_printout inits) same)
+
 -- forms with one form in a box, by what that is printed as
 pub form_lexemes-SomeOf : (inner : Form) → form_lexemes (SomeOf inner) ≡ (in_some (form_printout inner)).tokens
 unfolding hidden-the_row-Form-1 hidden
@@ -104,6 +130,10 @@ form_lexemes-IfReturn test = refl
 pub form_lexemes-Return : (inner : Form) → form_lexemes (Return inner) ≡ quoted (codes "return") ++ form_lexemes inner ++ quoted (codes ";")
 unfolding hidden-the_row-Form-1 hidden
 form_lexemes-Return inner = refl
+
+pub form_lexemes-HashPart : (inner : Form) → form_lexemes (HashPart inner) ≡ form_lexemes inner ++ quoted (codes ";")
+unfolding hidden-the_row-Form-1 hidden
+form_lexemes-HashPart inner = refl
 
 -- a step, by what is matched
 pub form_lexemes-MatchOrdering-None : (matched : Form) (partial : Bool) (greater less : Ordering) → form_lexemes (MatchOrdering matched partial None greater less)

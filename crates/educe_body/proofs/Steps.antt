@@ -1,6 +1,6 @@
 -- The steps of the evaluator's loops.
 use Rattle.std.proofs.Common.{Bor, chars, ◌≡◌, ℕ, zero, suc, ◌+◌, ◌<◌, ◌≤◌, ◌&&◌, Bool, true, false, List, [], ◌∷◌, ◌++◌, None, map, drop, get_or, length, refl, ap, arith, sym, ◌∙◌}
-use Rattle.std.specs.Prelude.{codes, slice_index_or}
+use Rattle.std.specs.Prelude.{codes}
 use Rattle.std.specs.Cmp.Lexicographic.{pointwise}
 use Rattle.std.specs.Str.{bytes_eq}
 use Rattle.std.proofs.lemmas.List.{drop_more}
@@ -10,11 +10,11 @@ use Rattle.educe_tokens.specs.declared.word.Word.{Word}
 use Rattle.educe_tree.specs.declared.data.Field.{Field}
 use Rattle.educe_body.specs.declared.value.FieldValue.{FieldValue}
 use Rattle.educe_body.specs.declared.environment.Referent.{Referent}
-use Rattle.educe_body.specs.declared.environment.Referent.TheVariants.{This, Other}
+use Rattle.educe_body.specs.declared.environment.Referent.TheVariants.{This}
 use Rattle.educe_body.specs.declared.environment.Binding.{Binding}
 use Rattle.educe_body.specs.Callees.{path_of, spellings, segment_is}
 use Rattle.educe_body.specs.Keys.{key_of, keys_from}
-use Rattle.educe_body.specs.Meaning.{part_of, first_bindings, start}
+use Rattle.educe_body.specs.Meaning.{part_of, first_bindings, all_bound, param_referent}
 
 and-false : (b : Bool) → (b && false) ≡ false
 and-false true = refl
@@ -87,19 +87,9 @@ bound_to name referent = record { name = name; referent = referent }
 self_name : chars (codes "self") ≡ codes "self"
 self_name = ascii_chars (codes "self") refl
 
--- the bindings that `self` alone makes
-pub first_bindings-empty : (none names : List Binding) (self : List ℕ) (params : List Word)
-    → none ≡ [] → self ≡ chars (codes "self") → names ≡ none ++ bound_to self This ∷ [] → length params ≤ 0 → names ≡ first_bindings params
-first_bindings-empty none names self [] empty text made no_params =
-    made ∙ ap (λ (bs : List Binding). bs ++ bound_to self This ∷ []) empty ∙ ap (λ (name : List ℕ). bound_to name This ∷ []) (text ∙ self_name)
-first_bindings-empty none names self (param ∷ more) empty text made no_params = absurd (omega arith)
-
--- the bindings that `self` and a parameter make
-pub first_bindings-first : (none one names : List Binding) (self copied : List ℕ) (params : List Word) (param : Word)
-    → none ≡ [] → self ≡ chars (codes "self") → one ≡ none ++ bound_to self This ∷ [] → copied ≡ param.text → names ≡ one ++ bound_to copied Other ∷ []
-    → 0 < length params → param ≡ slice_index_or params 0 param → names ≡ first_bindings params
-first_bindings-first none one names self copied [] param empty text made same added some is = absurd (omega arith)
-first_bindings-first none one names self copied (first ∷ more) param empty text made same added some is =
+-- the bindings that `self` and the parameters make
+pub first_bindings-made : (none one names : List Binding) (self : List ℕ) (params : List Word) (referent : Referent) → none ≡ [] → self ≡ chars (codes "self") → one ≡ none ++ bound_to self This ∷ []
+    → referent ≡ param_referent params → names ≡ one ++ all_bound referent params → names ≡ first_bindings params
+first_bindings-made none one names self params referent empty text made is added =
     let start : one ≡ bound_to (codes "self") This ∷ [] = made ∙ ap (λ (bs : List Binding). bs ++ bound_to self This ∷ []) empty ∙ ap (λ (name : List ℕ). bound_to name This ∷ []) (text ∙ self_name) in
-    added ∙ ap (λ (bs : List Binding). bs ++ bound_to copied Other ∷ []) start
-    ∙ ap (λ (name : List ℕ). bound_to (codes "self") This ∷ bound_to name Other ∷ []) (same ∙ ap (λ (word : Word). word.text) is)
+    added ∙ ap (λ (bs : List Binding). bs ++ all_bound referent params) start ∙ ap (λ (referent : Referent). bound_to (codes "self") This ∷ all_bound referent params) is

@@ -4,9 +4,9 @@ use Rattle.std.specs.Str.{bytes_eq}
 use Rattle.std.specs.Ordering.{int_eq, int_cmp}
 use Rattle.educe_body.specs.declared.value.FieldValue.{FieldValue}
 use Rattle.educe_body.specs.declared.callee.Callee.{Callee}
-use Rattle.educe_body.specs.declared.callee.Callee.TheVariants.{Ne, Cmp, PartialCmp, Written}
+use Rattle.educe_body.specs.declared.callee.Callee.TheVariants.{Ne, Cmp, PartialCmp, Hash, Default, Written}
 use Rattle.educe_body.specs.declared.answers.Answer.{Answer}
-use Rattle.educe_body.specs.declared.answers.Answer.TheVariants.{Truth, Order, PartialOrder}
+use Rattle.educe_body.specs.declared.answers.Answer.TheVariants.{Truth, Order, PartialOrder, Part}
 use Rattle.educe_body.specs.declared.answers.Row.{Row}
 use Rattle.educe_body.specs.declared.answers.Answers.{Answers}
 
@@ -19,12 +19,15 @@ same_argument (Some x) (Some y) = same_value x y
 same_argument None (Some y) = false
 same_argument (Some x) None = false
 
--- the same function that is built in, or functions that are written as one text
+-- the same function that is built in, default values of one type, or functions that are written as one text
 abbrev pub same_callee : Callee → Callee → Bool
-same_callee Ne callee = elim callee [ Ne ↦ true | Cmp ↦ false | PartialCmp ↦ false | Written text ↦ false ]
-same_callee Cmp callee = elim callee [ Ne ↦ false | Cmp ↦ true | PartialCmp ↦ false | Written text ↦ false ]
-same_callee PartialCmp callee = elim callee [ Ne ↦ false | Cmp ↦ false | PartialCmp ↦ true | Written text ↦ false ]
-same_callee (Written own) callee = elim callee [ Ne ↦ false | Cmp ↦ false | PartialCmp ↦ false | Written text ↦ bytes_eq own text ]
+same_callee Ne Ne = true
+same_callee Cmp Cmp = true
+same_callee PartialCmp PartialCmp = true
+same_callee Hash Hash = true
+same_callee (Default own) (Default place) = own == place
+same_callee (Written own) (Written text) = bytes_eq own text
+same_callee own callee = false
 
 abbrev pub row_fits : Row → Callee → Option FieldValue → Option FieldValue → Bool
 row_fits row callee x y = same_callee row.callee callee && same_argument row.first x && same_argument row.second y
@@ -34,24 +37,35 @@ abbrev pub first_row : List Row → Callee → Option FieldValue → Option Fiel
 first_row [] callee x y = None
 first_row (row ∷ rows) callee x y = if row_fits row callee x y then Some row.answer else first_row rows callee x y
 
--- the comparison of two numbers; a function that is written answers by rows alone
+-- the comparison of two numbers; default values, and functions that are written, answer by rows alone
 abbrev pub compared_numbers : Callee → FieldValue → FieldValue → Option Answer
 compared_numbers Ne x y = Some (Truth (not (int_eq x.number y.number)))
 compared_numbers Cmp x y = Some (Order (int_cmp x.number y.number))
 compared_numbers PartialCmp x y = Some (PartialOrder (Some (int_cmp x.number y.number)))
+compared_numbers Hash x y = None
+compared_numbers (Default place) x y = None
 compared_numbers (Written text) x y = None
 
--- the comparison of the numbers of two values of one type
+-- what `Hash::hash` feeds of one value: its number
+abbrev pub hashed_number : Callee → FieldValue → Option Answer
+hashed_number Hash x = Some (Part x.number)
+hashed_number Ne x = None
+hashed_number Cmp x = None
+hashed_number PartialCmp x = None
+hashed_number (Default place) x = None
+hashed_number (Written text) x = None
+
+-- the comparison of the numbers of two values of one type, or what is fed of one value
 abbrev pub by_number_answer : Callee → Option FieldValue → Option FieldValue → Option Answer
 by_number_answer callee None y = None
-by_number_answer callee (Some x) None = None
+by_number_answer callee (Some x) None = hashed_number callee x
 by_number_answer callee (Some x) (Some y) = if x.ty == y.ty then compared_numbers callee x y else None
 
 abbrev pub or_else : Option Answer → Option Answer → Option Answer
 or_else None other = other
 or_else (Some answer) other = Some answer
 
--- the first row with these three, or else, where the table answers by number, the comparison of the numbers
+-- the first row with these three, or else, where the table answers by number, what the numbers say
 abbrev pub answer_of : Answers → Callee → Option FieldValue → Option FieldValue → Option Answer
 answer_of table callee x y =
     or_else (first_row table.rows callee x y) (if table.by_number then by_number_answer callee x y else None)

@@ -1,5 +1,5 @@
 -- The paths by which generated code calls the functions that are built in.
-use Rattle.std.specs.Prelude.{ℕ, ◌≡◌, true, List, [], ◌∷◌, None, map, codes}
+use Rattle.std.specs.Prelude.{ℕ, ◌≡◌, true, List, None, map, codes}
 use Rattle.educe_tokens.specs.declared.span.Span.{Span}
 use Rattle.educe_tokens.specs.Appends.{no_place, LieNowhere}
 use Rattle.educe_tokens.specs.Lexes.{Lexeme, lexemes}
@@ -13,19 +13,15 @@ use Rattle.educe_tree.specs.declared.path.Segment.{Segment, out-Segment}
 use Rattle.educe_grammar.specs.Expressions.{expr_path}
 use Rattle.educe_grammar.specs.Parsed.{IsWhole}
 use Rattle.educe_body.specs.declared.callee.BuiltIn.{BuiltIn}
-use Rattle.educe_body.specs.declared.callee.BuiltIn.TheVariants.{Ne, Cmp, PartialCmp}
+use Rattle.educe_body.specs.declared.callee.BuiltIn.TheVariants.{Ne, Cmp, PartialCmp, Hash}
+use Rattle.educe_body.specs.Callees.{path_names}
 
 -- the tokens of the path
 abbrev pub path_lexemes : BuiltIn → List Lexeme
 path_lexemes Ne = quoted (codes ":: core :: cmp :: PartialEq :: ne")
 path_lexemes Cmp = quoted (codes ":: core :: cmp :: Ord :: cmp")
 path_lexemes PartialCmp = quoted (codes ":: core :: cmp :: PartialOrd :: partial_cmp")
-
--- its names, the first one first
-abbrev pub path_names : BuiltIn → List (List ℕ)
-path_names Ne = codes "core" ∷ codes "cmp" ∷ codes "PartialEq" ∷ codes "ne" ∷ []
-path_names Cmp = codes "core" ∷ codes "cmp" ∷ codes "Ord" ∷ codes "cmp" ∷ []
-path_names PartialCmp = codes "core" ∷ codes "cmp" ∷ codes "PartialOrd" ∷ codes "partial_cmp" ∷ []
+path_lexemes Hash = quoted (codes ":: core :: hash :: Hash :: hash")
 
 -- what a segment says: its name, where that lies, and its arguments
 abbrev pub said_by : Segment → List ℕ × Span × Args

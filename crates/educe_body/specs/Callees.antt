@@ -1,6 +1,8 @@
 -- Which function a path names.
-use Rattle.std.specs.Prelude.{ℕ, Bool, ◌&&◌, List, [], ◌∷◌, map, Option, Some, None, if◌then◌else◌, chars, codes}
+use Rattle.std.specs.Prelude.{ℕ, Bool, true, ◌&&◌, List, [], ◌∷◌, map, Option, Some, None, if◌then◌else◌, chars, codes}
 use Rattle.std.specs.Borrow.{Bor}
+use Rattle.std.specs.Char.{is_ascii}
+use Rattle.std.specs.List.{list_all}
 use Rattle.std.specs.Str.{bytes_eq}
 use Rattle.std.specs.Cmp.Lexicographic.{pointwise}
 use Rattle.educe_tokens.specs.declared.token.Token.{Token}
@@ -8,9 +10,9 @@ use Rattle.educe_tokens.specs.Text.{text_of}
 use Rattle.educe_tokens.specs.WrittenLexemes.{written_lexemes}
 use Rattle.educe_tree.specs.declared.expr.ExprPath.{ExprPath}
 use Rattle.educe_body.specs.declared.callee.BuiltIn.{BuiltIn}
-use Rattle.educe_body.specs.declared.callee.BuiltIn.TheVariants.{Ne, Cmp, PartialCmp}
+use Rattle.educe_body.specs.declared.callee.BuiltIn.TheVariants.{Ne, Cmp, PartialCmp, Hash}
 use Rattle.educe_body.specs.declared.callee.Callee.{Callee}
-use Rattle.educe_body.specs.declared.callee.Callee.TheVariants.{Ne as CalleeNe, Cmp as CalleeCmp, PartialCmp as CalleePartialCmp, Written}
+use Rattle.educe_body.specs.declared.callee.Callee.TheVariants.{Ne as CalleeNe, Cmp as CalleeCmp, PartialCmp as CalleePartialCmp, Hash as CalleeHash, Written}
 
 -- the spellings of tokens; where they agree the tokens are the same (`AreSameTokens`), since a spelling decides the kind
 abbrev pub spellings : List Token → List (List ℕ)
@@ -21,25 +23,21 @@ abbrev pub path_of : List (List ℕ) → List (List ℕ)
 path_of [] = []
 path_of (word ∷ words) = codes ":" ∷ codes ":" ∷ word ∷ path_of words
 
--- `:: core :: cmp :: PartialEq :: ne`
-abbrev pub ne_path : List (List ℕ)
-ne_path = path_of (codes "core" ∷ codes "cmp" ∷ codes "PartialEq" ∷ codes "ne" ∷ [])
+-- the words of the path of a function that is built in
+abbrev pub path_names : BuiltIn → List (List ℕ)
+path_names Ne = codes "core" ∷ codes "cmp" ∷ codes "PartialEq" ∷ codes "ne" ∷ []
+path_names Cmp = codes "core" ∷ codes "cmp" ∷ codes "Ord" ∷ codes "cmp" ∷ []
+path_names PartialCmp = codes "core" ∷ codes "cmp" ∷ codes "PartialOrd" ∷ codes "partial_cmp" ∷ []
+path_names Hash = codes "core" ∷ codes "hash" ∷ codes "Hash" ∷ codes "hash" ∷ []
 
--- `:: core :: cmp :: Ord :: cmp`
-abbrev pub cmp_path : List (List ℕ)
-cmp_path = path_of (codes "core" ∷ codes "cmp" ∷ codes "Ord" ∷ codes "cmp" ∷ [])
-
--- `:: core :: cmp :: PartialOrd :: partial_cmp`
-abbrev pub partial_cmp_path : List (List ℕ)
-partial_cmp_path = path_of (codes "core" ∷ codes "cmp" ∷ codes "PartialOrd" ∷ codes "partial_cmp" ∷ [])
+-- the first of these functions whose path has these spellings
+abbrev pub first_spelled : List BuiltIn → List (List ℕ) → Option BuiltIn
+first_spelled [] path = None
+first_spelled (which ∷ more) path = if pointwise bytes_eq path (path_of (path_names which)) then Some which else first_spelled more path
 
 -- the function that a path of these spellings names, if it is built in
 unfoldable pub built_in_named : List (List ℕ) → Option BuiltIn
-built_in_named path =
-    if pointwise bytes_eq path ne_path then Some Ne
-    else if pointwise bytes_eq path cmp_path then Some Cmp
-    else if pointwise bytes_eq path partial_cmp_path then Some PartialCmp
-    else None
+built_in_named path = first_spelled (Ne ∷ Cmp ∷ PartialCmp ∷ Hash ∷ []) path
 
 -- the function that a path names, if it is built in
 abbrev pub built_in : ExprPath → Option BuiltIn
@@ -50,6 +48,7 @@ abbrev pub as_callee : BuiltIn → Callee
 as_callee Ne = CalleeNe
 as_callee Cmp = CalleeCmp
 as_callee PartialCmp = CalleePartialCmp
+as_callee Hash = CalleeHash
 
 -- the text of a path
 abbrev pub text_of_path : ExprPath → List ℕ
@@ -63,6 +62,15 @@ callee_or_text path (Some which) = as_callee which
 -- what a path names: a function that is built in, or that of its text
 abbrev pub callee_of : ExprPath → Callee
 callee_of path = callee_or_text path (built_in path)
+
+-- words as they are written in code
+abbrev pub texts : List (Bor (List ℕ)) → List (List ℕ)
+texts words = map (λ word. word.now) words
+
+-- these have ASCII characters alone
+abbrev pub are_ascii : List (Bor (List ℕ)) → Bool
+are_ascii [] = true
+are_ascii (word ∷ words) = list_all is_ascii word.now && are_ascii words
 
 -- the tokens are spelled `::` and the word
 abbrev pub segment_is : Token → Token → Token → List ℕ → Bool

@@ -33,6 +33,8 @@ answered_number (Some (answer.Truth b)) = None
 answered_number (Some (answer.Order o)) = None
 answered_number (Some (answer.PartialOrder p)) = None
 answered_number (Some (answer.Number n)) = Some n
+answered_number (Some (answer.Part n)) = None
+answered_number (Some (answer.Made x)) = None
 
 -- the number that the table answers for the text of an expression
 abbrev pub text_number : Answers → Expr → Option ℤ

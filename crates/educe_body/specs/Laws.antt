@@ -5,14 +5,16 @@ use Rattle.std.specs.declared.cmp.Ordering.{Ordering}
 use Rattle.educe_tokens.specs.declared.token.Token.{Token}
 use Rattle.educe_tokens.specs.WrittenLexemes.{written_lexemes}
 use Rattle.educe_tree.specs.declared.data.Field.{Field}
+use Rattle.educe_tree.specs.declared.data.FieldForm.{FieldForm}
 use Rattle.educe_tree.specs.declared.derive.DeriveInput.{DeriveInput}
 use Rattle.educe_tree.specs.declared.expr.Expr.{Expr}
 use Rattle.educe_tree.specs.declared.expr.ExprPath.{ExprPath}
 use Rattle.educe_tree.specs.declared.ident.Ident.{Ident}
 use Rattle.educe_tree.specs.Names.{unraw}
 use Rattle.educe_grammar.specs.Naming.{field_names, AreApart, AreNamesApart}
-use Rattle.educe_body.specs.declared.form.Form.{Form, Call, Not, IfReturn, Return, SomeOf, MatchOrdering, MatchValue, IfLet, Block}
+use Rattle.educe_body.specs.declared.form.Form.{Form, Call, Not, IfReturn, Return, SomeOf, MatchOrdering, MatchValue, IfLet, Block, HashPart, Construct}
 use Rattle.educe_body.specs.declared.form.Arm.{Arm}
+use Rattle.educe_body.specs.declared.form.Init.{Init}
 use Rattle.educe_body.specs.declared.pattern.Pattern.{Pattern}
 use Rattle.educe_body.specs.declared.answers.Answers.{Answers}
 use Rattle.educe_body.specs.declared.value.FieldValue.{FieldValue}
@@ -24,10 +26,11 @@ use Rattle.educe_body.specs.declared.flow.Thing.TheVariants.{Nothing}
 use Rattle.educe_body.specs.declared.flow.Flow.TheVariants.{Gives, Returns}
 use Rattle.educe_body.specs.BuiltIn.{path_lexemes, IsBuiltIn}
 use Rattle.educe_body.specs.Callees.{built_in, as_callee, callee_of}
+use Rattle.educe_body.specs.Cases.{case_named}
 use Rattle.educe_body.specs.Constants.{number_of, number_in}
 use Rattle.educe_body.specs.Keys.{AreDifferent, fields_of, keys_from, keys_of}
 use Rattle.educe_body.specs.Scoping.{callee_in, IsApart, AreOwnNames}
-use Rattle.educe_body.specs.Meaning.{Scene, form_value, list_value, args_list, held_list, arms_list, if_let_value, part_of, call_value, value_named, with_value, look_up, go_on, leave, opposite, some_of, unless_true, order_match}
+use Rattle.educe_body.specs.Meaning.{Scene, form_value, list_value, args_list, held_list, arms_list, if_let_value, part_of, call_value, value_named, with_value, look_up, go_on, leave, opposite, some_of, unless_true, hash_part, order_match, with_case, built_value}
 
 -- by this look-up the keys give the values, one for each
 abbrev pub KeysGive : (List ℕ → Option FieldValue) → List (List ℕ) → List FieldValue → Type 0
@@ -86,3 +89,8 @@ pub record FormLaws : Type 0 where
       → form_value scene env (IfLet pattern name forms others) ≡ with_value (value_named scene (look_up env.names name.text)) (if_let_value scene env pattern forms others)
   -- of a block, by the values of its forms in order
   pub block : (scene : Scene) (env : Env) (forms : List Form) → form_value scene env (Block forms) ≡ leave env.names (list_value scene env Nothing forms)
+  -- of what is fed to a hasher
+  pub hashed : (scene : Scene) (env : Env) (held : Form) → form_value scene env (HashPart held) ≡ go_on (form_value scene env held) hash_part
+  -- of what is built, by the values of its initializers in order, however its fields are written
+  pub construct : (scene : Scene) (env : Env) (name : Option Ident) (written : FieldForm) (inits : List Init)
+      → form_value scene env (Construct name written inits) ≡ with_case (case_named scene.definition name) (built_value scene env inits)

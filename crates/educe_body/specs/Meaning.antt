@@ -1,61 +1,78 @@
 -- What a body evaluates to, over an environment from names to values: a value, a return, or nothing.
-use Rattle.std.specs.Prelude.{ℕ, ℤ, ◌-◌, ◌^◌, pos, length, take, Bool, true, false, not, List, [], ◌∷◌, ◌++◌, Option, Some, None, if◌then◌else◌, codes}
+use Rattle.std.specs.Prelude.{ℕ, ℤ, ◌-◌, ◌^◌, pos, length, take, map, Bool, true, false, not, List, [], ◌∷◌, ◌++◌, Option, Some, None, if◌then◌else◌, codes}
+use Rattle.std.specs.List.{filter}
 use Rattle.std.specs.Option.{option_copied}
 use Rattle.std.specs.Ordering.{int_cmp}
 use Rattle.std.specs.Str.{bytes_eq}
 use Rattle.std.specs.declared.cmp.Ordering.{Ordering}
 use Rattle.std.specs.declared.cmp.Ordering.TheVariants.{Less, Equal, Greater}
+use Rattle.educe_tree.specs.declared.data.Field.{Field}
 use Rattle.educe_tree.specs.declared.derive.DeriveInput.{DeriveInput}
 use Rattle.educe_tree.specs.declared.expr.ExprPath.{ExprPath}
 use Rattle.educe_tree.specs.declared.ident.Ident.{Ident}
 use Rattle.educe_tokens.specs.declared.word.Word.{Word}
+use Rattle.educe_tokens.specs.declared.written.Written.{Written}
 use Rattle.educe_body.specs.declared.value.FieldValue.{FieldValue}
 use Rattle.educe_body.specs.declared.value.Value.{Value}
 use Rattle.educe_body.specs.declared.callee.Callee.{Callee}
-use Rattle.educe_body.specs.declared.callee.Callee.TheVariants.{Ne, Cmp, PartialCmp, Written}
+use Rattle.educe_body.specs.declared.callee.Callee.TheVariants.{Cmp, Hash}
 use Rattle.educe_body.specs.declared.answers.Answer.{Answer}
-use Rattle.educe_body.specs.declared.answers.Answer.TheVariants.{Truth as AnswerTruth, Order as AnswerOrder, PartialOrder as AnswerPartialOrder, Number as AnswerNumber}
+use Rattle.educe_body.specs.declared.answers.Answer.TheVariants.{Truth as AnswerTruth, Order as AnswerOrder, PartialOrder as AnswerPartialOrder, Number as AnswerNumber, Part as AnswerPart, Made as AnswerMade}
 use Rattle.educe_body.specs.declared.answers.Answers.{Answers}
 use Rattle.educe_body.specs.declared.form.Known.{Known}
 use Rattle.educe_body.specs.declared.form.Known.TheVariants.{Truth as KnownTruth, Order as KnownOrder, PartialOrder as KnownPartialOrder}
-use Rattle.educe_body.specs.declared.form.Form.{Form, Local, Reference, BracedCopy, Key, Call', Not', IfReturn', Return', SomeOf', MatchOrdering', MatchValue', IfLet', KeyFunction, Block', Row_of-Form, end_of-Form, more_of-Form, Row_of-Arm, end_of-Arm, more_of-Arm, Held-Form-MatchOrdering-2, None', Some'}
+use Rattle.educe_body.specs.declared.form.Form.{Form, Local, Reference, BracedCopy, Key, Call', Not', IfReturn', Return', SomeOf', MatchOrdering', MatchValue', IfLet', KeyFunction, Block', HashPart', Construct', Pasted, Row_of-Form, end_of-Form, more_of-Form, Row_of-Arm, end_of-Arm, more_of-Arm, Row_of-Init, end_of-Init, more_of-Init, Held-Form-MatchOrdering-2, None', Some'}
 use Rattle.educe_body.specs.declared.form.Form as form
 use Rattle.educe_body.specs.declared.form.Arm.{Arm}
+use Rattle.educe_body.specs.declared.form.Init.{Init}
 use Rattle.educe_body.specs.declared.key_function.KeyArm.{KeyArm}
 use Rattle.educe_body.specs.declared.pattern.Pattern.{Pattern}
 use Rattle.educe_body.specs.declared.body.Body.{Body}
 use Rattle.educe_body.specs.declared.evaluator.Outcome.{Outcome}
-use Rattle.educe_body.specs.declared.evaluator.Outcome.TheVariants.{Truth as OutcomeTruth, Order as OutcomeOrder, PartialOrder as OutcomePartialOrder, Stuck as OutcomeStuck}
+use Rattle.educe_body.specs.declared.evaluator.Outcome.TheVariants.{Truth as OutcomeTruth, Order as OutcomeOrder, PartialOrder as OutcomePartialOrder, Parts as OutcomeParts, Made as OutcomeMade, Whole as OutcomeWhole, Stuck as OutcomeStuck}
 use Rattle.educe_body.specs.declared.environment.Scope.{Scope}
+use Rattle.educe_body.specs.declared.stage.Stage.{Stage}
 use Rattle.educe_body.specs.declared.environment.Referent.{Referent}
 use Rattle.educe_body.specs.declared.environment.Referent.TheVariants.{This, Other, Bound, Keys, Inert}
 use Rattle.educe_body.specs.declared.environment.Binding.{Binding}
 use Rattle.educe_body.specs.declared.environment.Env.{Env}
 use Rattle.educe_body.specs.declared.flow.Thing.{Thing}
-use Rattle.educe_body.specs.declared.flow.Thing.TheVariants.{Nothing, Truth, Order, PartialOrder, Part, Number}
+use Rattle.educe_body.specs.declared.flow.Thing.TheVariants.{Nothing, Truth, Order, PartialOrder, Part, Number, Position, Hashed, Made, Built, Inert as InertThing}
 use Rattle.educe_body.specs.declared.flow.Flow.{Flow}
 use Rattle.educe_body.specs.declared.flow.Flow.TheVariants.{Gives, Returns, Stuck}
 use Rattle.educe_body.specs.Answering.{answer_of}
+use Rattle.educe_body.specs.Cases.{case_named}
 use Rattle.educe_body.specs.Constants.{key_number}
 use Rattle.educe_body.specs.Keys.{keys_of}
-use Rattle.educe_body.specs.Matching.{fits, bindings_of}
+use Rattle.educe_body.specs.Matching.{has_key, fits, bindings_of}
 use Rattle.educe_body.specs.Scoping.{callee_in}
+use Rattle.educe_body.specs.Types.{pasted_callee}
 
--- what a body is evaluated over: the definition, the values of `self` and of the parameter, and the table
+-- what forms are evaluated over: the definition, the values of `self` and of the parameter, the table, and in an initializer its field
 pub record Scene : Type 0 where
   pub definition : DeriveInput
   pub this : Option Value
   pub other : Option Value
   pub answers : Answers
+  pub field : Option Field
 
--- the values that a scope refers to, and the table
+-- the values that a scope refers to, and the table; no initializer is evaluated
 abbrev pub scene : Scope → Answers → Scene
 scene scope answers = record {
   definition = scope.ast.now;
   this = option_copied scope.this;
   other = option_copied scope.other;
   answers = answers;
+  field = None;
 }
+
+-- the same over a stage, which may be in an initializer
+abbrev pub scene_at : Stage → Scene
+scene_at stage = record (scene stage.scope.now stage.answers.now) { field = option_copied stage.field }
+
+-- the same where the initializer of this field is evaluated
+abbrev pub for_field : Scene → Field → Scene
+for_field scene field = record scene { field = Some field }
 
 -- ---- names
 
@@ -141,6 +158,11 @@ abbrev pub part_flow : Env → Option FieldValue → Flow
 part_flow env None = Stuck
 part_flow env (Some x) = Gives env (Part x)
 
+-- what a name gives: a value, as a table is shown it, or what does not count
+abbrev pub local_flow : Scene → Env → Option Referent → Flow
+local_flow scene env (Some Inert) = Gives env InertThing
+local_flow scene env found = part_flow env (local_value scene found)
+
 -- the value of the field of this key of the value that the base stands for, which is read in place or from a copy
 abbrev pub read_flow : Scene → Env → List ℕ → List ℕ → Flow
 read_flow scene env base key = part_flow env (reference_value scene (look_up env.names base) key)
@@ -162,7 +184,7 @@ go_on (Gives env thing) next = next env thing
 go_on (Returns env thing) next = Returns env thing
 go_on Stuck next = Stuck
 
--- the names of a block end with it: as many are left as there were before it
+-- the names of a block end with it: as many are left as there were before it; what was fed to a hasher stays
 abbrev pub leave : List Binding → Flow → Flow
 leave names (Gives env thing) = Gives (record env { names = take (length names) env.names }) thing
 leave names (Returns env thing) = Returns (record env { names = take (length names) env.names }) thing
@@ -196,56 +218,69 @@ answer_flow env (Some (AnswerTruth b)) = Gives env (Truth b)
 answer_flow env (Some (AnswerOrder o)) = Gives env (Order o)
 answer_flow env (Some (AnswerPartialOrder p)) = Gives env (PartialOrder p)
 answer_flow env (Some (AnswerNumber n)) = Gives env (Number n)
+answer_flow env (Some (AnswerPart n)) = Gives env (Hashed n)
+answer_flow env (Some (AnswerMade x)) = Gives env (Made x)
 
 -- goes on with a field value alone
 abbrev pub if_part : (FieldValue → Flow) → Thing → Flow
 if_part next (Part x) = next x
-if_part next Nothing = Stuck
-if_part next (Truth b) = Stuck
-if_part next (Order o) = Stuck
-if_part next (PartialOrder p) = Stuck
-if_part next (Number n) = Stuck
+if_part next thing = Stuck
 
 -- goes on with a number alone
 abbrev pub if_number : (ℤ → Flow) → Thing → Flow
 if_number next (Number n) = next n
-if_number next Nothing = Stuck
-if_number next (Truth b) = Stuck
-if_number next (Order o) = Stuck
-if_number next (PartialOrder p) = Stuck
-if_number next (Part x) = Stuck
+if_number next thing = Stuck
 
 -- two numbers are compared by `Ord::cmp` alone
 abbrev pub numbers_flow : Env → Callee → ℤ → ℤ → Flow
 numbers_flow env Cmp m n = Gives env (Order (int_cmp m n))
-numbers_flow env Ne m n = Stuck
-numbers_flow env PartialCmp m n = Stuck
-numbers_flow env (Written text) m n = Stuck
+numbers_flow env callee m n = Stuck
+
+-- the place of a variant is fed to a hasher as it is, by `Hash::hash` alone
+abbrev pub position_flow : Env → Callee → ℕ → Flow
+position_flow env Hash place = Gives env (Hashed (pos place))
+position_flow env callee place = Stuck
+
+-- the answer of a call of one argument: a field value, or the place of a variant
+abbrev pub one_answer : Env → Answers → Callee → Thing → Flow
+one_answer env table callee (Part x) = answer_flow env (answer_of table callee (Some x) None)
+one_answer env table callee (Position place) = position_flow env callee place
+one_answer env table callee thing = Stuck
 
 -- the answer of a call of two arguments: two field values, or two numbers
 abbrev pub two_answer : Env → Answers → Callee → Thing → Thing → Flow
 two_answer env table callee (Part x) y = if_part (λ y. answer_flow env (answer_of table callee (Some x) (Some y))) y
 two_answer env table callee (Number m) y = if_number (λ n. numbers_flow env callee m n) y
-two_answer env table callee Nothing y = Stuck
-two_answer env table callee (Truth b) y = Stuck
-two_answer env table callee (Order o) y = Stuck
-two_answer env table callee (PartialOrder p) y = Stuck
+two_answer env table callee thing y = Stuck
 
 -- the answer of a call of at most two arguments
 abbrev pub call_answer : Env → Answers → Callee → List Thing → Flow
 call_answer env table callee [] = answer_flow env (answer_of table callee None None)
-call_answer env table callee (x ∷ []) = if_part (λ x. answer_flow env (answer_of table callee (Some x) None)) x
+call_answer env table callee (x ∷ []) = one_answer env table callee x
 call_answer env table callee (x ∷ y ∷ []) = two_answer env table callee x y
 call_answer env table callee (x ∷ y ∷ z ∷ more) = Stuck
 
--- the same, where something is called
+-- the argument counts: all do but what has no value of its own
+abbrev pub counts : Thing → Bool
+counts InertThing = false
+counts thing = true
+
+-- the arguments of a call that count
+abbrev pub counted : List Thing → List Thing
+counted arguments = filter counts arguments
+
+-- the answer of a call by the arguments that count, where something is called
 abbrev pub call_named : Answers → Option Callee → Env → List Thing → Flow
 call_named table None env arguments = Stuck
-call_named table (Some callee) env arguments = call_answer env table callee arguments
+call_named table (Some callee) env arguments = call_answer env table callee (counted arguments)
 
 -- a call of a path, where these names are in scope, by its arguments
 abbrev pub call_value : Scene → List Binding → ExprPath → Env → List Thing → Flow
 call_value scene names path = call_named scene.answers (callee_in names path)
+
+-- what tokens give that are pasted as they were written: the answer of their call without arguments
+abbrev pub pasted_flow : Scene → Env → Written → Flow
+pasted_flow scene env written = call_named scene.answers (pasted_callee scene.definition scene.field env.names written) env []
 
 -- ---- what goes on behind a value
 
@@ -253,29 +288,36 @@ call_value scene names path = call_named scene.answers (callee_in names path)
 abbrev pub unless_true : Env → Thing → Flow
 unless_true env (Truth true) = Returns env (Truth false)
 unless_true env (Truth false) = Gives env Nothing
-unless_true env Nothing = Stuck
-unless_true env (Order o) = Stuck
-unless_true env (PartialOrder p) = Stuck
-unless_true env (Part x) = Stuck
-unless_true env (Number n) = Stuck
+unless_true env thing = Stuck
 
 -- the opposite truth
 abbrev pub opposite : Env → Thing → Flow
 opposite env (Truth b) = Gives env (Truth (not b))
-opposite env Nothing = Stuck
-opposite env (Order o) = Stuck
-opposite env (PartialOrder p) = Stuck
-opposite env (Part x) = Stuck
-opposite env (Number n) = Stuck
+opposite env thing = Stuck
 
 -- an order in `Some`
 abbrev pub some_of : Env → Thing → Flow
 some_of env (Order o) = Gives env (PartialOrder (Some o))
-some_of env Nothing = Stuck
-some_of env (Truth b) = Stuck
-some_of env (PartialOrder p) = Stuck
-some_of env (Part x) = Stuck
-some_of env (Number n) = Stuck
+some_of env thing = Stuck
+
+-- what a call feeds to a hasher is added to what was fed
+abbrev pub hash_part : Env → Thing → Flow
+hash_part env (Hashed n) = Gives (record env { parts = env.parts ++ n ∷ [] }) Nothing
+hash_part env thing = Stuck
+
+-- the value that a call made
+abbrev pub made_value : Thing → Option FieldValue
+made_value (Made x) = Some x
+made_value thing = None
+
+-- goes on with a value that was made, where one was
+abbrev pub with_made : Option FieldValue → (FieldValue → Flow) → Flow
+with_made None next = Stuck
+with_made (Some x) next = next x
+
+-- the same of what a form gives
+abbrev pub if_made : (Env → FieldValue → Flow) → Env → Thing → Flow
+if_made next env thing = with_made (made_value thing) (next env)
 
 -- the arm of an order: Equal goes on, Greater returns the one order and Less the other
 abbrev pub order_arm : Env → Ordering → Ordering → Ordering → Flow
@@ -294,12 +336,7 @@ partial_arm env above below (Some Less) = Returns env (PartialOrder (Some below)
 abbrev pub arm_of : Bool → Ordering → Ordering → Env → Thing → Flow
 arm_of false above below env (Order o) = order_arm env above below o
 arm_of true above below env (PartialOrder p) = partial_arm env above below p
-arm_of false above below env (PartialOrder p) = Stuck
-arm_of true above below env (Order o) = Stuck
-arm_of partial above below env Nothing = Stuck
-arm_of partial above below env (Truth b) = Stuck
-arm_of partial above below env (Part x) = Stuck
-arm_of partial above below env (Number n) = Stuck
+arm_of partial above below env thing = Stuck
 
 -- an order as a function gives it: with true that is `partial_cmp`
 abbrev pub order_thing : Bool → Ordering → Thing
@@ -311,11 +348,7 @@ abbrev pub block_arm : Bool → Ordering → Ordering → (Env → Flow) → Env
 block_arm partial above below equal env (Order Equal) = equal env
 block_arm partial above below equal env (Order Greater) = Gives env (order_thing partial above)
 block_arm partial above below equal env (Order Less) = Gives env (order_thing partial below)
-block_arm partial above below equal env Nothing = Stuck
-block_arm partial above below equal env (Truth b) = Stuck
-block_arm partial above below equal env (PartialOrder p) = Stuck
-block_arm partial above below equal env (Part x) = Stuck
-block_arm partial above below equal env (Number n) = Stuck
+block_arm partial above below equal env thing = Stuck
 
 -- the arm of a match on an order, with a block for Equal or as a step
 abbrev pub order_match : Bool → Ordering → Ordering → Option (Env → Flow) → Env → Thing → Flow
@@ -333,12 +366,23 @@ abbrev pub with_keys : Scene → Env → Ident → Ident → List KeyArm → Env
 with_keys scene env name this arms =
     enter env (record { name = name.text; referent = Keys (key_for scene env this arms scene.this) (key_for scene env this arms scene.other) } ∷ [])
 
+-- ---- values that are built
+
+-- goes on with the case that is built, where there is one: the place of its variant, and its fields
+abbrev pub with_case : Option (ℕ × List Field) → (ℕ → List Field → Flow) → Flow
+with_case None next = Stuck
+with_case (Some case) next = next case.0 case.1
+
+-- the value of this variant and these fields
+abbrev pub built : ℕ → Env → List FieldValue → Flow
+built variant env values = Gives env (Built (record { variant = variant; fields = values }))
+
 -- ---- forms
 
 abbrev mutual
   -- the value of one form; the names in scope go in, and those that are left come out
   pub form_value : Scene → Env → Form → Flow
-  form_value scene env (Local name) = part_flow env (local_value scene (look_up env.names name.text))
+  form_value scene env (Local name) = local_flow scene env (look_up env.names name.text)
   form_value scene env (form.Known known) = Gives env (known_thing known)
   form_value scene env (Reference base field) = read_flow scene env base.text field.text
   form_value scene env (BracedCopy base field) = read_flow scene env base.text field.text
@@ -356,6 +400,12 @@ abbrev mutual
       else or_nothing env (held_value scene held))
   form_value scene env (KeyFunction name this ty arms) = Gives (with_keys scene env name this arms) Nothing
   form_value scene env (Block' shape forms) = leave env.names (row_value scene env forms Nothing)
+  form_value scene env (HashPart' shape inner) = go_on (inner_value scene env inner) hash_part
+  form_value scene env (form.Position position) = Gives env (Position position.place)
+  -- how the fields are written means nothing more than which keys they have
+  form_value scene env (Construct' name written shape inits) =
+      with_case (case_named scene.definition name) (λ variant fields. inits_value scene env inits fields (built variant))
+  form_value scene env (Pasted written) = pasted_flow scene env written
 
   -- the value of the one form that a box holds
   pub inner_value : Scene → Env → {m : _} → Row_of-Form m → Flow
@@ -384,10 +434,34 @@ abbrev mutual
       if fits scene.definition pattern value then within env (bindings_of scene.definition pattern value) (λ inner. row_value scene inner row Nothing)
       else arms_value scene env rest value
 
+  -- the initializers of fields, each of which has the key of its field and is evaluated for it, and the values with which it goes on
+  pub inits_value : Scene → Env → {m : _} → Row_of-Init m → List Field → (Env → List FieldValue → Flow) → Flow
+  inits_value scene env end_of-Init [] next = next env []
+  inits_value scene env end_of-Init (f ∷ fs) next = Stuck
+  inits_value scene env (more_of-Init key x rest) [] next = Stuck
+  inits_value scene env (more_of-Init key x rest) (f ∷ fs) next =
+      if has_key key f.ident
+      then go_on (form_value (for_field scene f) env x) (if_made (λ env value. inits_value scene env rest fs (λ env values. next env (value ∷ values))))
+      else Stuck
+
 -- the values of a list of arguments, one after the other, with which the call goes on
 abbrev pub args_list : Scene → Env → List Form → (Env → List Thing → Flow) → Flow
 args_list scene env [] next = next env []
 args_list scene env (x ∷ rest) next = go_on (form_value scene env x) (λ env thing. args_list scene env rest (λ env things. next env (thing ∷ things)))
+
+-- the values of a list of initializers, one for each field, with which it goes on
+abbrev pub inits_list : Scene → Env → List Init → List Field → (Env → List FieldValue → Flow) → Flow
+inits_list scene env [] [] next = next env []
+inits_list scene env [] (f ∷ fs) next = Stuck
+inits_list scene env (init ∷ rest) [] next = Stuck
+inits_list scene env (init ∷ rest) (f ∷ fs) next =
+    if has_key init.key f.ident
+    then go_on (form_value (for_field scene f) env init.value) (if_made (λ env value. inits_list scene env rest fs (λ env values. next env (value ∷ values))))
+    else Stuck
+
+-- the value that a list of initializers builds
+abbrev pub built_value : Scene → Env → List Init → ℕ → List Field → Flow
+built_value scene env inits variant fields = inits_list scene env inits fields (built variant)
 
 -- the forms of a list in order: the first return ends it, else the last form gives its value
 abbrev pub list_value : Scene → Env → Thing → List Form → Flow
@@ -420,9 +494,9 @@ abbrev pub outcome_of_thing : Thing → Outcome
 outcome_of_thing (Truth b) = OutcomeTruth b
 outcome_of_thing (Order o) = OutcomeOrder o
 outcome_of_thing (PartialOrder p) = OutcomePartialOrder p
-outcome_of_thing Nothing = OutcomeStuck
-outcome_of_thing (Part x) = OutcomeStuck
-outcome_of_thing (Number n) = OutcomeStuck
+outcome_of_thing (Built value) = OutcomeMade value
+outcome_of_thing (Made x) = OutcomeWhole x
+outcome_of_thing thing = OutcomeStuck
 
 -- the value that is given or returned
 abbrev pub outcome_of : Flow → Outcome
@@ -430,15 +504,34 @@ outcome_of (Gives env thing) = outcome_of_thing thing
 outcome_of (Returns env thing) = outcome_of_thing thing
 outcome_of Stuck = OutcomeStuck
 
--- `self`, and the first parameter
-abbrev pub first_bindings : List Word → List Binding
-first_bindings [] = record { name = codes "self"; referent = This } ∷ []
-first_bindings (param ∷ more) = record { name = codes "self"; referent = This } ∷ record { name = param.text; referent = Other } ∷ []
+-- what was fed to a hasher, whatever is given or returned
+abbrev pub parts_of : Flow → Outcome
+parts_of (Gives env thing) = OutcomeParts env.parts
+parts_of (Returns env thing) = OutcomeParts env.parts
+parts_of Stuck = OutcomeStuck
 
--- the names that are in scope as a body begins
+-- what a body of these parameters comes to: with two, a hasher and its type, it feeds the hasher
+abbrev pub ended : List Word → Flow → Outcome
+ended (state ∷ hasher ∷ []) flow = parts_of flow
+ended params flow = outcome_of flow
+
+-- what the parameters of a body stand for: a single one for the other value; of several, none has a value of its own
+abbrev pub param_referent : List Word → Referent
+param_referent (param ∷ []) = Other
+param_referent params = Inert
+
+-- these names, each of which stands for the same
+abbrev pub all_bound : Referent → List Word → List Binding
+all_bound referent names = map (λ (name : Word). record { name = name.text; referent = referent }) names
+
+-- `self`, and the parameters
+abbrev pub first_bindings : List Word → List Binding
+first_bindings params = record { name = codes "self"; referent = This } ∷ all_bound (param_referent params) params
+
+-- the names that are in scope as a body begins, when nothing was fed
 abbrev pub start : List Word → Env
-start params = record { names = first_bindings params }
+start params = record { names = first_bindings params; parts = [] }
 
 -- the value of a body
 abbrev pub value : Body → Scene → Outcome
-value body scene = outcome_of (list_value scene (start body.params) Nothing body.block)
+value body scene = ended body.params (list_value scene (start body.params) Nothing body.block)

@@ -1,36 +1,42 @@
 -- What items are printed as, spans aside: one equation for each form.
-use Rattle.std.specs.Prelude.{ℕ, Bool, true, false, List, [], ◌∷◌, ◌++◌, Option, Some, None, if◌then◌else◌, codes}
+use Rattle.std.specs.Prelude.{◌≡◌, ℕ, Bool, true, false, List, [], ◌∷◌, ◌++◌, Option, Some, None, codes}
 use Rattle.std.specs.List.{flat_map}
-use Rattle.std.specs.Str.{bytes_eq}
 use Rattle.std.specs.declared.cmp.Ordering.{Ordering}
 use Rattle.std.specs.declared.cmp.Ordering.TheVariants.{Less, Equal, Greater}
 use Rattle.std.proofs.Common.{refl}
 use Rattle.educe_tokens.specs.declared.word.Word.{Word}
 use Rattle.educe_tokens.specs.Lexes.{Lexeme}
 use Rattle.educe_tokens.specs.Text.{text_of}
+use Rattle.educe_tokens.proofs.Printable.{is_printable_template}
 use Rattle.educe_tree.specs.declared.data.FieldForm.{FieldForm}
 use Rattle.educe_tree.specs.declared.data.FieldForm.TheVariants.{Named, Unnamed, Unit}
 use Rattle.educe_tree.specs.declared.expr.Expr.{Expr}
 use Rattle.educe_tree.specs.declared.ident.Ident.{Ident}
+use Rattle.educe_tree.specs.declared.ty.Ty.{Ty}
+use Rattle.educe_bound.specs.declared.traits.Trait.{Trait}
+use Rattle.educe_bound.specs.declared.traits.Trait.TheVariants as trait
+use Rattle.educe_bound.specs.Predicates.{trait_path}
 use Rattle.educe_discriminants.specs.declared.discriminant_type.DiscriminantType.{DiscriminantType}
-use Rattle.educe_body.specs.declared.comparison.Comparison.{Comparison}
-use Rattle.educe_body.specs.declared.comparison.Comparison.TheVariants.{PartialEq, PartialOrd, Ord}
 use Rattle.educe_body.specs.declared.form.Known.{Known}
 use Rattle.educe_body.specs.declared.form.Known.TheVariants.{Truth, Order, PartialOrder}
-use Rattle.educe_body.specs.declared.form.Form.{Form, Local, Reference, BracedCopy, Key, Call', Not', IfReturn', Return', SomeOf', MatchOrdering', MatchValue', IfLet', KeyFunction, Block', Row_of-Form, end_of-Form, more_of-Form, Row_of-Arm, end_of-Arm, more_of-Arm, Held-Form-MatchOrdering-2, None', Some'}
+use Rattle.educe_body.specs.declared.form.Form.{Form, Local, Reference, BracedCopy, Key, Call', Not', IfReturn', Return', SomeOf', MatchOrdering', MatchValue', IfLet', KeyFunction, Block', HashPart', Construct', Pasted, Row_of-Form, end_of-Form, more_of-Form, Row_of-Arm, end_of-Arm, more_of-Arm, Row_of-Init, end_of-Init, more_of-Init, Held-Form-MatchOrdering-2, None', Some'}
 use Rattle.educe_body.specs.declared.form.Form as form
 use Rattle.educe_body.specs.declared.form.Arm.{Arm}
+use Rattle.educe_body.specs.declared.form.Init.{Init}
 use Rattle.educe_body.specs.declared.key_function.Constant.{Constant}
 use Rattle.educe_body.specs.declared.key_function.Distance.{Distance}
 use Rattle.educe_body.specs.declared.key_function.KeyArm.{KeyArm}
 use Rattle.educe_body.specs.declared.pattern.Pattern.{Pattern}
 use Rattle.educe_body.specs.declared.pattern.PatternField.{PatternField}
+use Rattle.educe_body.specs.declared.position.Position.{Position}
 use Rattle.educe_body.specs.declared.body.Function.{Function}
 use Rattle.educe_body.specs.declared.body.ImplItem.{ImplItem}
+use Rattle.educe_body.specs.declared.body.CheckItem.{CheckItem}
 use Rattle.educe_body.specs.declared.body.Item.{Item}
-use Rattle.educe_body.specs.declared.body.Item.TheVariants.{Impl}
-use Rattle.educe_body.specs.Headers.{params_printout, arguments_printout, where_printout}
-use Rattle.educe_body.specs.Printouts.{Printout, nothing, says, name, word, written, primitive, steps, ◌beside◌, each, in_round, in_curly}
+use Rattle.educe_body.specs.declared.body.Item.TheVariants.{Impl, New, FieldCheck}
+use Rattle.educe_body.specs.Headers.{in_angle, params_printout, arguments_printout, where_printout}
+use Rattle.educe_body.specs.Heads.{name_at, function_head}
+use Rattle.educe_body.specs.Printouts.{Printout, nothing, says, name, word, written, primitive, string, steps, place, ◌beside◌, each, in_round, in_square, in_curly}
 
 -- ---- forms
 
@@ -105,9 +111,13 @@ abbrev pub key_printout : Option Word → Printout
 key_printout None = nothing
 key_printout (Some key) = word key beside says (codes ":") refl
 
+-- `key : value ,`, or where the field has no name `value ,`
+abbrev pub keyed : Option Word → Printout → Printout
+keyed key value = key_printout key beside value beside says (codes ",") refl
+
 -- `key : name ,`, or where the field has no name `name ,`
 abbrev pub field_printout : PatternField → Printout
-field_printout field = key_printout field.key beside binding_printout field.name beside says (codes ",") refl
+field_printout field = keyed field.key (binding_printout field.name)
 
 -- the fields of a pattern, or `..`
 abbrev pub fields_printout : Bool → List PatternField → Printout
@@ -189,6 +199,19 @@ else_printout block = says (codes "else") refl beside block
 abbrev pub place_printout : Ident → Word → Printout
 place_printout base field = name base beside says (codes ".") refl beside word field
 
+-- `& 3usize`
+abbrev pub position_printout : Position → Printout
+position_printout position = says (codes "&") refl beside place position
+
+-- `Self`, or `Self :: V`
+abbrev pub self_printout : Option Ident → Printout
+self_printout None = says (codes "Self") refl
+self_printout (Some variant) = says (codes "Self ::") refl beside name variant
+
+-- a value that is built, of this form with these fields
+abbrev pub construct_printout : Option Ident → FieldForm → Printout → Printout
+construct_printout variant form inside = self_printout variant beside in_form form inside
+
 -- ---- forms that hold forms
 
 abbrev mutual
@@ -209,6 +232,10 @@ abbrev mutual
   form_printout (IfReturn' shape test) = says (codes "if") refl beside boxed test beside says (codes "{ return false ; }") refl
   form_printout (Return' shape inner) = says (codes "return") refl beside boxed inner beside says (codes ";") refl
   form_printout (Block' shape forms) = in_curly (in_a_row forms)
+  form_printout (HashPart' shape inner) = boxed inner beside says (codes ";") refl
+  form_printout (form.Position position) = position_printout position
+  form_printout (Construct' variant form shape inits) = construct_printout variant form (inits_in_a_row inits)
+  form_printout (Pasted tokens) = written tokens
 
   -- the one form that a box holds
   pub boxed : {m : _} → Row_of-Form m → Printout
@@ -235,6 +262,11 @@ abbrev mutual
   arms_in_a_row end_of-Arm = nothing
   arms_in_a_row (more_of-Arm pattern shape forms rest) = pattern_printout pattern beside says (codes "=>") refl beside in_curly (in_a_row forms) beside arms_in_a_row rest
 
+  -- `key : value ,` for each field
+  pub inits_in_a_row : {m : _} → Row_of-Init m → Printout
+  inits_in_a_row end_of-Init = nothing
+  inits_in_a_row (more_of-Init key value rest) = keyed key (form_printout value) beside inits_in_a_row rest
+
   -- forms with commas between
   pub arguments : {m : _} → Row_of-Form m → Printout
   arguments end_of-Form = nothing
@@ -253,71 +285,115 @@ arm_printout arm = pattern_printout arm.pattern beside says (codes "=>") refl be
 abbrev pub match_value_printout : Ident → List Arm → Printout
 match_value_printout value arms = says (codes "match") refl beside name value beside in_curly (each arm_printout arms)
 
+-- one field of a value that is built
+abbrev pub init_printout : Init → Printout
+init_printout init = keyed init.key (form_printout init.value)
+
 -- the tokens of one form
 abbrev pub form_lexemes : Form → List Lexeme
 form_lexemes form = (form_printout form).tokens
 
 -- ---- functions and items
 
--- the first of the names, where there is one
-abbrev pub first_name : List Word → Printout
-first_name [] = nothing
-first_name (param ∷ more) = word param
+-- forms in curly brackets
+abbrev pub block_printout : List Form → Printout
+block_printout block = in_curly (each form_printout block)
 
--- `fn eq ( & self , other : & Self ) -> :: core :: primitive :: bool`
-abbrev pub eq_head : List Word → Printout
-eq_head params =
-    says (codes "fn eq") refl beside in_round (says (codes "& self ,") refl beside first_name params beside says (codes ": & Self") refl)
-    beside says (codes "-> :: core :: primitive :: bool") refl
+-- a function of a trait: its head, and its forms in curly brackets
+abbrev pub function_printout : Trait → Function → Printout
+function_printout which f = function_head which f beside block_printout f.body.block
 
--- `fn partial_cmp ( & self , other : & Self , ) -> :: core :: option :: Option < :: core :: cmp :: Ordering >`
-abbrev pub partial_cmp_head : List Word → Printout
-partial_cmp_head params =
-    says (codes "fn partial_cmp") refl beside in_round (says (codes "& self ,") refl beside first_name params beside says (codes ": & Self ,") refl)
-    beside says (codes "-> :: core :: option :: Option < :: core :: cmp :: Ordering >") refl
+-- `" Returns the \"default value\" for a type."`
+abbrev pub documentation_spelling : List ℕ
+documentation_spelling = codes "\" Returns the \\\"default value\\\" for a type.\""
 
--- `fn cmp ( & self , other : & Self ) -> :: core :: cmp :: Ordering`
-abbrev pub cmp_head : List Word → Printout
-cmp_head params =
-    says (codes "fn cmp") refl beside in_round (says (codes "& self ,") refl beside first_name params beside says (codes ": & Self") refl)
-    beside says (codes "-> :: core :: cmp :: Ordering") refl
+-- the string that is spelled so
+abbrev pub documentation_text : Printout
+documentation_text = string documentation_spelling refl
 
--- a function of a name that the trait does not have has no parameters and no result
-abbrev pub other_head : Word → Printout
-other_head own = says (codes "fn") refl beside word own beside says (codes "( )") refl
+-- `# [ doc = text ]`
+abbrev pub documentation : Printout
+documentation = says (codes "#") refl beside in_square (says (codes "doc =") refl beside documentation_text)
 
--- the head of a function: that of the trait's function, if it has its name
-abbrev pub function_head : Comparison → Function → Printout
-function_head PartialEq f = if bytes_eq f.name.text (codes "eq") then eq_head f.body.params else other_head f.name
-function_head PartialOrd f = if bytes_eq f.name.text (codes "partial_cmp") then partial_cmp_head f.body.params else other_head f.name
-function_head Ord f = if bytes_eq f.name.text (codes "cmp") then cmp_head f.body.params else other_head f.name
+-- `pub fn new ( ) -> Self` behind its documentation
+abbrev pub constructor_head : Function → Printout
+constructor_head f = documentation beside says (codes "pub fn") refl beside word f.name beside says (codes "( ) -> Self") refl
 
--- a function: its head, and its forms in curly brackets
-abbrev pub function_printout : Comparison → Function → Printout
-function_printout which f = function_head which f beside in_curly (each form_printout f.body.block)
+-- a function that makes a default value: its head, and its forms in curly brackets
+abbrev pub constructor_printout : Function → Printout
+constructor_printout f = constructor_head f beside block_printout f.body.block
+
+-- the path of a trait may stand anywhere
+pub path_printable : (which : Trait) → is_printable_template (trait_path which) ≡ true
+path_printable trait.Debug = refl
+path_printable trait.Clone = refl
+path_printable trait.Copy = refl
+path_printable trait.PartialEq = refl
+path_printable trait.Eq = refl
+path_printable trait.PartialOrd = refl
+path_printable trait.Ord = refl
+path_printable trait.Hash = refl
+path_printable trait.Default = refl
 
 -- the path of a trait
-abbrev pub trait_path : Comparison → Printout
-trait_path PartialEq = says (codes ":: core :: cmp :: PartialEq") refl
-trait_path PartialOrd = says (codes ":: core :: cmp :: PartialOrd") refl
-trait_path Ord = says (codes ":: core :: cmp :: Ord") refl
+abbrev pub path_printout : Trait → Printout
+path_printout which = says (trait_path which) (path_printable which)
 
--- what stands before the type: the attributes, `impl` with the parameters, and the path of the trait
+-- the attributes, and `impl` with the parameters
+abbrev pub impl_start : ImplItem → Printout
+impl_start item = written item.attributes beside says (codes "impl") refl beside params_printout item.generics.params
+
+-- what stands before the type in the impl of a trait
 abbrev pub impl_head : ImplItem → Printout
-impl_head item =
-    written item.attributes beside says (codes "impl") refl beside params_printout item.generics.params beside trait_path item.which beside says (codes "for") refl
+impl_head item = impl_start item beside path_printout item.which beside says (codes "for") refl
 
 -- the type, with the names of the parameters, and the where clause
 abbrev pub impl_type : ImplItem → Printout
 impl_type item = name item.ident beside arguments_printout item.generics.params beside where_printout item.generics.predicates
 
--- an impl: its head, its type, and its functions in curly brackets
+-- the impl of a trait: its head, its type, and its functions in curly brackets
 abbrev pub impl_printout : ImplItem → Printout
 impl_printout item = impl_head item beside impl_type item beside in_curly (each (function_printout item.which) item.functions)
+
+-- an impl of no trait, with the functions that make default values
+abbrev pub inherent_printout : ImplItem → Printout
+inherent_printout item = impl_start item beside impl_type item beside in_curly (each constructor_printout item.functions)
+
+-- `INNER :: < Type > ( ) ;`
+abbrev pub check_call : List Word → Ty → Printout
+check_call names ty = name_at 1 names beside says (codes "::") refl beside in_angle (written ty.written) beside says (codes "( ) ;") refl
+
+-- `< T : ? Sized + :: core :: cmp :: Eq >`
+abbrev pub inner_parameter : List Word → Printout
+inner_parameter names = in_angle (name_at 2 names beside says (codes ": ? Sized + :: core :: cmp :: Eq") refl)
+
+-- `fn INNER < T : ? Sized + :: core :: cmp :: Eq > ( ) { }`
+abbrev pub inner_function : List Word → Printout
+inner_function names = says (codes "fn") refl beside name_at 1 names beside inner_parameter names beside says (codes "( ) { }") refl
+
+-- `fn OUTER G ( ) W`
+abbrev pub outer_head : CheckItem → Printout
+outer_head check =
+    says (codes "fn") refl beside name_at 0 check.names beside params_printout check.generics.params beside says (codes "( )") refl
+    beside where_printout check.generics.predicates
+
+-- the outer function: the inner one, and a call of it for each type
+abbrev pub outer_function : CheckItem → Printout
+outer_function check = outer_head check beside in_curly (inner_function check.names beside each (check_call check.names) check.types)
+
+-- `const _ : ( ) =` behind the attributes
+abbrev pub check_start : CheckItem → Printout
+check_start check = written check.attributes beside says (codes "const _ : ( ) =") refl
+
+-- `const _ : ( ) = { fn OUTER G ( ) W { fn INNER .. calls } } ;` behind the attributes
+abbrev pub check_printout : CheckItem → Printout
+check_printout check = check_start check beside in_curly (outer_function check) beside says (codes ";") refl
 
 -- one item
 abbrev pub item_printout : Item → Printout
 item_printout (Impl item) = impl_printout item
+item_printout (New item) = inherent_printout item
+item_printout (FieldCheck check) = check_printout check
 
 -- the tokens of one item
 abbrev pub item_lexemes : Item → List Lexeme

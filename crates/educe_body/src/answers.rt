@@ -16,6 +16,10 @@ pub enum Answer {
     PartialOrder(Option<Ordering>),
     /// The number of an expression.
     Number(i128),
+    /// What a value feeds to a hasher.
+    Part(i128),
+    /// A value that is made.
+    Made(FieldValue),
 }
 
 /// What a call of these arguments answers.
@@ -46,7 +50,7 @@ impl Row {
 pub type Rows = Seq<Row>;
 
 /// A table of answers. Where no row fits, `by_number` has the numbers of two values of one type
-/// compared, by a function that is built in.
+/// compared, or that of one value fed to a hasher, by a function that is built in.
 #[derive(Drop)]
 pub struct Answers {
     pub rows: Rows,
@@ -55,7 +59,8 @@ pub struct Answers {
 
 impl Answers {
     /// The answer of the first row with these three; without one, where the table answers by
-    /// number, the comparison of the numbers of two values of one type.
+    /// number, the comparison of the numbers of two values of one type, and what `Hash::hash` feeds of
+    /// one value, its number.
     pub fn answer(
         &self,
         callee: &Callee,
@@ -99,9 +104,15 @@ fn by_number(
                 Callee::Ne => Some(Answer::Truth(x.number != y.number)),
                 Callee::Cmp => Some(Answer::Order(x.number.cmp(&y.number))),
                 Callee::PartialCmp => Some(Answer::PartialOrder(Some(x.number.cmp(&y.number)))),
+                Callee::Hash => None,
+                Callee::Default(_) => None,
                 Callee::Written(_) => None,
             }
         }
+        (Some(x), None) => match callee {
+            Callee::Hash => Some(Answer::Part(x.number)),
+            _ => None,
+        },
         _ => None,
     }
 }

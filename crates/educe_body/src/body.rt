@@ -1,8 +1,8 @@
 //! Functions and the items that hold them.
-use crate::comparison::Comparison;
 use crate::form::Forms;
+use educe_bound::Trait;
 use educe_tokens::{Seq, Word, Written};
-use educe_tree::{Generics, Ident};
+use educe_tree::{Generics, Ident, Types};
 
 /// Names in their order.
 pub type Names = Seq<Word>;
@@ -29,17 +29,31 @@ pub type Functions = Seq<Function>;
 /// Implementations).
 #[derive(Drop)]
 pub struct ImplItem {
-    pub which: Comparison,
+    pub which: Trait,
     pub attributes: Written,
     pub generics: Generics,
     pub ident: Ident,
     pub functions: Functions,
 }
 
+/// The check that the types of fields implement `Eq`, behind its attributes: a constant whose
+/// function, with these parameters, calls an inner one for each of the types. The names are those of the
+/// function, of the inner one, and of the parameter of that.
+#[derive(Drop)]
+pub struct CheckItem {
+    pub attributes: Written,
+    pub generics: Generics,
+    pub types: Types,
+    pub names: Names,
+}
+
 /// An item that is printed.
 #[derive(Drop)]
 pub enum Item {
     Impl(ImplItem),
+    /// An impl with no trait, which holds the function `new`.
+    New(ImplItem),
+    FieldCheck(CheckItem),
 }
 
 /// Items in the order in which they are printed.

@@ -21,36 +21,44 @@ fn segment(alloc: Global, name: &str) -> Result<Segment, AllocError>
     })
 }
 
-/// The segments of a function of a comparison trait of the core library.
-fn comparison_segments(alloc: Global, which: &str, function: &str) -> Result<Segments, AllocError>
+/// The segments of a function of a trait in a module of the core library.
+fn trait_segments(
+    alloc: Global,
+    module_name: &str,
+    which: &str,
+    function: &str,
+) -> Result<Segments, AllocError>
+    requires module_name { IsTrue (is_ascii_name module_name.now) }
     requires which { IsTrue (is_ascii_name which.now) }
     requires function { IsTrue (is_ascii_name function.now) }
-    ensures { let names = codes "core" ∷ codes "cmp" ∷ which.now ∷ function.now ∷ [] in
+    ensures { let names = codes "core" ∷ module_name.now ∷ which.now ∷ function.now ∷ [] in
         IfOk result (λ segments. map said_by segments ≡ map name_alone names) }
 {
     let mut segments = Seq::new(alloc);
     segments.push(segment(alloc, "core")?)?;
-    segments.push(segment(alloc, "cmp")?)?;
+    segments.push(segment(alloc, module_name)?)?;
     segments.push(segment(alloc, which)?)?;
     segments.push(segment(alloc, function)?)?;
     Ok(segments)
 }
 
-/// The path of a function of a comparison trait, as this template writes it.
-fn comparison_path(
+/// The path of a function of a trait, as this template writes it.
+fn trait_path(
     alloc: Global,
+    module_name: &str,
     which: &str,
     function: &str,
     text: &str,
 ) -> Result<ExprPath, AllocError>
+    requires module_name { IsTrue (is_ascii_name module_name.now) }
     requires which { IsTrue (is_ascii_name which.now) }
     requires function { IsTrue (is_ascii_name function.now) }
     requires template { IsTrue (is_template text.now) }
     requires written { IsTrue (is_written (quoted text.now)) }
-    ensures { let names = codes "core" ∷ codes "cmp" ∷ which.now ∷ function.now ∷ [] in
+    ensures { let names = codes "core" ∷ module_name.now ∷ which.now ∷ function.now ∷ [] in
         IfOk result (IsMade (quoted text.now) names) }
 {
-    let segments = comparison_segments(alloc, which, function)?;
+    let segments = trait_segments(alloc, module_name, which, function)?;
     let written = Written::from_template(alloc, text)?;
     Ok(ExprPath {
         self_type: None,
@@ -69,19 +77,28 @@ pub fn built_in_path(alloc: Global, which: BuiltIn) -> Result<ExprPath, AllocErr
 {
     match which {
         BuiltIn::Ne => {
-            comparison_path(
+            trait_path(
                 alloc,
+                "cmp",
                 "PartialEq",
                 "ne",
                 ":: core :: cmp :: PartialEq :: ne",
             )
         }
-        BuiltIn::Cmp => comparison_path(alloc, "Ord", "cmp", ":: core :: cmp :: Ord :: cmp"),
-        BuiltIn::PartialCmp => comparison_path(
+        BuiltIn::Cmp => trait_path(alloc, "cmp", "Ord", "cmp", ":: core :: cmp :: Ord :: cmp"),
+        BuiltIn::PartialCmp => trait_path(
             alloc,
+            "cmp",
             "PartialOrd",
             "partial_cmp",
             ":: core :: cmp :: PartialOrd :: partial_cmp",
+        ),
+        BuiltIn::Hash => trait_path(
+            alloc,
+            "hash",
+            "Hash",
+            "hash",
+            ":: core :: hash :: Hash :: hash",
         ),
     }
 }

@@ -21,6 +21,8 @@ pub enum BuiltIn {
     Cmp,
     /// `PartialOrd::partial_cmp`
     PartialCmp,
+    /// `Hash::hash`
+    Hash,
 }
 
 /// What is called.
@@ -32,6 +34,10 @@ pub enum Callee {
     Cmp,
     /// `PartialOrd::partial_cmp`
     PartialCmp,
+    /// `Hash::hash`
+    Hash,
+    /// `Default::default` of the type at this place, counted over all fields of the definition.
+    Default(u32),
     /// What a user's text names: the function of a path, or the number of an expression. The text is
     /// that of its tokens with one space between any two, but none behind a joint punct, as in
     /// `a :: b`.
@@ -39,13 +45,14 @@ pub enum Callee {
 }
 
 /// The built-in functions, each behind the words of its path, as in `::core::cmp::PartialEq::ne`.
-const BUILT_IN: [([&str; 4], BuiltIn); 3] = [
+const BUILT_IN: [([&str; 4], BuiltIn); 4] = [
     (["core", "cmp", "PartialEq", "ne"], BuiltIn::Ne),
     (["core", "cmp", "Ord", "cmp"], BuiltIn::Cmp),
     (
         ["core", "cmp", "PartialOrd", "partial_cmp"],
         BuiltIn::PartialCmp,
     ),
+    (["core", "hash", "Hash", "hash"], BuiltIn::Hash),
 ];
 
 impl BuiltIn {
@@ -57,6 +64,7 @@ impl BuiltIn {
             BuiltIn::Ne => Callee::Ne,
             BuiltIn::Cmp => Callee::Cmp,
             BuiltIn::PartialCmp => Callee::PartialCmp,
+            BuiltIn::Hash => Callee::Hash,
         }
     }
 }
@@ -70,6 +78,8 @@ impl Callee {
             Callee::Ne => Ok(Callee::Ne),
             Callee::Cmp => Ok(Callee::Cmp),
             Callee::PartialCmp => Ok(Callee::PartialCmp),
+            Callee::Hash => Ok(Callee::Hash),
+            Callee::Default(place) => Ok(Callee::Default(*place)),
             Callee::Written(text) => Ok(Callee::Written(text.duplicate(alloc)?)),
         }
     }
@@ -82,6 +92,8 @@ impl Callee {
             (Callee::Ne, Callee::Ne) => true,
             (Callee::Cmp, Callee::Cmp) => true,
             (Callee::PartialCmp, Callee::PartialCmp) => true,
+            (Callee::Hash, Callee::Hash) => true,
+            (Callee::Default(own), Callee::Default(place)) => own == place,
             (Callee::Written(own), Callee::Written(text)) => is_text(own, text.as_str()),
             _ => false,
         }

@@ -1,11 +1,11 @@
 //! What a body is evaluated over: values, and names that stand for them.
 ghost use Rattle.std.specs.Prelude.{◌≡◌, [], ◌∷◌, ◌++◌, length, take, OnOk, IfOk};
-ghost use Rattle.educe_body.specs.Meaning.{start};
+ghost use Rattle.educe_body.specs.Meaning.{start, all_bound, param_referent};
 
 use crate::body::Names;
-use crate::value::{FieldValue, Value};
+use crate::value::{FieldValue, Parts, Value};
 use educe_discriminants::Number;
-use educe_tokens::Spelling;
+use educe_tokens::{Seq, Spelling, Word};
 use educe_tree::DeriveInput;
 use std::alloc::{AllocError, Global};
 use std::marker::Model;
@@ -29,7 +29,7 @@ pub enum Referent {
     Bound(FieldValue),
     /// A key function, by its numbers for the value of `self` and for that of the parameter.
     Keys(Option<Number>, Option<Number>),
-    /// What no form reads: the parameter of a key function.
+    /// What has no value of its own: the parameter of a key function, a hasher and its type.
     Inert,
 }
 
@@ -95,15 +95,16 @@ impl Bindings {
     }
 }
 
-/// What changes as forms are evaluated: the names in scope.
+/// What changes as forms are evaluated: the names in scope, and what was fed to a hasher.
 #[derive(Drop)]
 pub struct Env {
     pub names: Bindings,
+    pub parts: Parts,
 }
 
 impl Env {
-    /// The names that are in scope as a body begins: `self`, and the first parameter where there is
-    /// one.
+    /// The names that are in scope as a body begins: `self`, and the parameters. A single parameter
+    /// stands for the other value; of several, none has a value of its own.
     pub fn new(alloc: Global, params: &Names) -> Result<Env, AllocError>
         ensures { IfOk result (λ env. env ≡ start params.now) }
     {
@@ -112,13 +113,38 @@ impl Env {
             name: Spelling::from_str(alloc, "self")?,
             referent: Referent::This,
         })?;
-        let Some(param) = params.get(0) else {
-            return Ok(Env { names });
-        };
-        names.push(Binding {
-            name: param.text.duplicate(alloc)?,
-            referent: Referent::Other,
-        })?;
-        Ok(Env { names })
+        let params = params.as_slice();
+        let names = bind_all(alloc, names, param_referent(params), params)?;
+        let parts = Seq::new(alloc);
+        Ok(Env { names, parts })
     }
+}
+
+/// What the parameters of a body stand for.
+fn param_referent(params: &[Word]) -> Referent
+    ensures { result ≡ param_referent params.now }
+{
+    match params {
+        [_] => Referent::Other,
+        _ => Referent::Inert,
+    }
+}
+
+/// Adds names that all stand for the same.
+fn bind_all(
+    alloc: Global,
+    outer: Bindings,
+    referent: Referent,
+    names: &[Word],
+) -> Result<Bindings, AllocError>
+    ensures { IfOk result (λ bound. bound ≡ outer ++ all_bound referent names.now) }
+{
+    let mut bound = outer;
+    for name in names {
+        bound.push(Binding {
+            name: name.text.duplicate(alloc)?,
+            referent,
+        })?;
+    }
+    Ok(bound)
 }

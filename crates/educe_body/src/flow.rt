@@ -1,15 +1,17 @@
 //! How the evaluation of a form ends, and what goes on behind it.
-ghost use Rattle.std.specs.Prelude.{◌≡◌, length};
+ghost use Rattle.std.specs.Prelude.{◌≡◌, ◌∷◌, [], ◌++◌, length, IfOk};
 ghost use Rattle.educe_body.specs.Meaning as meaning;
 
 use crate::environment::Env;
 use crate::form::Known;
-use crate::value::FieldValue;
+use crate::value::{FieldValue, Value};
 use educe_discriminants::Number;
+use educe_tokens::Seq;
+use std::alloc::AllocError;
 use std::cmp::Ordering;
 
 /// What a form gives.
-#[derive(Clone, Copy)]
+#[derive(Drop)]
 pub enum Thing {
     Nothing,
     Truth(bool),
@@ -18,9 +20,19 @@ pub enum Thing {
     Part(FieldValue),
     /// A discriminant.
     Number(Number),
+    /// The place of a variant.
+    Position(usize),
+    /// What a call feeds to a hasher.
+    Hashed(i128),
+    /// A value that a call made.
+    Made(FieldValue),
+    /// A value that is built of its fields.
+    Built(Value),
+    /// What does not count among the arguments of a call: a hasher.
+    Inert,
 }
 
-/// How the evaluation of a form ends, and the names that are in scope then.
+/// How the evaluation of a form ends, and what has changed then.
 #[derive(Drop)]
 pub enum Flow {
     Gives(Env, Thing),
@@ -130,6 +142,23 @@ pub(crate) fn some_of(inner: Flow) -> Flow
     }
 }
 
+/// What a call feeds to a hasher is added to what was fed.
+pub(crate) fn hash_part(inner: Flow) -> Result<Flow, AllocError>
+    ensures { IfOk result (λ flow. flow ≡ meaning.go_on inner meaning.hash_part) }
+{
+    match inner {
+        Flow::Gives(mut env, thing) => match thing {
+            Thing::Hashed(number) => {
+                env.parts.push(number)?;
+                Ok(Flow::Gives(env, Thing::Nothing))
+            }
+            _ => Ok(Flow::Stuck),
+        },
+        Flow::Returns(env, thing) => Ok(Flow::Returns(env, thing)),
+        Flow::Stuck => Ok(Flow::Stuck),
+    }
+}
+
 /// The arm of an order: `Equal` goes on, the others return.
 fn order_arm(env: Env, greater: Ordering, less: Ordering, order: Ordering) -> Flow
     ensures { result ≡ meaning.order_arm env greater less order }
@@ -177,4 +206,35 @@ pub(crate) fn order_thing(partial: bool, order: Ordering) -> Thing
     } else {
         Thing::Order(order)
     }
+}
+
+/// The value that a call made.
+pub(crate) fn made_value(thing: Thing) -> Option<FieldValue>
+    ensures { result ≡ meaning.made_value thing }
+{
+    match thing {
+        Thing::Made(x) => Some(x),
+        _ => None,
+    }
+}
+
+/// Whether an argument counts.
+fn counts(thing: &Thing) -> bool
+    ensures { result ≡ meaning.counts thing.now }
+{
+    match thing {
+        Thing::Inert => false,
+        _ => true,
+    }
+}
+
+/// Adds an argument, if it counts.
+pub(crate) fn add_counted(arguments: Seq<Thing>, thing: Thing) -> Result<Seq<Thing>, AllocError>
+    ensures { IfOk result (λ all. all ≡ arguments ++ meaning.counted (thing ∷ [])) }
+{
+    let mut arguments = arguments;
+    if counts(&thing) {
+        arguments.push(thing)?;
+    }
+    Ok(arguments)
 }

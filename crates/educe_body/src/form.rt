@@ -1,10 +1,11 @@
 //! The forms that bodies are made of.
 use crate::key_function::KeyArms;
 use crate::pattern::Pattern;
+use crate::position::Position;
 use crate::shared::Shared;
 use educe_discriminants::DiscriminantType;
-use educe_tokens::{Boxed, Seq, Word};
-use educe_tree::{ExprPath, Ident};
+use educe_tokens::{Boxed, Seq, Word, Written};
+use educe_tree::{ExprPath, FieldForm, Ident};
 use std::cmp::Ordering;
 
 /// An answer that a body names itself.
@@ -55,6 +56,15 @@ pub enum Form {
     KeyFunction(Ident, Ident, DiscriminantType, KeyArms),
     /// `{ forms }`
     Block(Forms),
+    /// `x;`: a call that feeds a hasher.
+    HashPart(Boxed<Form>),
+    /// `&3usize`: the place of a variant.
+    Position(Position),
+    /// `Self` or `Self::V` with its fields: `{ a: v, }`, `( v, )`, or none (Rust Reference, Struct
+    /// expressions).
+    Construct(Option<Ident>, FieldForm, Inits),
+    /// The tokens of a default value, as they were written.
+    Pasted(Written),
 }
 
 /// Forms in their order.
@@ -70,3 +80,14 @@ pub struct Arm {
 
 /// Arms in their order.
 pub type Arms = Seq<Arm>;
+
+/// A field of a value that is built: `key: value,`, or where the field has no name `value,`.
+#[cycle(form)]
+#[derive(Drop)]
+pub struct Init {
+    pub key: Option<Word>,
+    pub value: Form,
+}
+
+/// Fields of a value that is built, in their order.
+pub type Inits = Seq<Init>;

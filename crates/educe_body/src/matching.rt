@@ -33,7 +33,7 @@ pub(crate) fn fits(ast: &DeriveInput, pattern: &Pattern, value: &Value) -> bool
 }
 
 /// Whether the key is the name of a field, and none where the field has none.
-fn has_key(key: &Option<Word>, name: &Option<Ident>) -> bool
+pub(crate) fn has_key(key: &Option<Word>, name: &Option<Ident>) -> bool
     ensures { result ≡ spec.has_key key.now name.now }
 {
     match (key, name) {

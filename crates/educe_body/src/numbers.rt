@@ -6,11 +6,12 @@ ghost use Rattle.educe_body.specs.Meaning as meaning;
 
 use crate::answers::{Answer, Answers};
 use crate::callee::Callee;
-use crate::environment::{Binding, Env, Referent, Scope};
+use crate::environment::{Binding, Env, Referent};
 use crate::key_function::{Constant, Distance, KeyArm};
 use crate::matching::fits;
 use crate::pattern::Pattern;
 use crate::scoping::names_bound;
+use crate::stage::Stage;
 use crate::value::Value;
 use educe_discriminants::{Number, literal_number};
 use educe_tokens::Spelling;
@@ -127,17 +128,17 @@ fn arms_number(
 /// The same, of a value that may be missing.
 fn number_for(
     alloc: Global,
-    scope: &Scope,
-    answers: &Answers,
+    stage: &Stage,
     names: &[Binding],
     arms: &[KeyArm],
     value: Option<&Value>,
 ) -> Result<Option<Number>, AllocError>
-    ensures { let number_of = spec.arms_number scope.now.ast.now answers.now names.now arms.now in
+    ensures { let here = meaning.scene_at stage.now in
+        let number_of = spec.arms_number here.definition here.answers names.now arms.now in
         IfOk result (λ number. number ≡ option_and_then number_of (option_copied value.entry)) }
 {
     match value {
-        Some(value) => arms_number(alloc, scope.ast, answers, names, arms, value),
+        Some(value) => arms_number(alloc, stage.scope.ast, stage.answers, names, arms, value),
         None => Ok(None),
     }
 }
@@ -145,32 +146,31 @@ fn number_for(
 /// What a key function stands for: its numbers for both values, with its parameter in scope.
 fn keys_of(
     alloc: Global,
-    scope: &Scope,
-    answers: &Answers,
+    stage: &Stage,
     names: &[Binding],
     arms: &[KeyArm],
 ) -> Result<Referent, AllocError>
-    ensures { let number_of = spec.arms_number scope.now.ast.now answers.now names.now arms.now in
-        let this = option_and_then number_of (option_copied scope.now.this) in
-        let other = option_and_then number_of (option_copied scope.now.other) in
+    ensures { let here = meaning.scene_at stage.now in
+        let number_of = spec.arms_number here.definition here.answers names.now arms.now in
+        let this = option_and_then number_of here.this in
+        let other = option_and_then number_of here.other in
         IfOk result (λ referent. referent ≡ Referent.Keys this other) }
 {
-    let this = number_for(alloc, scope, answers, names, arms, scope.this)?;
-    let other = number_for(alloc, scope, answers, names, arms, scope.other)?;
+    let this = number_for(alloc, stage, names, arms, stage.scope.this)?;
+    let other = number_for(alloc, stage, names, arms, stage.scope.other)?;
     Ok(Referent::Keys(this, other))
 }
 
 /// Adds a key function to the names in scope.
 pub(crate) fn bind_keys(
     alloc: Global,
-    scope: &Scope,
-    answers: &Answers,
+    stage: &Stage,
     name: &Ident,
     this: &Ident,
     arms: &[KeyArm],
     env: Env,
 ) -> Result<Env, AllocError>
-    ensures { let here = meaning.scene scope.now answers.now in
+    ensures { let here = meaning.scene_at stage.now in
         IfOk result (λ after. after ≡ meaning.with_keys here env name.now this.now arms.now) }
 {
     let mut env = env;
@@ -179,7 +179,7 @@ pub(crate) fn bind_keys(
         name: this.text.duplicate(alloc)?,
         referent: Referent::Inert,
     })?;
-    let referent = keys_of(alloc, scope, answers, env.names.as_slice(), arms)?;
+    let referent = keys_of(alloc, stage, env.names.as_slice(), arms)?;
     env.names.truncate(count);
     env.names.push(Binding {
         name: name.text.duplicate(alloc)?,

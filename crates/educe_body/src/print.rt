@@ -5,14 +5,15 @@ ghost use Rattle.educe_tokens.specs.Appends.{Appends, HasPrefix};
 ghost use Rattle.educe_tokens.proofs.Printable.{well_formed_from, ends_apart_from, lexes_back_from};
 ghost use Rattle.educe_body.specs.Printing.{comma_before, separated};
 ghost use Rattle.educe_body.specs.Printouts.{Prints, each, in_curly};
-ghost use Rattle.educe_body.specs.Tokens.{in_some, block_arms, known_printout, place_printout, form_printout, form_lexemes, arm_printout, equal_arm, match_value_printout, if_let_head, if_let_printout, else_printout};
+ghost use Rattle.educe_body.specs.Tokens.{in_some, block_arms, known_printout, place_printout, position_printout, self_printout, construct_printout, in_form, form_printout, form_lexemes, arm_printout, init_printout, equal_arm, match_value_printout, if_let_head, if_let_printout, else_printout};
 
-use crate::form::{Arm, Form, Forms, Known};
+use crate::form::{Arm, Form, Forms, Init, Inits, Known};
 use crate::pattern::Pattern;
+use crate::position::Position;
 use crate::print_orders::{push_arm_block, push_order, push_other_arms, push_some_order};
-use crate::print_patterns::{push_key_function, push_pattern};
-use educe_tokens::{TokenStream, Word, push_word, quote};
-use educe_tree::{ExprPath, Ident, ToTokens};
+use crate::print_patterns::{push_count, push_key, push_key_function, push_pattern};
+use educe_tokens::{TokenStream, Word, append_written, push_word, quote};
+use educe_tree::{ExprPath, FieldForm, Ident, ToTokens};
 use std::alloc::{AllocError, Global};
 use std::cmp::Ordering;
 
@@ -95,8 +96,30 @@ impl ToTokens for Form {
                 push_key_function(alloc, tokens, function, this, *ty, arms.as_slice())
             }
             Form::Block(forms) => push_block(alloc, tokens, forms),
+            Form::HashPart(inner) => {
+                inner.get().to_tokens(alloc, tokens)?;
+                quote(alloc, tokens, ";")
+            }
+            Form::Position(position) => push_position(alloc, tokens, *position),
+            Form::Construct(variant, form, inits) => {
+                push_construct(alloc, tokens, variant, *form, inits)
+            }
+            Form::Pasted(written) => append_written(alloc, tokens, written),
         }
     }
+}
+
+/// Appends the place of a variant.
+fn push_position(
+    alloc: Global,
+    tokens: &mut TokenStream,
+    position: Position,
+) -> Result<(), AllocError>
+    ensures ok { OnOk result (Prints (position_printout position) tokens.old tokens.new) }
+    ensures prefix { HasPrefix tokens.old tokens.new }
+{
+    quote(alloc, tokens, "&")?;
+    push_count(alloc, tokens, position.place)
 }
 
 /// Appends the name of a value and the key of a field of it.
@@ -307,6 +330,91 @@ fn push_call(
     quote(alloc, tokens, "(")?;
     push_arguments(alloc, tokens, arguments)?;
     quote(alloc, tokens, ")")
+}
+
+/// Appends `Self`, or the path of a variant.
+fn push_self(
+    alloc: Global,
+    tokens: &mut TokenStream,
+    variant: &Option<Ident>,
+) -> Result<(), AllocError>
+    ensures ok { OnOk result (Prints (self_printout variant.now) tokens.old tokens.new) }
+    ensures prefix { HasPrefix tokens.old tokens.new }
+{
+    match variant {
+        Some(variant) => {
+            quote(alloc, tokens, "Self ::")?;
+            variant.to_tokens(alloc, tokens)
+        }
+        None => quote(alloc, tokens, "Self"),
+    }
+}
+
+/// Appends a value that is built.
+#[cycle(print)]
+fn push_construct(
+    alloc: Global,
+    tokens: &mut TokenStream,
+    variant: &Option<Ident>,
+    form: FieldForm,
+    inits: &Inits,
+) -> Result<(), AllocError>
+    ensures ok { let found = construct_printout variant.now form (each init_printout inits.now) in
+        OnOk result (Prints found tokens.old tokens.new) }
+    ensures prefix { HasPrefix tokens.old tokens.new }
+{
+    push_self(alloc, tokens, variant)?;
+    push_inits_in_form(alloc, tokens, form, inits)
+}
+
+/// Appends the fields of a value that is built in the brackets of its form.
+#[cycle(print)]
+fn push_inits_in_form(
+    alloc: Global,
+    tokens: &mut TokenStream,
+    form: FieldForm,
+    inits: &Inits,
+) -> Result<(), AllocError>
+    ensures ok { let found = in_form form (each init_printout inits.now) in
+        OnOk result (Prints found tokens.old tokens.new) }
+    ensures prefix { HasPrefix tokens.old tokens.new }
+{
+    match form {
+        FieldForm::Named => {
+            quote(alloc, tokens, "{")?;
+            push_inits(alloc, tokens, inits)?;
+            quote(alloc, tokens, "}")
+        }
+        FieldForm::Unnamed => {
+            quote(alloc, tokens, "(")?;
+            push_inits(alloc, tokens, inits)?;
+            quote(alloc, tokens, ")")
+        }
+        FieldForm::Unit => Ok(()),
+    }
+}
+
+/// Appends the fields of a value that is built behind one another.
+#[cycle(print)]
+fn push_inits(alloc: Global, tokens: &mut TokenStream, inits: &Inits) -> Result<(), AllocError>
+    ensures ok { OnOk result (Prints (each init_printout inits.now) tokens.old tokens.new) }
+    ensures prefix { HasPrefix tokens.old tokens.new }
+{
+    for init in inits.as_slice() {
+        push_init(alloc, tokens, init)?;
+    }
+    Ok(())
+}
+
+/// Appends a field of a value that is built, with a comma behind it.
+#[cycle(print)]
+fn push_init(alloc: Global, tokens: &mut TokenStream, init: &Init) -> Result<(), AllocError>
+    ensures ok { OnOk result (Prints (init_printout init.now) tokens.old tokens.new) }
+    ensures prefix { HasPrefix tokens.old tokens.new }
+{
+    push_key(alloc, tokens, &init.key)?;
+    init.value.to_tokens(alloc, tokens)?;
+    quote(alloc, tokens, ",")
 }
 
 /// Appends a form in `Some`.

@@ -1,8 +1,8 @@
 //! The tokens of patterns and of key functions.
-ghost use Rattle.std.specs.Prelude.{◌≡◌, IfOk, OnOk};
-ghost use Rattle.educe_tokens.specs.Appends.{HasPrefix};
+ghost use Rattle.std.specs.Prelude.{◌≡◌, [], ◌∷◌, IfOk, OnOk};
+ghost use Rattle.educe_tokens.specs.Appends.{Appends, HasPrefix};
 ghost use Rattle.educe_body.specs.Printouts.{Prints, each, in_curly};
-ghost use Rattle.educe_body.specs.Suffixed.{steps_text};
+ghost use Rattle.educe_body.specs.Suffixed.{steps_text, steps_lexeme};
 ghost use Rattle.educe_body.specs.Tokens.{binding_printout, key_printout, field_printout, fields_printout, in_form, pattern_printout, typed_base, base_printout, typed_steps, sum_printout, constant_inside, constant_printout, key_arm_printout, match_printout, signature_printout, closure_printout, key_function_printout};
 
 use crate::key_function::{Constant, Distance, KeyArm};
@@ -28,7 +28,11 @@ fn push_binding(
 }
 
 /// Appends the key of a field and a colon, if it has a key.
-fn push_key(alloc: Global, tokens: &mut TokenStream, key: &Option<Word>) -> Result<(), AllocError>
+pub(crate) fn push_key(
+    alloc: Global,
+    tokens: &mut TokenStream,
+    key: &Option<Word>,
+) -> Result<(), AllocError>
     ensures ok { OnOk result (Prints (key_printout key.now) tokens.old tokens.new) }
     ensures prefix { HasPrefix tokens.old tokens.new }
 {
@@ -132,6 +136,19 @@ fn steps_word(alloc: Global, steps: usize) -> Result<Word, AllocError>
     Ok(Word::new(text))
 }
 
+/// Appends a number, as an integer of the type `usize`.
+pub(crate) fn push_count(
+    alloc: Global,
+    tokens: &mut TokenStream,
+    number: usize,
+) -> Result<(), AllocError>
+    ensures ok { OnOk result (Appends (steps_lexeme number ∷ []) tokens.old tokens.new) }
+    ensures prefix { HasPrefix tokens.old tokens.new }
+{
+    let word = steps_word(alloc, number)?;
+    push_word(alloc, tokens, &word)
+}
+
 /// Appends the steps of a distance, in its type.
 fn push_steps(
     alloc: Global,
@@ -141,8 +158,7 @@ fn push_steps(
     ensures ok { OnOk result (Prints (typed_steps distance.now) tokens.old tokens.new) }
     ensures prefix { HasPrefix tokens.old tokens.new }
 {
-    let word = steps_word(alloc, distance.steps)?;
-    push_word(alloc, tokens, &word)?;
+    push_count(alloc, tokens, distance.steps)?;
     quote(alloc, tokens, "as")?;
     distance.ty.to_tokens(alloc, tokens)
 }

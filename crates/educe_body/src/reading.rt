@@ -2,10 +2,12 @@
 ghost use Rattle.std.specs.Prelude.{◌≡◌};
 ghost use Rattle.std.specs.Option.{option_copied};
 ghost use Rattle.educe_body.specs.Keys.{keys_from};
-ghost use Rattle.educe_body.specs.Meaning.{scene, look_up, reference_value, local_value, value_named, number_for, key_of, field_of, part_of, whole_value};
+ghost use Rattle.educe_body.specs.Meaning.{scene_at, look_up, reference_value, local_flow, value_named, number_for, key_of, field_of, part_of, whole_value};
 
-use crate::environment::{Binding, Referent, Scope};
+use crate::environment::{Binding, Env, Referent};
+use crate::flow::{Flow, Thing, part_flow};
 use crate::keys::{has_key, index_of};
+use crate::stage::Stage;
 use crate::text::is_text;
 use crate::value::{FieldValue, Value};
 use educe_discriminants::Number;
@@ -25,28 +27,27 @@ pub(crate) fn find(names: &[Binding], name: &Spelling) -> Option<Referent>
     found
 }
 
-/// The value that a name stands for, as a table is shown it.
-pub(crate) fn local(scope: &Scope, found: Option<Referent>) -> Option<FieldValue>
-    ensures { (answers : _) → result ≡ local_value (scene scope.now answers) found }
+/// What a name gives, by what it stands for: a value, as a table is shown it, or what does not count.
+pub(crate) fn local(stage: &Stage, env: Env, found: Option<Referent>) -> Flow
+    ensures { result ≡ local_flow (scene_at stage.now) env found }
 {
     match found {
-        None => None,
-        Some(Referent::This) => whole(scope.this),
-        Some(Referent::Other) => whole(scope.other),
-        Some(Referent::Bound(value)) => Some(value),
-        Some(Referent::Keys(_, _)) => None,
-        Some(Referent::Inert) => None,
+        None => Flow::Stuck,
+        Some(Referent::This) => part_flow(env, whole(stage.scope.this)),
+        Some(Referent::Other) => part_flow(env, whole(stage.scope.other)),
+        Some(Referent::Bound(value)) => Flow::Gives(env, Thing::Part(value)),
+        Some(Referent::Keys(_, _)) => Flow::Stuck,
+        Some(Referent::Inert) => Flow::Gives(env, Thing::Inert),
     }
 }
 
 /// The whole value that a name stands for.
-pub(crate) fn named<'a>(scope: &Scope<'a>, names: &[Binding], name: &Spelling) -> Option<&'a Value>
-    ensures { (answers : _) →
-        option_copied result ≡ value_named (scene scope.now answers) (look_up names.now name.now) }
+pub(crate) fn named<'a>(stage: &Stage<'a>, names: &[Binding], name: &Spelling) -> Option<&'a Value>
+    ensures { option_copied result ≡ value_named (scene_at stage.now) (look_up names.now name.now) }
 {
     match find(names, name) {
-        Some(Referent::This) => scope.this,
-        Some(Referent::Other) => scope.other,
+        Some(Referent::This) => stage.scope.this,
+        Some(Referent::Other) => stage.scope.other,
         _ => None,
     }
 }
@@ -90,26 +91,26 @@ fn whole(value: Option<&Value>) -> Option<FieldValue>
 }
 
 /// The field of the value that a base stands for.
-pub(crate) fn reference(scope: &Scope, base: Option<Referent>, key: &Spelling) -> Option<FieldValue>
-    ensures { (answers : _) → result ≡ reference_value (scene scope.now answers) base key.now }
+pub(crate) fn reference(stage: &Stage, base: Option<Referent>, key: &Spelling) -> Option<FieldValue>
+    ensures { result ≡ reference_value (scene_at stage.now) base key.now }
 {
     match base {
         None => None,
-        Some(Referent::This) => field(scope, scope.this, key),
-        Some(Referent::Other) => field(scope, scope.other, key),
+        Some(Referent::This) => field(stage, stage.scope.this, key),
+        Some(Referent::Other) => field(stage, stage.scope.other, key),
         _ => None,
     }
 }
 
 /// The value of a field of a value, where there is one. That of an enum has none that can be read
 /// so.
-fn field(scope: &Scope, value: Option<&Value>, key: &Spelling) -> Option<FieldValue>
-    ensures { (answers : _) → result ≡ field_of (scene scope.now answers) (option_copied value.entry) key.now }
+fn field(stage: &Stage, value: Option<&Value>, key: &Spelling) -> Option<FieldValue>
+    ensures { result ≡ field_of (scene_at stage.now) (option_copied value.entry) key.now }
 {
     let Some(value) = value else {
         return None;
     };
-    match &scope.ast.shape {
+    match &stage.scope.ast.shape {
         Shape::Struct(shape) => part(shape.fields.as_slice(), value.fields.as_slice(), key),
         Shape::Enum(_) => None,
     }

@@ -18,3 +18,6 @@ pub struct Value {
     pub variant: u32,
     pub fields: FieldValues,
 }
+
+/// What a hasher is fed, in order.
+pub type Parts = Seq<i128>;

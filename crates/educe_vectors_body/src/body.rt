@@ -2,13 +2,17 @@
 //! items are spelled, and that the words of the contracts mean what they are to mean.
 
 use crate::values::scope;
-use educe_body::{BuiltIn, Form, Forms, Scope, Shared, Value, built_in_path};
-use educe_syntax::DeriveInput;
-use educe_tokens::{Seq, pair};
+use educe_body::{BuiltIn, Form, Forms, Names, Scope, Shared, Value, built_in_path};
+use educe_syntax::{DeriveInput, parse_ident};
+use educe_tokens::{Seq, Word, pair};
+use educe_vectors_checks::{found, lexed_slice};
 use std::alloc::{AllocError, Global};
+use std::test::Fail;
 
 mod calls;
 mod fields;
+mod hashes;
+mod made;
 mod names;
 mod speller;
 mod words;
@@ -46,4 +50,19 @@ fn call(
 /// A definition with a value of `self` alone.
 fn scope_of<'a>(ast: &'a DeriveInput, this: &'a Value) -> Scope<'a> {
     scope(ast, this, None)
+}
+
+/// The word that a text is.
+fn word(alloc: Global, text: &str) -> Result<Word, Fail> {
+    let ident = found(parse_ident(alloc, &lexed_slice(alloc, text)?))?;
+    Ok(Word::new(ident.text))
+}
+
+/// The words that texts are.
+fn word_list(alloc: Global, texts: &[&str]) -> Result<Names, Fail> {
+    let mut names = Seq::new(alloc);
+    for text in texts {
+        names.push(word(alloc, text)?)?;
+    }
+    Ok(names)
 }

@@ -3,6 +3,7 @@ ghost use Rattle.std.specs.Prelude.{IsTrue};
 ghost use Rattle.educe_tokens.specs.Quote.{is_ascii_name};
 
 use crate::body::{list, list_of_two, scope_of};
+use crate::outcomes::{Seen, lent};
 use crate::values::{table, value};
 use educe_body::{
     Answer, Answers, Body, Callee, FieldValue, Form, Names, Outcome, Row, Shared, eval, key_word,
@@ -103,7 +104,7 @@ fn answers(alloc: Global) -> Result<Answers, AllocError> {
 
 /// A definition whose last field has the name of the parameter, the path that is called, what is
 /// done with the answer, and what the body evaluates to.
-type Case<'a> = (&'a str, &'a str, Use, Outcome);
+type Case<'a> = (&'a str, &'a str, Use, Seen<'a>);
 
 /// What a body evaluates to where `self` has the fields 5 and 7.
 fn evaluated(
@@ -132,7 +133,7 @@ fn outcome_of(
 fn check(alloc: Global, answers: &Answers, cases: &[Case]) -> Result<(), Fail> {
     for case in cases {
         let found = outcome_of(alloc, &definition(alloc, case.0)?, case, answers)?;
-        check_at(case.1, found, case.3)?;
+        check_at(case.1, lent(&found), case.3)?;
     }
     Ok(())
 }
@@ -151,18 +152,13 @@ fn written_functions_answer_by_rows(rt: HostRuntime) -> Result<(), Fail> {
         alloc,
         &answers(alloc)?,
         &[
-            (OTHER, "a::b", Use::Answer, Outcome::Truth(true)),
-            (OTHER, "a :: b", Use::Opposite, Outcome::Truth(false)),
-            (OTHER, "a::b", Use::Test, Outcome::Truth(false)),
-            (OTHER, "order", Use::Answer, Outcome::Order(less)),
-            (
-                OTHER,
-                "order",
-                Use::InSome,
-                Outcome::PartialOrder(Some(less)),
-            ),
-            (OTHER, "partial", Use::Answer, Outcome::PartialOrder(None)),
-            (OTHER, "b::a", Use::Answer, Outcome::Stuck),
+            (OTHER, "a::b", Use::Answer, Seen::Truth(true)),
+            (OTHER, "a :: b", Use::Opposite, Seen::Truth(false)),
+            (OTHER, "a::b", Use::Test, Seen::Truth(false)),
+            (OTHER, "order", Use::Answer, Seen::Order(less)),
+            (OTHER, "order", Use::InSome, Seen::PartialOrder(Some(less))),
+            (OTHER, "partial", Use::Answer, Seen::PartialOrder(None)),
+            (OTHER, "b::a", Use::Answer, Seen::Stuck),
         ],
     )
 }
@@ -174,10 +170,10 @@ fn other_kinds_of_answers_have_no_value(rt: HostRuntime) -> Result<(), Fail> {
         alloc,
         &answers(alloc)?,
         &[
-            (OTHER, "order", Use::Opposite, Outcome::Stuck),
-            (OTHER, "order", Use::Test, Outcome::Stuck),
-            (OTHER, "a::b", Use::InSome, Outcome::Stuck),
-            (OTHER, "partial", Use::InSome, Outcome::Stuck),
+            (OTHER, "order", Use::Opposite, Seen::Stuck),
+            (OTHER, "order", Use::Test, Seen::Stuck),
+            (OTHER, "a::b", Use::InSome, Seen::Stuck),
+            (OTHER, "partial", Use::InSome, Seen::Stuck),
         ],
     )
 }
@@ -186,16 +182,16 @@ fn other_kinds_of_answers_have_no_value(rt: HostRuntime) -> Result<(), Fail> {
 fn names_in_scope_hide_functions(rt: HostRuntime) -> Result<(), Fail> {
     let alloc = rt.alloc();
     let raw = "struct S { a: u8, b: u8, r#other: u8 }";
-    let truth = Outcome::Truth(true);
+    let truth = Seen::Truth(true);
     check(
         alloc,
         &answers(alloc)?,
         &[
-            (OTHER, "other", Use::Answer, Outcome::Stuck),
-            (OTHER, "r#other", Use::Answer, Outcome::Stuck),
-            (OTHER, "a::<other>::c", Use::Answer, Outcome::Stuck),
-            (raw, "other", Use::Answer, Outcome::Stuck),
-            (raw, "r#other", Use::Answer, Outcome::Stuck),
+            (OTHER, "other", Use::Answer, Seen::Stuck),
+            (OTHER, "r#other", Use::Answer, Seen::Stuck),
+            (OTHER, "a::<other>::c", Use::Answer, Seen::Stuck),
+            (raw, "other", Use::Answer, Seen::Stuck),
+            (raw, "r#other", Use::Answer, Seen::Stuck),
             (UNUSED, "other", Use::Answer, truth),
             (UNUSED, "r#other", Use::Answer, truth),
             (UNUSED, "a::<other>::c", Use::Answer, truth),
@@ -213,9 +209,9 @@ fn numbers_are_compared_by_functions_that_are_built_in(rt: HostRuntime) -> Resul
         alloc,
         &table(alloc, &[])?,
         &[
-            (OTHER, ne, Use::Answer, Outcome::Truth(true)),
-            (core, ne, Use::Opposite, Outcome::Truth(false)),
-            (OTHER, "a::b", Use::Answer, Outcome::Stuck),
+            (OTHER, ne, Use::Answer, Seen::Truth(true)),
+            (core, ne, Use::Opposite, Seen::Truth(false)),
+            (OTHER, "a::b", Use::Answer, Seen::Stuck),
         ],
     )
 }

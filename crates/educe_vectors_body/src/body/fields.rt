@@ -1,6 +1,7 @@
 //! Keys of fields, and bodies that read fields by them.
 
 use crate::body::{call, list, list_of_two, scope_of};
+use crate::outcomes::{Seen, lent};
 use crate::values::{table, value};
 use educe_body::{Body, BuiltIn, Form, Outcome, eval, key_word};
 use educe_syntax::{DeriveInput, Field, Ident, Shape};
@@ -93,20 +94,20 @@ fn order(
 
 /// A definition, one whose fields have the keys, the places of two of these, and what the comparison
 /// gives.
-type Case<'a> = (&'a str, &'a str, usize, usize, Outcome);
+type Case<'a> = (&'a str, &'a str, usize, usize, Seen<'a>);
 
 /// What the comparison gives in each of the definitions.
 fn check_orders(alloc: Global, cases: &[Case]) -> Result<(), Fail> {
     for (source, keys, first, second, expected) in cases {
         let found = order(alloc, source, keys, *first, *second)?;
-        check_at(*source, found, *expected)?;
+        check_at(*source, lent(&found), *expected)?;
     }
     Ok(())
 }
 
-const LESS: Outcome = Outcome::Order(Ordering::Less);
+const LESS: Seen<'static> = Seen::Order(Ordering::Less);
 
-const GREATER: Outcome = Outcome::Order(Ordering::Greater);
+const GREATER: Seen<'static> = Seen::Order(Ordering::Greater);
 
 #[test]
 fn reads_fields_by_their_places(rt: HostRuntime) -> Result<(), Fail> {
@@ -116,7 +117,7 @@ fn reads_fields_by_their_places(rt: HostRuntime) -> Result<(), Fail> {
         &[
             ("struct S(u8, u8);", keys, 0, 1, LESS),
             ("struct S(u8, u8);", keys, 1, 0, GREATER),
-            ("struct S(u8, u8);", keys, 1, 2, Outcome::Stuck),
+            ("struct S(u8, u8);", keys, 1, 2, Seen::Stuck),
         ],
     )
 }
@@ -129,8 +130,8 @@ fn reads_fields_by_their_names(rt: HostRuntime) -> Result<(), Fail> {
         rt.alloc(),
         &[
             (named, named, 0, 1, LESS),
-            (named, unnamed, 0, 1, Outcome::Stuck),
-            ("enum S {}", unnamed, 0, 1, Outcome::Stuck),
+            (named, unnamed, 0, 1, Seen::Stuck),
+            ("enum S {}", unnamed, 0, 1, Seen::Stuck),
         ],
     )
 }

@@ -4,9 +4,10 @@ ghost use Rattle.educe_tokens.specs.Quote.{is_ascii_name};
 
 use crate::body::{call, list, list_of_two};
 use educe_body::{
-    Body, BuiltIn, Comparison, Form, Forms, Function, Functions, ImplItem, Item, Items, Known,
-    built_in_path, spell,
+    Body, BuiltIn, Form, Forms, Function, Functions, ImplItem, Item, Items, Known, built_in_path,
+    spell,
 };
+use educe_bound::Trait;
 use educe_syntax::{Generics, Ident};
 use educe_tokens::{Boxed, Seq, Word, Written, pair};
 use educe_vectors_checks::{check_text, check_texts, definition, printed};
@@ -110,7 +111,7 @@ fn no_generics(alloc: Global) -> Generics {
 /// The impl of a trait for `S` with these parameters and predicates.
 fn implementation(
     alloc: Global,
-    which: Comparison,
+    which: Trait,
     generics: Generics,
     functions: Functions,
 ) -> Result<Items, AllocError> {
@@ -128,7 +129,7 @@ fn implementation(
 /// The text of the impl of a trait for `S`, whose function of this name has these forms.
 fn spelled(
     alloc: Global,
-    which: Comparison,
+    which: Trait,
     name: &str,
     block: Result<Forms, AllocError>,
 ) -> Result<String, AllocError>
@@ -145,7 +146,7 @@ fn spells_an_implementation(rt: HostRuntime) -> Result<(), Fail> {
     let end = Ok(Form::Known(Known::Truth(true)));
     let block = list_of_two(alloc, compared_field(alloc), end);
     check_text(
-        spelled(alloc, Comparison::PartialEq, "eq", block)?,
+        spelled(alloc, Trait::PartialEq, "eq", block)?,
         "# [ automatically_derived ] impl :: core :: cmp :: PartialEq for S { fn eq ( & self , other : & Self ) -> :: core :: primitive :: bool { if :: core :: cmp :: PartialEq :: ne ( & self . a , & other . a ) { return false ; } true } }\n",
     )
 }
@@ -156,7 +157,7 @@ fn spells_a_step_of_cmp(rt: HostRuntime) -> Result<(), Fail> {
     let end = Ok(Form::Known(Known::Order(Ordering::Equal)));
     let block = list_of_two(alloc, step(alloc, BuiltIn::Cmp, false), end);
     check_text(
-        spelled(alloc, Comparison::Ord, "cmp", block)?,
+        spelled(alloc, Trait::Ord, "cmp", block)?,
         "# [ automatically_derived ] impl :: core :: cmp :: Ord for S { fn cmp ( & self , other : & Self ) -> :: core :: cmp :: Ordering { match :: core :: cmp :: Ord :: cmp ( self , other ) { :: core :: cmp :: Ordering :: Equal => ( ) , :: core :: cmp :: Ordering :: Greater => return :: core :: cmp :: Ordering :: Greater , :: core :: cmp :: Ordering :: Less => return :: core :: cmp :: Ordering :: Less , } :: core :: cmp :: Ordering :: Equal } }\n",
     )
 }
@@ -175,7 +176,7 @@ fn spells_a_step_of_partial_cmp(rt: HostRuntime) -> Result<(), Fail> {
         some_order(alloc),
     );
     check_text(
-        spelled(alloc, Comparison::PartialOrd, "partial_cmp", block)?,
+        spelled(alloc, Trait::PartialOrd, "partial_cmp", block)?,
         "# [ automatically_derived ] impl :: core :: cmp :: PartialOrd for S { fn partial_cmp ( & self , other : & Self , ) -> :: core :: option :: Option < :: core :: cmp :: Ordering > { match :: core :: cmp :: PartialOrd :: partial_cmp ( self , other ) { :: core :: option :: Option :: Some ( :: core :: cmp :: Ordering :: Equal ) => ( ) , :: core :: option :: Option :: Some ( :: core :: cmp :: Ordering :: Greater ) => return :: core :: option :: Option :: Some ( :: core :: cmp :: Ordering :: Greater ) , :: core :: option :: Option :: Some ( :: core :: cmp :: Ordering :: Less ) => return :: core :: option :: Option :: Some ( :: core :: cmp :: Ordering :: Less ) , :: core :: option :: Option :: None => return :: core :: option :: Option :: None , } :: core :: option :: Option :: Some ( :: core :: cmp :: Ord :: cmp ( self , other ) ) } }\n",
     )
 }
@@ -184,7 +185,7 @@ fn spells_a_step_of_partial_cmp(rt: HostRuntime) -> Result<(), Fail> {
 fn spelled_head(alloc: Global, source: &str) -> Result<String, Fail> {
     let ast = definition(alloc, source)?;
     let functions = Seq::new(alloc);
-    let items = implementation(alloc, Comparison::PartialEq, ast.generics, functions)?;
+    let items = implementation(alloc, Trait::PartialEq, ast.generics, functions)?;
     Ok(spell(alloc, &items)?)
 }
 

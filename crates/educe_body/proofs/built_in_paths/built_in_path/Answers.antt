@@ -1,17 +1,19 @@
 use Rattle.std.proofs.lemmas.Result.{IfOk-weaker}
-use Rattle.educe_body.specs.declared.callee.BuiltIn.TheVariants.{Ne, Cmp, PartialCmp}
-use Rattle.educe_body.specs.BuiltIn.{path_lexemes, path_names, IsMade, IsBuiltIn}
+use Rattle.educe_body.specs.declared.callee.BuiltIn.TheVariants.{Ne, Cmp, PartialCmp, Hash}
+use Rattle.educe_body.specs.BuiltIn.{path_lexemes, IsMade, IsBuiltIn}
+use Rattle.educe_body.specs.Callees.{path_names}
 use Rattle.educe_body.proofs.MadePaths.{built_in_reads}
 use Rattle.educe_body.proofs.built_in_paths.built_in_path.Goals as goal
 
 pub returns-in-Ne : goal.returns-in-Ne
-returns-in-Ne c =
-    rw c.in-Ne.is (IfOk-weaker _ (IsMade (path_lexemes Ne) (path_names Ne)) (IsBuiltIn Ne) (built_in_reads Ne) c.comparison_path.ensures)
+returns-in-Ne c = rw c.in-Ne.is (IfOk-weaker _ (IsMade (path_lexemes Ne) (path_names Ne)) (IsBuiltIn Ne) (built_in_reads Ne) c.trait_path.ensures)
 
 pub returns-in-Cmp : goal.returns-in-Cmp
-returns-in-Cmp c =
-    rw c.in-Cmp.is (IfOk-weaker _ (IsMade (path_lexemes Cmp) (path_names Cmp)) (IsBuiltIn Cmp) (built_in_reads Cmp) c.comparison_path-in-Cmp.ensures)
+returns-in-Cmp c = rw c.in-Cmp.is (IfOk-weaker _ (IsMade (path_lexemes Cmp) (path_names Cmp)) (IsBuiltIn Cmp) (built_in_reads Cmp) c.trait_path-in-Cmp.ensures)
 
 pub returns-in-PartialCmp : goal.returns-in-PartialCmp
 returns-in-PartialCmp c =
-    rw c.in-PartialCmp.is (IfOk-weaker _ (IsMade (path_lexemes PartialCmp) (path_names PartialCmp)) (IsBuiltIn PartialCmp) (built_in_reads PartialCmp) c.comparison_path-in-PartialCmp.ensures)
+    rw c.in-PartialCmp.is (IfOk-weaker _ (IsMade (path_lexemes PartialCmp) (path_names PartialCmp)) (IsBuiltIn PartialCmp) (built_in_reads PartialCmp) c.trait_path-in-PartialCmp.ensures)
+
+pub returns-in-Hash : goal.returns-in-Hash
+returns-in-Hash c = rw c.in-Hash.is (IfOk-weaker _ (IsMade (path_lexemes Hash) (path_names Hash)) (IsBuiltIn Hash) (built_in_reads Hash) c.trait_path-in-Hash.ensures)

@@ -1,4 +1,4 @@
-use Rattle.std.proofs.Common.{◌≡◌, Option, IfOk, sym, ap, subst, ◌∙◌, ◌++◌, drop, ◌+◌}
+use Rattle.std.proofs.Common.{◌≡◌, Option, IfOk, sym, ap, subst, ◌∙◌, ◌++◌, drop, ◌+◌, arith}
 use Rattle.std.specs.Prelude.{Result, true, false}
 use Rattle.std.specs.declared.alloc.AllocError.{AllocError}
 use Rattle.educe_body.specs.declared.callee.Callee.{Callee}
@@ -6,8 +6,8 @@ use Rattle.educe_body.specs.declared.form.Form.{Form}
 use Rattle.educe_body.specs.declared.flow.Flow.{Flow}
 use Rattle.educe_body.specs.declared.flow.Flow.TheVariants.{Gives, Returns, Stuck}
 use Rattle.educe_body.specs.Scoping.{callee_in}
-use Rattle.educe_body.specs.Meaning.{scene, form_value, args_list, arms_list, held_list, call_named, look_up, value_named, with_value, or_nothing}
-use Rattle.educe_body.proofs.Rows.{form_value-Call, form_value-Not, form_value-SomeOf, form_value-IfReturn, form_value-Return, form_value-MatchOrdering, form_value-MatchValue, form_value-Block, match_held, if_let_known, args_list-step, args_list-gathered, args_list-all}
+use Rattle.educe_body.specs.Meaning.{scene_at, form_value, args_list, arms_list, held_list, call_named, look_up, value_named, with_value, or_nothing, Scene, with_case, inits_list, built, built_value}
+use Rattle.educe_body.proofs.Rows.{form_value-Call, form_value-Not, form_value-SomeOf, form_value-IfReturn, form_value-Return, form_value-HashPart, form_value-Construct, form_value-MatchOrdering, form_value-MatchValue, form_value-Block, match_held, if_let_known, args_list-step, args_list-gathered, args_list-all, counted-gathers, inits_list-step, inits_list-gathered, inits_list-fewer, inits_list-all}
 use Rattle.educe_body.proofs.evaluator.+run.Goals as goal
 
 -- a result that ends as one flow ends as another that is the same
@@ -16,42 +16,60 @@ ends_alike result flow other same ends = subst (λ (flow : Flow). IfOk result (�
 
 pub run_form-returns-in_ok-callee-in-Call : goal.run_form-returns-in_ok-callee-in-Call
 run_form-returns-in_ok-callee-in-Call t c =
-    let s = scene c.args.scope.now c.args.answers.now in
+    let s = scene_at c.args.stage.now in
     let called = c.in_ok-callee-in-Call.ensures ∙ (λ i. callee_in (c.as_slice.ensures i) (c.get.ensures i)) in
     let whole = ap (form_value s c.args.env) c.in-Call.is ∙ form_value-Call s c.args.env c.in-Call.path c.in-Call.arguments
-    ∙ ap (λ (callee : Option Callee). args_list s c.args.env c.in-Call.arguments (call_named c.args.answers.now callee)) (sym called) in
+    ∙ ap (λ (callee : Option Callee). args_list s c.args.env c.in-Call.arguments (call_named c.args.stage.now.answers.now callee)) (sym called) in
     subst (λ (flow : Flow). IfOk c.run_call.result (λ given. given ≡ flow)) (sym whole) c.run_call.ensures
 
 pub run_form-returns-in_ok-run_form-in-Not : goal.run_form-returns-in_ok-run_form-in-Not
 run_form-returns-in_ok-run_form-in-Not t c =
-    let s = scene c.args.scope.now c.args.answers.now in
+    let s = scene_at c.args.stage.now in
     rw (c.in-Not.is, form_value-Not s c.args.env c.in-Not.inner, sym c.get-in-Not.ensures) (rw c.in_ok-run_form-in-Not.ensures at c.opposite.ensures)
 
 pub run_form-returns-in_ok-run_form-in-SomeOf : goal.run_form-returns-in_ok-run_form-in-SomeOf
 run_form-returns-in_ok-run_form-in-SomeOf t c =
-    let s = scene c.args.scope.now c.args.answers.now in
+    let s = scene_at c.args.stage.now in
     rw (c.in-SomeOf.is, form_value-SomeOf s c.args.env c.in-SomeOf.inner, sym c.get-in-SomeOf.ensures) (rw c.in_ok-run_form-in-SomeOf.ensures at c.some_of.ensures)
 
 pub run_form-returns-in_ok-run_form-in-IfReturn : goal.run_form-returns-in_ok-run_form-in-IfReturn
 run_form-returns-in_ok-run_form-in-IfReturn t c =
-    let s = scene c.args.scope.now c.args.answers.now in
+    let s = scene_at c.args.stage.now in
     rw (c.in-IfReturn.is, form_value-IfReturn s c.args.env c.in-IfReturn.test, sym c.get-in-IfReturn.ensures) (rw c.in_ok-run_form-in-IfReturn.ensures at c.end_if.ensures)
 
 pub run_form-returns-in_ok-run_form-in-Return : goal.run_form-returns-in_ok-run_form-in-Return
 run_form-returns-in_ok-run_form-in-Return t c =
-    let s = scene c.args.scope.now c.args.answers.now in
+    let s = scene_at c.args.stage.now in
     rw (c.in-Return.is, form_value-Return s c.args.env c.in-Return.inner, sym c.get-in-Return.ensures) (rw c.in_ok-run_form-in-Return.ensures at c.returned.ensures)
+
+pub run_form-returns-in_ok-run_form-in-HashPart : goal.run_form-returns-in_ok-run_form-in-HashPart
+run_form-returns-in_ok-run_form-in-HashPart t c =
+    let s = scene_at c.args.stage.now in
+    rw (c.in-HashPart.is, form_value-HashPart s c.args.env c.in-HashPart.inner, sym c.get-in-HashPart.ensures) (rw c.in_ok-run_form-in-HashPart.ensures at c.hash_part.ensures)
+
+pub run_form-returns-in-Some-case_named : goal.run_form-returns-in-Some-case_named
+run_form-returns-in-Some-case_named t c =
+    let s = scene_at c.args.stage.now in
+    let arm = c.in-Construct in
+    let case = c.in-Some-case_named.case in
+    ends_alike c.run_inits.result _ _
+    (
+    (λ i. inits_list s c.args.env (c.as_slice-in-Some-case_named.ensures i) case.fields.now (built case.variant))
+    ∙ ap (λ found. with_case found (built_value s c.args.env arm.inits)) c.in-Some-case_named.ensures
+    ∙ sym (ap (form_value s c.args.env) arm.is ∙ form_value-Construct s c.args.env arm.name arm.field-1 arm.inits)
+    )
+    c.run_inits.ensures
 
 pub run_form-returns-in-None : goal.run_form-returns-in-None
 run_form-returns-in-None t c =
-    let s = scene c.args.scope.now c.args.answers.now in
+    let s = scene_at c.args.stage.now in
     let arm = c.in-MatchOrdering in
     rw (arm.is, form_value-MatchOrdering s c.args.env arm.matched arm.partial arm.held arm.greater arm.less, c.in-None.is, sym c.get-in-MatchOrdering.ensures)
     (rw c.in_ok-matched-in-MatchOrdering.ensures at c.take_arm.ensures)
 
 pub run_form-returns-in-Some : goal.run_form-returns-in-Some
 run_form-returns-in-Some t c =
-    let s = scene c.args.scope.now c.args.answers.now in
+    let s = scene_at c.args.stage.now in
     let arm = c.in-MatchOrdering in
     let flow = c.in_ok-matched-in-MatchOrdering.matched in
     let gives = subst (λ (x : Form). flow ≡ form_value s c.args.env x) c.get-in-MatchOrdering.ensures c.in_ok-matched-in-MatchOrdering.ensures in
@@ -61,27 +79,27 @@ run_form-returns-in-Some t c =
 
 pub run_form-returns-in-MatchValue : goal.run_form-returns-in-MatchValue
 run_form-returns-in-MatchValue t c =
-    let s = scene c.args.scope.now c.args.answers.now in
+    let s = scene_at c.args.stage.now in
     let arm = c.in-MatchValue in
-    let value = c.named-value.ensures c.args.answers.now ∙ ap (λ names. value_named s (look_up names arm.name.text)) c.as_slice-in-MatchValue.ensures in
+    let value = c.named-value.ensures ∙ ap (λ names. value_named s (look_up names arm.name.text)) c.as_slice-in-MatchValue.ensures in
     ends_alike c.run_arms.result _ _
     ((λ i. with_value (value i) (arms_list s c.args.env (c.as_slice-in-MatchValue-2.ensures i))) ∙ sym (ap (form_value s c.args.env) arm.is ∙ form_value-MatchValue s c.args.env arm.name arm.arms))
     c.run_arms.ensures
 
 pub run_form-returns-then-fits : goal.run_form-returns-then-fits
 run_form-returns-then-fits t c =
-    let s = scene c.args.scope.now c.args.answers.now in
+    let s = scene_at c.args.stage.now in
     let arm = c.in-IfLet in
-    let value = sym (c.in-Some-named.ensures c.args.answers.now ∙ ap (λ names. value_named s (look_up names arm.name.text)) c.as_slice-in-IfLet.ensures) in
+    let value = sym (c.in-Some-named.ensures ∙ ap (λ names. value_named s (look_up names arm.name.text)) c.as_slice-in-IfLet.ensures) in
     ends_alike c.run_taken.result _ _
     (sym (if_let_known s c.args.env c.args.form.now arm.pattern arm.name arm.forms arm.others c.in-Some-named.value.now true arm.is value (sym c.fits.ensures ∙ c.if-fits.true)))
     c.run_taken.ensures
 
 pub run_form-returns-in-Some-others : goal.run_form-returns-in-Some-others
 run_form-returns-in-Some-others t c =
-    let s = scene c.args.scope.now c.args.answers.now in
+    let s = scene_at c.args.stage.now in
     let arm = c.in-IfLet in
-    let value = sym (c.in-Some-named.ensures c.args.answers.now ∙ ap (λ names. value_named s (look_up names arm.name.text)) c.as_slice-in-IfLet.ensures) in
+    let value = sym (c.in-Some-named.ensures ∙ ap (λ names. value_named s (look_up names arm.name.text)) c.as_slice-in-IfLet.ensures) in
     ends_alike c.run_inner.result _ _
     (
     ap (λ others. or_nothing c.args.env (held_list s others)) (sym c.in-Some-others.is)
@@ -91,46 +109,77 @@ run_form-returns-in-Some-others t c =
 
 pub run_form-returns-in-Block : goal.run_form-returns-in-Block
 run_form-returns-in-Block t c =
-    let s = scene c.args.scope.now c.args.answers.now in
+    let s = scene_at c.args.stage.now in
     ends_alike c.run_inner-in-Block.result _ _ (sym (ap (form_value s c.args.env) c.in-Block.is ∙ form_value-Block s c.args.env c.in-Block.forms)) c.run_inner-in-Block.ensures
 
 pub run_call-returns-in-Returns : goal.run_call-returns-in-Returns
 run_call-returns-in-Returns t c =
-    let s = scene c.args.scope.now c.args.answers.now in
-    let next = call_named c.args.answers.now c.args.callee.now in
+    let s = scene_at c.args.stage.now in
+    let next = call_named c.args.stage.now.answers.now c.args.callee.now in
     sym (
     args_list-step s c.loop-argument.env c.as_slice-argument-items.result.now c.loop-argument.argument-index c.argument-item.result c.in_ok-next.field-0 (Returns c.in-Returns.end c.in-Returns.thing)
     (λ env more. next env (c.loop-argument.things ++ more)) c.loop-argument-test.true c.argument-item.is c.in_ok-next.ensures c.in-Returns.is
     )
-    ∙ c.loop-argument.invariant
+    ∙ c.loop-argument.invariant.rest
 
 pub run_call-returns-in-Stuck : goal.run_call-returns-in-Stuck
 run_call-returns-in-Stuck t c =
-    let s = scene c.args.scope.now c.args.answers.now in
-    let next = call_named c.args.answers.now c.args.callee.now in
+    let s = scene_at c.args.stage.now in
+    let next = call_named c.args.stage.now.answers.now c.args.callee.now in
     sym (
     args_list-step s c.loop-argument.env c.as_slice-argument-items.result.now c.loop-argument.argument-index c.argument-item.result c.in_ok-next.field-0 Stuck
     (λ env more. next env (c.loop-argument.things ++ more)) c.loop-argument-test.true c.argument-item.is c.in_ok-next.ensures c.in-Stuck.is
     )
-    ∙ c.loop-argument.invariant
+    ∙ c.loop-argument.invariant.rest
 
 pub run_call-loop-argument-preserved : goal.run_call-loop-argument-preserved
 run_call-loop-argument-preserved t c =
-    let s = scene c.args.scope.now c.args.answers.now in
-    let next = call_named c.args.answers.now c.args.callee.now in
+    let s = scene_at c.args.stage.now in
+    let next = call_named c.args.stage.now.answers.now c.args.callee.now in
     let forms = c.as_slice-argument-items.result.now in
     let before = c.loop-argument.things in
-    args_list-gathered s c.in-Gives.next before c.push.new.self c.in-Gives.thing (drop (c.loop-argument.argument-index + 1) forms) next c.in_ok-push-in-Gives.ensures.ok
-    ∙ sym (
-    args_list-step s c.loop-argument.env forms c.loop-argument.argument-index c.argument-item.result c.in_ok-next.field-0 (Gives c.in-Gives.next c.in-Gives.thing)
-    (λ env more. next env (before ++ more)) c.loop-argument-test.true c.argument-item.is c.in_ok-next.ensures c.in-Gives.is
-    )
-    ∙ c.loop-argument.invariant
+    record {
+      rest = args_list-gathered s c.in-Gives.next c.args.stage.now.answers.now c.args.callee.now before c.in_ok-things-in-Gives.things c.in-Gives.thing (drop (c.loop-argument.argument-index + 1) forms) c.in_ok-things-in-Gives.ensures
+          ∙ sym (
+          args_list-step s c.loop-argument.env forms c.loop-argument.argument-index c.argument-item.result c.in_ok-next.field-0 (Gives c.in-Gives.next c.in-Gives.thing)
+          (λ env more. next env (before ++ more)) c.loop-argument-test.true c.argument-item.is c.in_ok-next.ensures c.in-Gives.is
+          )
+          ∙ c.loop-argument.invariant.rest;
+      all = counted-gathers before c.in_ok-things-in-Gives.things c.in-Gives.thing c.loop-argument.invariant.all c.in_ok-things-in-Gives.ensures;
+    }
 
 pub run_call-returns : goal.run_call-returns
 run_call-returns t c =
-    let s = scene c.args.scope.now c.args.answers.now in
-    let next = call_named c.args.answers.now c.args.callee.now in
+    let s = scene_at c.args.stage.now in
+    let next = call_named c.args.stage.now.answers.now c.args.callee.now in
     c.called.ensures ∙ ap (next c.loop-argument.env) c.as_slice.ensures
     ∙ args_list-all s c.loop-argument.env c.as_slice-argument-items.result.now c.loop-argument.argument-index c.loop-argument.things next c.loop-argument-test.false
-    ∙ c.loop-argument.invariant
+    ∙ c.loop-argument.invariant.rest
+
+pub run_inits-loop-i-preserved : goal.run_inits-loop-i-preserved
+run_inits-loop-i-preserved t c =
+    let s = scene_at c.args.stage.now in
+    let loop = c.loop-i in
+    let inits = c.args.inits.now in
+    let fields = c.args.fields.now in
+    let next = built c.args.variant in
+    let gives = c.in_ok-next.ensures ∙ ap (λ (scene : Scene). form_value scene loop.env c.index-inits-i.result.value) c.for_field.ensures in
+    let test = sym c.has_key.ensures ∙ c.if-not-has_key.false in
+    inits_list-gathered s c.in-Gives.next loop.values c.push.new.self c.in-Some.value (drop (loop.i + 1) inits) (drop (loop.i + 1) fields) next c.in_ok-push-in-Gives.ensures.ok
+    ∙ sym (
+    inits_list-step s loop.env c.in-Gives.next inits fields loop.i c.index-inits-i.result c.index-fields-i.result c.in_ok-next.field-0 c.in-Gives.thing c.in-Some.value (λ env more. next env (loop.values ++ more))
+    c.loop-i-test.true c.if-i-fields.false c.index-inits-i.is c.index-fields-i.is test gives c.in-Gives.is (sym c.in-Some.ensures)
+    )
+    ∙ loop.invariant
+
+pub run_inits-returns-then-inits-fields : goal.run_inits-returns-then-inits-fields
+run_inits-returns-then-inits-fields t c =
+    let s = scene_at c.args.stage.now in
+    sym (inits_list-fewer s c.loop-i.env c.args.inits.now c.args.fields.now c.loop-i.i (λ env more. built c.args.variant env (c.loop-i.values ++ more)) c.loop-i-test.false (omega arith)) ∙ c.loop-i.invariant
+
+pub run_inits-returns : goal.run_inits-returns
+run_inits-returns t c =
+    let s = scene_at c.args.stage.now in
+    c.built.ensures c.loop-i.env
+    ∙ inits_list-all s c.loop-i.env c.args.inits.now c.args.fields.now c.loop-i.i c.loop-i.values (built c.args.variant) c.loop-i-test.false (omega arith)
+    ∙ c.loop-i.invariant

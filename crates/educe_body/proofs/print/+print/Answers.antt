@@ -3,8 +3,9 @@ use Rattle.std.proofs.lemmas.Result.{on_ok_weaker}
 use Rattle.educe_tokens.proofs.Appending.{Appends-append, Appends-same}
 use Rattle.educe_body.specs.declared.form.Arm.{Arm}
 use Rattle.educe_body.specs.declared.form.Form.{Form, MatchOrdering, IfLet}
-use Rattle.educe_body.specs.Tokens.{in_some, form_printout, form_lexemes, match_value_printout}
-use Rattle.educe_body.proofs.Printed.{form_lexemes-Call, form_lexemes-Not, form_lexemes-IfReturn, form_lexemes-Return, form_lexemes-SomeOf, form_lexemes-MatchOrdering-None, form_lexemes-MatchOrdering-Some, form_lexemes-MatchValue, form_lexemes-IfLet-None, form_lexemes-IfLet-Some, form_lexemes-Block}
+use Rattle.educe_body.specs.Printouts.{each}
+use Rattle.educe_body.specs.Tokens.{in_some, in_form, form_printout, form_lexemes, init_printout, match_value_printout}
+use Rattle.educe_body.proofs.Printed.{form_lexemes-Call, form_lexemes-Not, form_lexemes-IfReturn, form_lexemes-Return, form_lexemes-SomeOf, form_lexemes-MatchOrdering-None, form_lexemes-MatchOrdering-Some, form_lexemes-MatchValue, form_lexemes-IfLet-None, form_lexemes-IfLet-Some, form_lexemes-Block, form_lexemes-HashPart, form_lexemes-Construct}
 use Rattle.educe_body.proofs.Separated.{separated-take}
 use Rattle.educe_body.proofs.print.+print.Goals as goal
 
@@ -83,6 +84,39 @@ pub FormToTokens::to_tokens-returns-in-Block-clause-ok :
 FormToTokens::to_tokens-returns-in-Block-clause-ok t c =
     let same = sym (ap form_lexemes c.in-Block.is ∙ form_lexemes-Block _) in
     on_ok_weaker _ (λ found. Appends-same same found) c.push_block.ensures.ok
+
+pub FormToTokens::to_tokens-returns-in_ok-to_tokens-in-HashPart-clause-ok :
+    goal.FormToTokens::to_tokens-returns-in_ok-to_tokens-in-HashPart-clause-ok
+FormToTokens::to_tokens-returns-in_ok-to_tokens-in-HashPart-clause-ok t c =
+    let inner = Appends-same (ap form_lexemes c.get-in-HashPart.ensures) c.in_ok-to_tokens-in-HashPart.ensures.ok in
+    let same = sym (ap form_lexemes c.in-HashPart.is ∙ form_lexemes-HashPart _) in
+    on_ok_weaker _ (λ back. Appends-same same (Appends-append inner back)) c.quote-in-HashPart.ensures.ok
+
+pub FormToTokens::to_tokens-returns-in-Construct-clause-ok :
+    goal.FormToTokens::to_tokens-returns-in-Construct-clause-ok
+FormToTokens::to_tokens-returns-in-Construct-clause-ok t c =
+    let arm = c.in-Construct in
+    let same = sym (ap form_lexemes arm.is ∙ form_lexemes-Construct arm.variant arm.form arm.inits) in
+    on_ok_weaker _ (λ found. Appends-same same found) c.push_construct.ensures.ok
+
+pub push_construct-returns-clause-ok : goal.push_construct-returns-clause-ok
+push_construct-returns-clause-ok t c = on_ok_weaker _ (λ back. Appends-append c.in_ok-push_self.ensures.ok back) c.push_inits_in_form.ensures.ok
+
+pub push_inits_in_form-returns-in_ok-push_inits-in-Named-clause-ok : goal.push_inits_in_form-returns-in_ok-push_inits-in-Named-clause-ok
+push_inits_in_form-returns-in_ok-push_inits-in-Named-clause-ok t c =
+    let same = sym (ap (λ form. (in_form form (each init_printout c.args.inits.now)).tokens) c.in-Named.is) in
+    let front = Appends-append c.in_ok-quote-in-Named.ensures.ok c.in_ok-push_inits-in-Named.ensures.ok in
+    on_ok_weaker _ (λ back. Appends-same same (Appends-append front back)) c.quote-in-Named.ensures.ok
+
+pub push_inits_in_form-returns-in_ok-push_inits-in-Unnamed-clause-ok : goal.push_inits_in_form-returns-in_ok-push_inits-in-Unnamed-clause-ok
+push_inits_in_form-returns-in_ok-push_inits-in-Unnamed-clause-ok t c =
+    let same = sym (ap (λ form. (in_form form (each init_printout c.args.inits.now)).tokens) c.in-Unnamed.is) in
+    let front = Appends-append c.in_ok-quote-in-Unnamed.ensures.ok c.in_ok-push_inits-in-Unnamed.ensures.ok in
+    on_ok_weaker _ (λ back. Appends-same same (Appends-append front back)) c.quote-in-Unnamed-2.ensures.ok
+
+pub push_init-returns-clause-ok : goal.push_init-returns-clause-ok
+push_init-returns-clause-ok t c =
+    on_ok_weaker _ (λ back. Appends-append (Appends-append c.in_ok-push_key.ensures.ok c.in_ok-to_tokens.ensures.ok) back) c.quote.ensures.ok
 
 pub push_call-returns-clause-ok : goal.push_call-returns-clause-ok
 push_call-returns-clause-ok t c =

@@ -1,17 +1,7 @@
-use Rattle.std.proofs.Common.{ap}
 use Rattle.std.proofs.lemmas.Result.{on_ok_weaker}
-use Rattle.educe_tokens.proofs.Appending.{Appends-append, Appends-same, HasPrefix-trans}
-use Rattle.educe_body.specs.Headers.{params_printout}
+use Rattle.educe_tokens.proofs.Appending.{Appends-append}
 use Rattle.educe_body.proofs.body.ImplItem.push_head.Goals as goal
 
 pub returns-clause-ok : goal.returns-clause-ok
 returns-clause-ok c =
-    let params = Appends-same (ap (λ params. (params_printout params).tokens) c.as_slice.ensures) c.in_ok-push_params.ensures.ok in
-    let front = Appends-append (Appends-append c.in_ok-append_written.ensures.ok c.in_ok-quote.ensures.ok) params in
-    on_ok_weaker _ (λ back. Appends-append (Appends-append front c.in_ok-push_trait.ensures.ok) back) c.quote-2.ensures.ok
-
-pub returns-clause-prefix : goal.returns-clause-prefix
-returns-clause-prefix c =
-    let front = HasPrefix-trans c.in_ok-append_written.ensures.prefix c.in_ok-quote.ensures.prefix in
-    let path = HasPrefix-trans (HasPrefix-trans front c.in_ok-push_params.ensures.prefix) c.in_ok-push_trait.ensures.prefix in
-    HasPrefix-trans path c.quote-2.ensures.prefix
+    on_ok_weaker _ (λ back. Appends-append (Appends-append c.in_ok-push_start.ensures.ok c.in_ok-push_trait.ensures.ok) back) c.quote.ensures.ok

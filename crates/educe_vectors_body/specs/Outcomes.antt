@@ -1,0 +1,15 @@
+-- What bodies evaluate to, as tests compare it.
+use Rattle.educe_body.specs.declared.evaluator.Outcome.{Outcome}
+use Rattle.educe_body.specs.declared.evaluator.Outcome.TheVariants.{Truth, Order, PartialOrder, Parts, Made, Whole, Stuck}
+use Rattle.educe_vectors_body.specs.declared.outcomes.Seen.{Seen}
+use Rattle.educe_vectors_body.specs.declared.outcomes.Seen.TheVariants.{Truth as SeenTruth, Order as SeenOrder, PartialOrder as SeenPartialOrder, Parts as SeenParts, Made as SeenMade, Whole as SeenWhole, Stuck as SeenStuck}
+
+-- the outcome that is lent
+abbrev pub shown : Seen → Outcome
+shown (SeenTruth b) = Truth b
+shown (SeenOrder o) = Order o
+shown (SeenPartialOrder p) = PartialOrder p
+shown (SeenParts parts) = Parts parts.now
+shown (SeenMade variant fields) = Made (record { variant = variant; fields = fields.now })
+shown (SeenWhole x) = Whole x
+shown SeenStuck = Stuck

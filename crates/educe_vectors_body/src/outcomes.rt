@@ -1,0 +1,37 @@
+//! What bodies evaluate to, as tests compare it.
+ghost use Rattle.std.specs.Prelude.{◌≡◌};
+ghost use Rattle.educe_vectors_body.specs.Outcomes.{shown};
+
+use educe_body::{FieldValue, Outcome};
+use std::cmp::Ordering;
+
+/// What a body evaluates to, with lists that are lent.
+#[derive(Clone, Copy, Debug, PartialEq, Eq)]
+pub enum Seen<'a> {
+    Truth(bool),
+    Order(Ordering),
+    PartialOrder(Option<Ordering>),
+    /// What a hasher is fed, in order.
+    Parts(&'a [i128]),
+    /// The place of the variant of a value that is built, and its fields.
+    Made(u32, &'a [FieldValue]),
+    /// What the default value of a whole type makes.
+    Whole(FieldValue),
+    /// There is no value.
+    Stuck,
+}
+
+/// What a body evaluates to, lent.
+pub fn lent(outcome: &Outcome) -> Seen<'_>
+    ensures { shown result ≡ outcome.now }
+{
+    match outcome {
+        Outcome::Truth(b) => Seen::Truth(*b),
+        Outcome::Order(o) => Seen::Order(*o),
+        Outcome::PartialOrder(p) => Seen::PartialOrder(*p),
+        Outcome::Parts(parts) => Seen::Parts(parts.as_slice()),
+        Outcome::Made(value) => Seen::Made(value.variant, value.fields.as_slice()),
+        Outcome::Whole(x) => Seen::Whole(*x),
+        Outcome::Stuck => Seen::Stuck,
+    }
+}
