@@ -1,6 +1,6 @@
 -- What the match on a value of an enum comes to: its arm compares the fields that take part.
-use Rattle.std.proofs.Common.{◌≡◌, ◌≢◌, ◌≤◌, ◌^◌, ◌+◌, ℕ, zero, suc, Bool, true, false, List, [], ◌∷◌, ◌++◌, Option, Some, None, map, length, take, take_at, append-nil, refl, sym, ap, ◌∙◌, subst}
-use Rattle.std.specs.Prelude.{if◌then◌else◌, IsSome, slice_get, unwrap_or}
+use Rattle.std.proofs.Common.{◌≡◌, ◌≢◌, ◌≤◌, ◌^◌, ◌+◌, ℕ, zero, suc, Bool, true, false, List, [], ◌∷◌, ◌++◌, Option, Some, None, map, length, take, take_at, append-nil, arith, refl, sym, ap, ◌∙◌, subst}
+use Rattle.std.specs.Prelude.{if◌then◌else◌, IsSome, slice_get, unwrap_or, codes}
 use Rattle.std.specs.List.{AllByRecursion, AllZip}
 use Rattle.std.specs.Option.{option_map}
 use Rattle.std.proofs.lemmas.List.{length-map}
@@ -17,18 +17,20 @@ use Rattle.educe_syntax.specs.Shape.{Shape}
 use Rattle.educe_syntax.specs.Variant.{Variant}
 use Rattle.educe_attrs.specs.FieldSettings.{FieldSettings}
 use Rattle.educe_body.specs.declared.answers.Answers.{Answers}
+use Rattle.educe_bound.specs.declared.traits.Trait.{Trait}
+use Rattle.educe_bound.specs.declared.traits.Trait.TheVariants as trait
 use Rattle.educe_body.specs.declared.comparison.Comparison.{Comparison}
 use Rattle.educe_body.specs.declared.comparison.Comparison.TheVariants.{PartialEq}
 use Rattle.educe_body.specs.declared.environment.Binding.{Binding}
 use Rattle.educe_body.specs.declared.environment.Env.{Env}
 use Rattle.educe_body.specs.declared.environment.Referent.{Referent}
-use Rattle.educe_body.specs.declared.environment.Referent.TheVariants.{Bound}
+use Rattle.educe_body.specs.declared.environment.Referent.TheVariants.{This, Bound}
 use Rattle.educe_body.specs.declared.evaluator.Outcome.TheVariants.{Truth as OutcomeTruth}
 use Rattle.educe_body.specs.declared.flow.Flow.{Flow}
 use Rattle.educe_body.specs.declared.flow.Flow.TheVariants.{Gives, Returns, Stuck}
 use Rattle.educe_body.specs.declared.flow.Thing.TheVariants.{Nothing}
 use Rattle.educe_body.specs.declared.form.Arm.{Arm}
-use Rattle.educe_body.specs.declared.form.Form.{Form, IfLet}
+use Rattle.educe_body.specs.declared.form.Form.{Form, MatchValue, IfLet}
 use Rattle.educe_body.specs.declared.form.Form as form
 use Rattle.educe_body.specs.declared.form.Known.TheVariants.{Truth}
 use Rattle.educe_body.specs.declared.pattern.Pattern.{Pattern}
@@ -38,29 +40,30 @@ use Rattle.educe_body.specs.declared.value.Value.{Value}
 use Rattle.educe_body.specs.Keys.{AreDifferent, keys_from, binding_key}
 use Rattle.educe_body.specs.Laws.{KeysGive}
 use Rattle.educe_body.specs.Matching.{variant_of, is_named, fits, has_key, bound_to, fields_bound, bound_of, bindings_of}
-use Rattle.educe_body.specs.Meaning.{Scene, look_up, part_of, local_value, value_named, part_flow, with_value, go_on, leave, within, or_nothing, known_thing, form_value, list_value, held_list, taken, if_let_value, arms_list, outcome_of}
+use Rattle.educe_body.specs.Meaning.{Scene, look_up, part_of, local_flow, value_named, with_value, go_on, leave, within, or_nothing, known_thing, form_value, list_value, held_list, taken, if_let_value, arms_list, outcome_of}
 use Rattle.educe_body.specs.Scoping.{IsApart}
 use Rattle.educe_body.proofs.Fields.{bytes_eq-differ}
-use Rattle.educe_laws.specs.Arms.{Names, AreNames, IsKey, IsBound, ArePatternFields, IsPattern, IsArm, IsMatch}
+use Rattle.educe_laws.specs.Arms.{Names, AreNames, AreArms, IsKey, IsBound, ArePatternFields, IsPattern, IsArm, IsMatch}
 use Rattle.educe_laws.specs.Blocks.{scene_of}
 use Rattle.educe_laws.specs.BodyLaws.{lawful_forms, lawful_keys}
 use Rattle.educe_laws.specs.Cases.{fields_in, shape_cases, case_of}
+use Rattle.educe_laws.specs.Comparisons.{trait_of}
 use Rattle.educe_laws.specs.Comparing.{Compared, HasShape, says, neutral, compared_from, compared, differs, word_of}
 use Rattle.educe_laws.specs.Settings.{Kept, keeps, settings_of, kept_with, kept_from, kept_fields}
 use Rattle.educe_laws.specs.Steps.{bound}
 use Rattle.educe_laws.proofs.Elements.{In, In-all, In-found, map_at, each_in, each_map, each_mapped, each_weaker}
 use Rattle.educe_laws.proofs.Facts.{AreFit, IsOuter}
 use Rattle.educe_laws.proofs.Least.{first_where}
-use Rattle.educe_laws.proofs.Meanings.{each_in_order, fields_meaning, means_in_order, ended}
+use Rattle.educe_laws.proofs.Meanings.{each_in_order, fields_meaning, means_in_order, steps_ended}
 use Rattle.educe_laws.proofs.Pairing.{Look, FieldsGive, part_in, seen, compared-seen, length_from_types}
 use Rattle.educe_laws.proofs.Stepping.{HasOwnPath, decided, steps-value, Reads, read_steps}
 use Rattle.educe_laws.proofs.Structs.{length_keys}
-use Rattle.educe_laws.proofs.Variables.{kept_key, fields_different, own_binding, with_variables, outer_apart, other_found, own_found, others_found, arm_apart}
+use Rattle.educe_laws.proofs.Variables.{kept_key, fields_different, own_binding, with_variables, around_apart, other_found, own_found, others_found, arm_apart}
 
 -- ---- what a pattern binds
 
 -- the key of a field of a pattern is that of the variant's field
-key_fits : (ident : Option Ident) (key : Option Word) → IsKey ident key → has_key key ident ≡ true
+pub key_fits : (ident : Option Ident) (key : Option Word) → IsKey ident key → has_key key ident ≡ true
 key_fits None None is = refl
 key_fits None (Some key) is = absurd is
 key_fits (Some ident) None is = absurd is
@@ -75,7 +78,7 @@ module _ (prefix : List ℕ) (look : Look) where
   binds_one s true place f x kept (Some name) is at = λ i. record { name = is.is i; referent = Bound (part_in (sym at i)) } ∷ map (own_binding prefix look) kept
 
   -- the fields that take part are bound to their variables
-  pub binds : (which : Comparison) (d : DeriveInput) (place : ℕ) (fs : List Field) (xs : List FieldValue) (ps : List PatternField) → FieldsGive look place fs xs
+  pub binds : (which : Trait) (d : DeriveInput) (place : ℕ) (fs : List Field) (xs : List FieldValue) (ps : List PatternField) → FieldsGive look place fs xs
       → ArePatternFields prefix place fs (map (settings_of which d) fs) ps → fields_bound fs ps xs ≡ Some (map (own_binding prefix look) (kept_from which d place fs))
   binds which d place [] [] [] give are = refl
   binds which d place [] [] (p ∷ ps) give are = absurd are
@@ -88,7 +91,7 @@ module _ (prefix : List ℕ) (look : Look) where
       ∙ ap Some (binds_one (settings_of which d f) (keeps (settings_of which d f)) place f x (kept_from which d (place + 1) fs) p.name are.0.name_is give.0)
 
   -- so a pattern binds them of a value of its variant
-  pattern_binds : (which : Comparison) (d : DeriveInput) (v : Variant) (value : Value) (pattern : Pattern) → variant_of d value ≡ Some v → FieldsGive look 0 (fields_in v) value.fields
+  pub pattern_binds : (which : Trait) (d : DeriveInput) (v : Variant) (value : Value) (pattern : Pattern) → variant_of d value ≡ Some v → FieldsGive look 0 (fields_in v) value.fields
       → IsPattern which d prefix v pattern → bindings_of d pattern value ≡ Some (map (own_binding prefix look) (kept_from which d 0 (fields_in v)))
   pattern_binds which d v value pattern found give is =
       ap (λ (o : Option Variant). bound_of o pattern value) found
@@ -121,7 +124,7 @@ pub record IsOf (d : DeriveInput) (variants : List Variant) (value : Value) : Ty
   pub give : FieldsGive (look_in variant value) 0 (fields_in variant) value.fields
 
 -- a value that has the shape of an enum is of one of its variants
-pub is_of : (which : Comparison) (d : DeriveInput) (variants : List Variant) → AreFit which d variants → (value : Value) → HasShape d value → IsOf d variants value
+pub is_of : (which : Trait) (d : DeriveInput) (variants : List Variant) → AreFit which d variants → (value : Value) → HasShape d value → IsOf d variants value
 is_of which d variants fit value shape =
     let there = map_at fields_in variants value.variant shape.fields (ap (λ (s : Shape). slice_get (shape_cases s) value.variant) (sym fit.is) ∙ shape.exists) in
     let v = there.0 in
@@ -171,28 +174,47 @@ module _ (d : DeriveInput) (value : Value) (v : Variant) (found : variant_of d v
   fits_no_other w pattern is apart =
       ap (is_named pattern.variant.text) found ∙ bytes_eq-differ v.ident.text pattern.variant.text (λ same. apart (ap unraw (sym (same ∙ ap (λ (i : Ident). i.text) is))))
 
-module _ (which : Comparison) (names : Names) (scene : Scene) (env : Env) (value : Value) (v : Variant) (found : variant_of scene.definition value ≡ Some v) where
+module _ (IsOwn : ℕ → Variant → Arm → Type 0) (named : (place : ℕ) (v : Variant) (arm : Arm) → IsOwn place v arm → arm.pattern.variant ≡ v.ident)
+    (scene : Scene) (env : Env) (value : Value) (v : Variant) (found : variant_of scene.definition value ≡ Some v) where
   -- the first arm, if it fits, or the others
   abbrev picks : Arm → List Arm → Bool → Flow
   picks arm arms b = if b then taken scene env arm.pattern value arm.block else arms_list scene env arms value
 
-  -- the arm of the variant, which is taken for the value
-  record IsTaken (arms : List Arm) : Type 0 where
-    arm : Arm
-    is : IsArm which scene.definition names v arm
-    value_is : arms_list scene env arms value ≡ taken scene env arm.pattern value arm.block
+  -- the arm of the variant at a place, which is taken for the value
+  pub record IsTaken (place : ℕ) (arms : List Arm) : Type 0 where
+    pub arm : Arm
+    pub is : IsOwn place v arm
+    pub value_is : arms_list scene env arms value ≡ taken scene env arm.pattern value arm.block
 
   -- it is among the arms
-  arm_at : (vs : List Variant) (arms : List Arm) (k : ℕ) → AllZip (IsArm which scene.definition names) vs arms → AreApart (variant_names vs) → slice_get vs k ≡ Some v → IsTaken arms
-  arm_at [] arms k are apart at = absurd (cc)
-  arm_at (w ∷ vs) [] k are apart at = absurd are
-  arm_at (w ∷ vs) (arm ∷ arms) zero are apart at =
-      let is = subst (λ (v : Variant). IsArm which scene.definition names v arm) (same_Some w v at) are.0 in
-      record { arm = arm; is = is; value_is = ap (picks arm arms) (fits_own scene.definition value v found arm.pattern is.own_is.variant_is) }
-  arm_at (w ∷ vs) (arm ∷ arms) (suc k) are apart at =
-      let later = arm_at vs arms k are.1 apart.1 at in
-      let past = fits_no_other scene.definition value v found w arm.pattern are.0.own_is.variant_is (apart_first w vs k v apart.0 at) in
-      record { arm = later.arm; is = later.is; value_is = ap (picks arm arms) past ∙ later.value_is }
+  pub arm_at : (place : ℕ) (vs : List Variant) (arms : List Arm) (k : ℕ) → AreArms IsOwn place vs arms → AreApart (variant_names vs) → slice_get vs k ≡ Some v → IsTaken (place + k) arms
+  arm_at place [] arms k are apart at = absurd (cc)
+  arm_at place (w ∷ vs) [] k are apart at = absurd are
+  arm_at place (w ∷ vs) (arm ∷ arms) zero are apart at =
+      let here : place ≡ place + 0 = omega arith in
+      let is = subst (λ (n : ℕ). IsOwn n v arm) here (subst (λ (v : Variant). IsOwn place v arm) (same_Some w v at) are.0) in
+      record { arm = arm; is = is; value_is = ap (picks arm arms) (fits_own scene.definition value v found arm.pattern (named (place + 0) v arm is)) }
+  arm_at place (w ∷ vs) (arm ∷ arms) (suc k) are apart at =
+      let later = arm_at (place + 1) vs arms k are.1 apart.1 at in
+      let there : place + 1 + k ≡ place + suc k = omega arith in
+      let past = fits_no_other scene.definition value v found w arm.pattern (named place w arm are.0) (apart_first w vs k v apart.0 at) in
+      record { arm = later.arm; is = subst (λ (n : ℕ). IsOwn n v later.arm) there later.is; value_is = ap (picks arm arms) past ∙ later.value_is }
+
+-- arms that go by the variants alone
+arms_placed : (IsOwn : Variant → Arm → Type 0) (place : ℕ) (vs : List Variant) (arms : List Arm) → AllZip IsOwn vs arms → AreArms (λ _. IsOwn) place vs arms
+arms_placed IsOwn place [] [] are = tt
+arms_placed IsOwn place [] (arm ∷ arms) are = absurd are
+arms_placed IsOwn place (v ∷ vs) [] are = absurd are
+arms_placed IsOwn place (v ∷ vs) (arm ∷ arms) are = (are.0, arms_placed IsOwn (place + 1) vs arms are.1)
+
+-- a match on the value of `self` comes to its arms
+pub self_matched : (scene : Scene) (env : Env) (a : Value) → scene.this ≡ Some a → look_up env.names (codes "self") ≡ Some This → (name : Ident) (arms : List Arm) → name.text ≡ codes "self"
+    → form_value scene env (MatchValue name arms) ≡ arms_list scene env arms a
+self_matched scene env a this_is own name arms is =
+    lawful_forms.match_value scene env name arms
+    ∙ ap (λ (text : List ℕ). with_value (value_named scene (look_up env.names text)) (arms_list scene env arms)) is
+    ∙ ap (λ (o : Option Referent). with_value (value_named scene o) (arms_list scene env arms)) own
+    ∙ ap (λ (o : Option Value). with_value o (arms_list scene env arms)) this_is
 
 -- ---- what an arm comes to
 
@@ -208,18 +230,18 @@ module _ (which : Comparison) (d : DeriveInput) (table : Answers) (a b : Value) 
   scene = scene_of d a b table
 
   abbrev env : Env
-  env = record { names = outer }
+  env = record { names = outer; parts = [] }
 
   abbrev env_apart : AllByRecursion (IsApart d.tokens) outer
-  env_apart = outer_apart d names are outer around.known
+  env_apart = around_apart d names are outer around.known
 
   module _ (kept : List Kept) (differ : AreDifferent (map kept_key kept)) (look_a look_b : Look) where
     -- the names behind the pattern for the first value, and behind that for the second
     abbrev own_env : Env
-    own_env = record { names = with_variables outer names.own look_a kept }
+    own_env = record { names = with_variables outer names.own look_a kept; parts = [] }
 
     abbrev arm_env : Env
-    arm_env = record { names = with_variables own_env.names names.others look_b kept }
+    arm_env = record { names = with_variables own_env.names names.others look_b kept; parts = [] }
 
     abbrev apart : AllByRecursion (IsApart d.tokens) arm_env.names
     apart = arm_apart d names are kept differ outer around look_a look_b
@@ -227,14 +249,14 @@ module _ (which : Comparison) (d : DeriveInput) (table : Answers) (a b : Value) 
     -- the variables for the first value give the values of their fields
     reads_own : (k : Kept) → In k kept → Reads scene arm_env d.tokens apart which (bound names.own) (bound names.others) look_a look_b (bound names.own) look_a k
     reads_own k found x r =
-        ap (form_value scene arm_env) r.is ∙ ap (λ (text : List ℕ). part_flow arm_env (local_value scene (look_up arm_env.names text))) r.name_is
-        ∙ ap (λ (o : Option Referent). part_flow arm_env (local_value scene o)) (own_found d names are kept differ outer around look_a look_b k found)
+        ap (form_value scene arm_env) r.is ∙ ap (λ (text : List ℕ). local_flow scene arm_env (look_up arm_env.names text)) r.name_is
+        ∙ ap (local_flow scene arm_env) (own_found d names are kept differ outer around look_a look_b k found)
 
     -- so do those for the second value
     reads_others : (k : Kept) → In k kept → Reads scene arm_env d.tokens apart which (bound names.own) (bound names.others) look_a look_b (bound names.others) look_b k
     reads_others k found x r =
-        ap (form_value scene arm_env) r.is ∙ ap (λ (text : List ℕ). part_flow arm_env (local_value scene (look_up arm_env.names text))) r.name_is
-        ∙ ap (λ (o : Option Referent). part_flow arm_env (local_value scene o)) (others_found d names are kept differ outer around look_a look_b k found)
+        ap (form_value scene arm_env) r.is ∙ ap (λ (text : List ℕ). local_flow scene arm_env (look_up arm_env.names text)) r.name_is
+        ∙ ap (local_flow scene arm_env) (others_found d names are kept differ outer around look_a look_b k found)
 
     -- the names end with the block
     cut : take (length outer) (take (length own_env.names) arm_env.names) ≡ outer
@@ -244,8 +266,8 @@ module _ (which : Comparison) (d : DeriveInput) (table : Answers) (a b : Value) 
 
     -- what is decided is so outside
     left : (o : Option Compared) → leave outer (leave own_env.names (decided scene arm_env d.tokens apart which o)) ≡ decided scene env d.tokens env_apart which o
-    left None = λ i. Gives (record { names = cut i }) Nothing
-    left (Some c) = λ i. Returns (record { names = cut i }) (known_thing (word_of which table c))
+    left None = λ i. Gives (record { names = cut i; parts = [] }) Nothing
+    left (Some c) = λ i. Returns (record { names = cut i; parts = [] }) (known_thing (word_of which table c))
 
     module _ (v : Variant) (arm : Arm) (is : IsArm which d names v arm) (binds_a : bindings_of d arm.pattern a ≡ Some (map (own_binding names.own look_a) kept)) where
       -- an arm is its `if let` on the second value
@@ -302,67 +324,67 @@ module _ (which : Comparison) (d : DeriveInput) (table : Answers) (a b : Value) 
 
     -- a match on `self` comes to the arms, and then to what is answered where none returned
     matched : list_value scene env Nothing block ≡ then_neutral (arms_list scene env m.arms a)
-    matched =
-        ap (list_value scene env Nothing) m.block_is
-        ∙ ap then_neutral (lawful_forms.match_value scene env m.value m.arms
-        ∙ ap (λ (text : List ℕ). with_value (value_named scene (look_up outer text)) (arms_list scene env m.arms)) m.value_is.is
-        ∙ ap (λ (o : Option Referent). with_value (value_named scene o) (arms_list scene env m.arms)) around.own)
+    matched = ap (list_value scene env Nothing) m.block_is ∙ ap then_neutral (self_matched scene env a refl around.own m.value m.arms m.value_is.is)
 
 -- on two values of one variant, a match means what the fields that take part mean
-pub match_same : (which : Comparison) (d : DeriveInput) (table : Answers) (a b : Value) (names : Names) (variants : List Variant) → AreNames d names → AreFit which d variants
+pub match_same : (which : Comparison) (d : DeriveInput) (table : Answers) (a b : Value) (names : Names) (variants : List Variant) → AreNames d names → AreFit (trait_of which) d variants
     → (outer : List Binding) → IsOuter names outer → (block : List Form) → IsMatch which d names variants block → HasShape d a → HasShape d b → a.variant ≡ b.variant
     → AllByRecursion (λ c. IsSome (says which table c)) (compared which d a b)
-    → outcome_of (list_value (scene_of d a b table) (record { names = outer }) Nothing block) ≡ fields_meaning which table (compared which d a b)
+    → outcome_of (list_value (scene_of d a b table) (record { names = outer; parts = [] }) Nothing block) ≡ fields_meaning which table (compared which d a b)
 match_same which d table a b names variants are fit outer around block m shape_a shape_b same known =
     let sc = scene_of d a b table in
-    let outside : Env = record { names = outer } in
-    let of_a = is_of which d variants fit a shape_a in
-    let of_b = is_of which d variants fit b shape_b in
+    let outside : Env = record { names = outer; parts = [] } in
+    let of_a = is_of (trait_of which) d variants fit a shape_a in
+    let of_b = is_of (trait_of which) d variants fit b shape_b in
     let v = of_a.variant in
     let fs = fields_in v in
-    let kept = kept_fields which d fs in
+    let kept = kept_fields (trait_of which) d fs in
     let one : of_b.variant ≡ v = same_Some of_b.variant v (sym of_b.at ∙ ap (slice_get variants) (sym same) ∙ of_a.at) in
     let found_b : variant_of d b ≡ Some v = of_b.found ∙ ap Some one in
     let look_a = look_in v a in
     let look_b = look_in v b in
     let give_b : FieldsGive look_b 0 fs b.fields = subst (λ (v : Variant). FieldsGive (look_in v b) 0 (fields_in v) b.fields) one of_b.give in
-    let differ = fields_different which d fs of_a.names of_a.few in
-    let picked = arm_at which names sc outside a v of_a.found variants m.arms a.variant m.arms_are fit.names of_a.at in
+    let differ = fields_different (trait_of which) d fs of_a.names of_a.few in
+    let Own : ℕ → Variant → Arm → Type 0 = λ _. IsArm which d names in
+    let picked = arm_at Own (λ _ v arm is. is.own_is.variant_is) sc outside a v of_a.found 0 variants m.arms a.variant
+    (arms_placed (IsArm which d names) 0 variants m.arms m.arms_are) fit.names of_a.at in
     let is = picked.is in
     let paired : compared which d a b ≡ map (seen look_a look_b) kept =
     ap (λ (own : List Field). compared_from which d 0 own a.fields b.fields) of_a.case_is ∙ compared-seen look_a look_b which d 0 fs a.fields b.fields of_a.give give_b in
     let Known : Compared → Type 0 = λ c. IsSome (says which table c) in
     let each = each_map Known (seen look_a look_b) kept (subst (AllByRecursion Known) paired known) in
-    let named = In-all (λ (v : Variant). AllByRecursion (λ k. HasOwnPath d.tokens k.how) (kept_fields which d (fields_in v))) variants v fit.methods of_a.inside in
+    let named = In-all (λ (v : Variant). AllByRecursion (λ k. HasOwnPath d.tokens k.how) (kept_fields (trait_of which) d (fields_in v))) variants v fit.methods of_a.inside in
     let arm_value = arm_same which d table a b names are outer around kept differ look_a look_b v picked.arm is
-    (pattern_binds names.own look_a which d v a picked.arm.pattern of_a.found of_a.give is.own_is)
-    (each_in_order which (λ k. In k kept) kept is.ordered is.ordered_is (each_in kept)) (each_in_order which (λ k. HasOwnPath d.tokens k.how) kept is.ordered is.ordered_is named)
-    (each_mapped Known (seen look_a look_b) is.ordered (each_in_order which (λ k. Known (seen look_a look_b k)) kept is.ordered is.ordered_is each))
-    (fits_own d b v found_b is.inner is.inner_is.variant_is) (pattern_binds names.others look_b which d v b is.inner found_b give_b is.inner_is) in
+    (pattern_binds names.own look_a (trait_of which) d v a picked.arm.pattern of_a.found of_a.give is.own_is)
+    (each_in_order (trait_of which) (λ k. In k kept) kept is.ordered is.ordered_is (each_in kept)) (each_in_order (trait_of which) (λ k. HasOwnPath d.tokens k.how) kept is.ordered is.ordered_is named)
+    (each_mapped Known (seen look_a look_b) is.ordered (each_in_order (trait_of which) (λ k. Known (seen look_a look_b k)) kept is.ordered is.ordered_is each))
+    (fits_own d b v found_b is.inner is.inner_is.variant_is) (pattern_binds names.others look_b (trait_of which) d v b is.inner found_b give_b is.inner_is) in
     ap outcome_of (matched which d table a b names are outer around variants block m
     ∙ ap (then_neutral which d table a b names are outer around variants block m) (picked.value_is ∙ arm_value))
-    ∙ ended sc outside d.tokens (outer_apart d names are outer around.known) which (first_where (differs which table) (map (seen look_a look_b) is.ordered))
+    ∙ steps_ended sc outside d.tokens (around_apart d names are outer around.known) which (first_where (differs which table) (map (seen look_a look_b) is.ordered))
     ∙ means_in_order which table look_a look_b kept is.ordered (compared which d a b) is.ordered_is paired known
 
 -- on values of two variants, the match of `eq` means false
-pub match_differs : (d : DeriveInput) (table : Answers) (a b : Value) (names : Names) (variants : List Variant) → AreNames d names → AreFit PartialEq d variants
+pub match_differs : (d : DeriveInput) (table : Answers) (a b : Value) (names : Names) (variants : List Variant) → AreNames d names → AreFit trait.PartialEq d variants
     → (outer : List Binding) → IsOuter names outer → (block : List Form) → IsMatch PartialEq d names variants block → HasShape d a → HasShape d b → (a.variant ≡ b.variant → ⊥)
-    → outcome_of (list_value (scene_of d a b table) (record { names = outer }) Nothing block) ≡ OutcomeTruth false
+    → outcome_of (list_value (scene_of d a b table) (record { names = outer; parts = [] }) Nothing block) ≡ OutcomeTruth false
 match_differs d table a b names variants are fit outer around block m shape_a shape_b other =
     let sc = scene_of d a b table in
-    let outside : Env = record { names = outer } in
-    let of_a = is_of PartialEq d variants fit a shape_a in
-    let of_b = is_of PartialEq d variants fit b shape_b in
+    let outside : Env = record { names = outer; parts = [] } in
+    let of_a = is_of trait.PartialEq d variants fit a shape_a in
+    let of_b = is_of trait.PartialEq d variants fit b shape_b in
     let v = of_a.variant in
-    let kept = kept_fields PartialEq d (fields_in v) in
+    let kept = kept_fields trait.PartialEq d (fields_in v) in
     let look_a = look_in v a in
-    let differ = fields_different PartialEq d (fields_in v) of_a.names of_a.few in
-    let picked = arm_at PartialEq names sc outside a v of_a.found variants m.arms a.variant m.arms_are fit.names of_a.at in
+    let differ = fields_different trait.PartialEq d (fields_in v) of_a.names of_a.few in
+    let Own : ℕ → Variant → Arm → Type 0 = λ _. IsArm PartialEq d names in
+    let picked = arm_at Own (λ _ v arm is. is.own_is.variant_is) sc outside a v of_a.found 0 variants m.arms a.variant
+    (arms_placed (IsArm PartialEq d names) 0 variants m.arms m.arms_are) fit.names of_a.at in
     let is = picked.is in
     let fails = fits_no_other d b of_b.variant of_b.found v is.inner is.inner_is.variant_is (apart_at variants a.variant b.variant v of_b.variant fit.names of_a.at of_b.at other) in
     let arm_value = arm_differs PartialEq d table a b names are outer around kept differ look_a look_a v picked.arm is
-    (pattern_binds names.own look_a PartialEq d v a picked.arm.pattern of_a.found of_a.give is.own_is) fails in
-    let own_env : Env = record { names = with_variables outer names.own look_a kept } in
+    (pattern_binds names.own look_a trait.PartialEq d v a picked.arm.pattern of_a.found of_a.give is.own_is) fails in
+    let own_env : Env = record { names = with_variables outer names.own look_a kept; parts = [] } in
     let end : Flow → Flow = then_neutral PartialEq d table a b names are outer around variants block m in
     ap outcome_of (matched PartialEq d table a b names are outer around variants block m ∙ ap end (picked.value_is ∙ arm_value)
     ∙ ap (λ (o : Option (List Form)). end (leave outer (or_nothing own_env (held_list sc o)))) is.others_are

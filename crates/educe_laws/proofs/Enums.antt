@@ -11,9 +11,10 @@ use Rattle.std.proofs.lemmas.Map.Lookups.{exact_signed}
 use Rattle.std.proofs.lemmas.Option.{none-some}
 use Rattle.educe_syntax.specs.DeriveInput.{DeriveInput}
 use Rattle.educe_syntax.specs.Variant.{Variant}
-use Rattle.educe_body.specs.Meaning.{Scene, form_value, list_value, go_on, leave, start, some_of, order_thing, order_match, held_list, outcome_of}
+use Rattle.educe_body.specs.Meaning.{Scene, form_value, list_value, go_on, leave, start, some_of, order_thing, order_match, held_list, outcome_of, ended}
 use Rattle.educe_body.specs.declared.answers.Answers.{Answers}
 use Rattle.educe_body.specs.declared.body.Body.{Body}
+use Rattle.educe_bound.specs.declared.traits.Trait.TheVariants as trait
 use Rattle.educe_body.specs.declared.comparison.Comparison.{Comparison}
 use Rattle.educe_body.specs.declared.comparison.Comparison.TheVariants.{PartialEq, PartialOrd, Ord}
 use Rattle.educe_body.specs.declared.environment.Binding.{Binding}
@@ -26,11 +27,12 @@ use Rattle.educe_body.specs.declared.form.Form.{Form}
 use Rattle.educe_body.specs.declared.form.Known.{Known}
 use Rattle.educe_body.specs.declared.value.Value.{Value}
 use Rattle.educe_laws.specs.Arms.{Names, AreNames, IsMatch, IsKeyComparison, in_answer, is_partial, IsDecision, has_brackets, is_unit, are_units, IsKeyed, IsEnumBlock}
-use Rattle.educe_laws.specs.Blocks.{IsEnumBody, Evaluates, scene_of}
+use Rattle.educe_laws.specs.Blocks.{IsEnumBody, Compares, scene_of}
 use Rattle.educe_laws.specs.BodyLaws.{lawful_forms}
 use Rattle.educe_laws.specs.Cases.{fields_in, case_of}
 use Rattle.educe_laws.specs.Comparing.{compared_from, compared, Covers, equal, neutral, order, number_order, as_answer, discriminants_first, outcome, meaning}
-use Rattle.educe_laws.specs.Comparisons.{is_order}
+use Rattle.educe_laws.specs.Comparisons.{trait_of}
+use Rattle.educe_laws.specs.Rows.{is_order}
 use Rattle.educe_laws.specs.Discriminants.{discriminant, flat, counted, discriminant_of}
 use Rattle.educe_laws.proofs.Arms.{IsOf, is_of, go_on-end, match_same, match_differs}
 use Rattle.educe_laws.proofs.Elements.{In-found, In-all}
@@ -68,14 +70,14 @@ left_outcome names (Returns env thing) = refl
 left_outcome names Stuck = refl
 
 -- an order as the trait answers it
-answer_outcome : (which : Comparison) (scene : Scene) (env : Env) (x : Form) (o : Ordering) → IsTrue (is_order which) → form_value scene env x ≡ Gives env (Order o)
+answer_outcome : (which : Comparison) (scene : Scene) (env : Env) (x : Form) (o : Ordering) → IsTrue (is_order (trait_of which)) → form_value scene env x ≡ Gives env (Order o)
     → outcome_of (form_value scene env (in_answer which x)) ≡ outcome (as_answer which o)
 answer_outcome PartialEq scene env x o ordered gives = absurd (false≢true ordered)
 answer_outcome PartialOrd scene env x o ordered gives = ap outcome_of (lawful_forms.in_some scene env x ∙ ap (λ flow. go_on flow some_of) gives)
 answer_outcome Ord scene env x o ordered gives = ap outcome_of gives
 
 -- an order as an arm gives it
-arm_outcome : (which : Comparison) (env : Env) (o : Ordering) → IsTrue (is_order which) → outcome_of (Gives env (order_thing (is_partial which) o)) ≡ outcome (as_answer which o)
+arm_outcome : (which : Comparison) (env : Env) (o : Ordering) → IsTrue (is_order (trait_of which)) → outcome_of (Gives env (order_thing (is_partial which) o)) ≡ outcome (as_answer which o)
 arm_outcome PartialEq env o ordered = absurd (false≢true ordered)
 arm_outcome PartialOrd env o ordered = refl
 arm_outcome Ord env o ordered = refl
@@ -100,39 +102,39 @@ unit_fields d variants value of units =
 
 -- ---- the blocks of enums
 
-module _ (which : Comparison) (d : DeriveInput) (variants : List Variant) (fit : AreFit which d variants) (names : Names) (are : AreNames d names) (table : Answers) (a b : Value)
+module _ (which : Comparison) (d : DeriveInput) (variants : List Variant) (fit : AreFit (trait_of which) d variants) (names : Names) (are : AreNames d names) (table : Answers) (a b : Value)
     (covers : Covers which table d a b) where
   abbrev scene : Scene
   scene = scene_of d a b table
 
   -- what the block evaluates to in the scope of a function
   abbrev Means : List Form → Type 0
-  Means block = outcome_of (list_value scene (record { names = names_for names.other }) Nothing block) ≡ meaning which table d a b
+  Means block = outcome_of (list_value scene (record { names = names_for names.other; parts = [] }) Nothing block) ≡ meaning which table d a b
 
   -- each value is of a variant
   abbrev of_a : IsOf d variants a
-  of_a = is_of which d variants fit a covers.first
+  of_a = is_of (trait_of which) d variants fit a covers.first
 
   abbrev of_b : IsOf d variants b
-  of_b = is_of which d variants fit b covers.second
+  of_b = is_of (trait_of which) d variants fit b covers.second
 
   -- in any scope a match on two values of one variant evaluates to what the comparison means
   matched : (outer : List Binding) → IsOuter names outer → (block : List Form) → IsMatch which d names variants block → a.variant ≡ b.variant
-      → outcome_of (list_value scene (record { names = outer }) Nothing block) ≡ meaning which table d a b
+      → outcome_of (list_value scene (record { names = outer; parts = [] }) Nothing block) ≡ meaning which table d a b
   matched outer is block k same =
       match_same which d table a b names variants are fit outer is block k covers.first covers.second same (covers.each same)
       ∙ same_case which table d a b same
       (ap (λ (v : ℕ). number_order (flat (slice_get (map (discriminant table) (counted d)) v)) (discriminant_of table d b)) same ∙ number_order-same (discriminant_of table d b))
 
-  module _ (ordered : IsTrue (is_order which)) (m n : ℤ) (m_is : discriminant_of table d a ≡ Some m) (n_is : discriminant_of table d b ≡ Some n) (one : int_cmp m n ≡ Equal → a.variant ≡ b.variant) where
+  module _ (ordered : IsTrue (is_order (trait_of which))) (m n : ℤ) (m_is : discriminant_of table d a ≡ Some m) (n_is : discriminant_of table d b ≡ Some n) (one : int_cmp m n ≡ Equal → a.variant ≡ b.variant) where
     abbrev after : Env
-    after = record { names = keyed names m n }
+    after = record { names = keyed names m n; parts = [] }
 
     -- an order means that of the discriminants, or where that is Equal that of the fields
     means : (o : Ordering) → int_cmp m n ≡ o → meaning which table d a b ≡ outcome (discriminants_first which o (order which table (compared which d a b)))
     means o is = by_trait which ordered ∙ ap (λ o. outcome (discriminants_first which o (order which table (compared which d a b)))) is
       where
-        by_trait : (which : Comparison) → IsTrue (is_order which) → meaning which table d a b ≡ outcome (discriminants_first which (int_cmp m n) (order which table (compared which d a b)))
+        by_trait : (which : Comparison) → IsTrue (is_order (trait_of which)) → meaning which table d a b ≡ outcome (discriminants_first which (int_cmp m n) (order which table (compared which d a b)))
         by_trait PartialEq ordered = absurd (false≢true ordered)
         by_trait PartialOrd ordered = λ i. outcome (discriminants_first PartialOrd (number_order (m_is i) (n_is i)) (order PartialOrd table (compared PartialOrd d a b)))
         by_trait Ord ordered = λ i. outcome (discriminants_first Ord (number_order (m_is i) (n_is i)) (order Ord table (compared Ord d a b)))
@@ -160,21 +162,21 @@ module _ (which : Comparison) (d : DeriveInput) (variants : List Variant) (fit :
         ∙ arms_value block block_is (int_cmp m n) refl
 
   -- the block of an order
-  order_value : IsTrue (is_order which) → (block : List Form) → IsKeyed which d names variants block → Means block
+  order_value : IsTrue (is_order (trait_of which)) → (block : List Form) → IsKeyed which d names variants block → Means block
   order_value ordered block k =
       let has = covers.ordered ordered in
-      let m = number_at which d table variants fit has.numbers has.have a of_a in
-      let n = number_at which d table variants fit has.numbers has.have b of_b in
+      let m = number_at (trait_of which) d table variants fit has.numbers has.have a of_a in
+      let n = number_at (trait_of which) d table variants fit has.numbers has.have b of_b in
       let one : int_cmp m.0 n.0 ≡ Equal → a.variant ≡ b.variant =
       λ alike. one_place has.numbers a.variant b.variant m.0 has.distinct m.1 (n.1 ∙ ap Some (sym (exact_signed m.0 n.0 alike))) in
-      ap (λ block. outcome_of (list_value scene (record { names = names_for names.other }) Nothing block)) k.block_is
+      ap (λ block. outcome_of (list_value scene (record { names = names_for names.other; parts = [] }) Nothing block)) k.block_is
       ∙ ap (λ flow. outcome_of (go_on flow (λ env thing. list_value scene env thing (k.decision ∷ []))))
-      (keys_value d names are a b table which variants fit has.numbers has.have of_a of_b m.0 n.0 m.2 n.2 k.keys k.keys_are)
-      ∙ ap outcome_of (go_on-end (form_value scene (record { names = keyed names m.0 n.0 }) k.decision))
+      (keys_value d names are a b table (trait_of which) variants fit has.numbers has.have of_a of_b m.0 n.0 m.2 n.2 k.keys k.keys_are)
+      ∙ ap outcome_of (go_on-end (form_value scene (record { names = keyed names m.0 n.0; parts = [] }) k.decision))
       ∙ decision_value ordered m.0 n.0 m.2 n.2 one k.compares k.comparison_is k.decision (are_units variants) refl k.decision_is
 
 -- the block of an equality
-equal_value : (d : DeriveInput) (variants : List Variant) (fit : AreFit PartialEq d variants) (names : Names) (are : AreNames d names) (table : Answers) (a b : Value)
+equal_value : (d : DeriveInput) (variants : List Variant) (fit : AreFit trait.PartialEq d variants) (names : Names) (are : AreNames d names) (table : Answers) (a b : Value)
     (covers : Covers PartialEq table d a b) (block : List Form) → IsMatch PartialEq d names variants block → Means PartialEq d variants fit names are table a b covers block
 equal_value d variants fit names are table a b covers block k = by_variant (a.variant == b.variant) refl
   where
@@ -189,15 +191,15 @@ equal_value d variants fit names are table a b covers block k = by_variant (a.va
 -- ---- the bodies of enums
 
 -- the body of a comparison of an enum evaluates to what it means
-pub enum_evaluates : (which : Comparison) (d : DeriveInput) (variants : List Variant) (body : Body) → AreFit which d variants → IsEnumBody which d variants body → Evaluates which d body
+pub enum_evaluates : (which : Comparison) (d : DeriveInput) (variants : List Variant) (body : Body) → AreFit (trait_of which) d variants → IsEnumBody which d variants body → Compares which d body
 enum_evaluates which d variants body fit k table a b covers =
-    (λ i. outcome_of (list_value (scene_of d a b table) (start (k.params_are i)) Nothing body.block))
-    ∙ (λ i. outcome_of (list_value (scene_of d a b table) (record { names = names_for (k.param_is i) }) Nothing body.block))
+    (λ i. ended (k.params_are i) (list_value (scene_of d a b table) (start (k.params_are i)) Nothing body.block))
+    ∙ (λ i. outcome_of (list_value (scene_of d a b table) (record { names = names_for (k.param_is i); parts = [] }) Nothing body.block))
     ∙ by_trait which variants fit k.block_is covers
   where
-    by_trait : (which : Comparison) (variants : List Variant) (fit : AreFit which d variants) → IsEnumBlock which d k.names variants body.block → (covers : Covers which table d a b)
+    by_trait : (which : Comparison) (variants : List Variant) (fit : AreFit (trait_of which) d variants) → IsEnumBlock which d k.names variants body.block → (covers : Covers which table d a b)
         → Means which d variants fit k.names k.names_are table a b covers body.block
-    by_trait which [] fit is covers = absurd (is_of which d [] fit a covers.first).inside
+    by_trait which [] fit is covers = absurd (is_of (trait_of which) d [] fit a covers.first).inside
     by_trait PartialEq (v ∷ vs) fit is covers = equal_value d (v ∷ vs) fit k.names k.names_are table a b covers body.block is
     by_trait PartialOrd (v ∷ vs) fit is covers = order_value PartialOrd d (v ∷ vs) fit k.names k.names_are table a b covers refl body.block is
     by_trait Ord (v ∷ vs) fit is covers = order_value Ord d (v ∷ vs) fit k.names k.names_are table a b covers refl body.block is

@@ -1,16 +1,18 @@
 -- What the functions of an enum rest on: its names, its methods and its discriminants, and the names in scope around an arm.
-use Rattle.std.proofs.Common.{◌≡◌, ◌≤◌, ◌^◌, ◌⊎◌, List, length, Some}
+use Rattle.std.proofs.Common.{◌≡◌, ◌≤◌, ◌^◌, ◌⊎◌, ℕ, false, List, length, Some, refl}
 use Rattle.std.specs.Prelude.{codes}
 use Rattle.std.specs.List.{AllByRecursion}
+use Rattle.std.specs.Str.{bytes_eq}
 use Rattle.educe_syntax.specs.DeriveInput.{DeriveInput}
+use Rattle.educe_syntax.specs.Keywords.{unraw}
 use Rattle.educe_syntax.specs.Naming.{AreApart, field_names, variant_names}
 use Rattle.educe_syntax.specs.Shape.TheVariants.{Enum}
 use Rattle.educe_syntax.specs.Variant.{Variant}
-use Rattle.educe_body.specs.declared.comparison.Comparison.{Comparison}
+use Rattle.educe_bound.specs.declared.traits.Trait.{Trait}
 use Rattle.educe_body.specs.declared.environment.Binding.{Binding}
 use Rattle.educe_body.specs.declared.environment.Referent.TheVariants.{This, Other}
 use Rattle.educe_body.specs.Meaning.{look_up}
-use Rattle.educe_laws.specs.Arms.{Names, chosen_names}
+use Rattle.educe_laws.specs.Arms.{Names, plain_names, chosen_names}
 use Rattle.educe_laws.specs.Cases.{fields_in}
 use Rattle.educe_laws.proofs.Elements.{In}
 use Rattle.educe_laws.proofs.OwnTexts.{HasOwnNumber}
@@ -18,7 +20,7 @@ use Rattle.educe_laws.proofs.Structs.{HaveOwnMethods}
 
 -- the definition is an enum of these variants: their names are apart, and so are those of the fields of each; and the identifiers in
 -- methods and discriminants are words of the definition
-pub record AreFit (which : Comparison) (d : DeriveInput) (variants : List Variant) : Type 0 where
+pub record AreFit (which : Trait) (d : DeriveInput) (variants : List Variant) : Type 0 where
   pub is : d.shape ≡ Enum variants
   pub names : AreApart (variant_names variants)
   pub fields : AllByRecursion (λ v. AreApart (field_names (fields_in v))) variants
@@ -27,11 +29,20 @@ pub record AreFit (which : Comparison) (d : DeriveInput) (variants : List Varian
   pub numbers : AllByRecursion (λ (v : Variant). HasOwnNumber d.tokens v.discriminant) variants
 
 -- the name is `self`, or one of those that were chosen
-abbrev pub IsOwnName : Names → Binding → Type 0
-IsOwnName names binding = (binding.name ≡ codes "self") ⊎ In binding.name (chosen_names names)
+abbrev pub IsOwnName : List (List ℕ) → Binding → Type 0
+IsOwnName names binding = (binding.name ≡ codes "self") ⊎ In binding.name names
+
+-- names as they are written where nothing is in their way: they have no `r#`, and none of them is `self`
+pub record ArePlain (names : List (List ℕ)) : Type 0 where
+  pub raw : AllByRecursion (λ text. unraw text ≡ text) names
+  pub others : AllByRecursion (λ text. bytes_eq text (codes "self") ≡ false) names
+
+-- those of an enum's comparison are such
+pub are_plain : ArePlain plain_names
+are_plain = record { raw = (refl, (refl, (refl, (refl, tt)))); others = (refl, (refl, (refl, (refl, tt)))) }
 
 -- the names in scope around a match: `self` and the second value are among them, and they stand for these
 pub record IsOuter (names : Names) (outer : List Binding) : Type 0 where
   pub own : look_up outer (codes "self") ≡ Some This
   pub other : look_up outer names.other ≡ Some Other
-  pub known : AllByRecursion (IsOwnName names) outer
+  pub known : AllByRecursion (IsOwnName (chosen_names names)) outer

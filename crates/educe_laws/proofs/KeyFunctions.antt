@@ -35,7 +35,7 @@ use Rattle.educe_body.specs.Scoping.{is_ident, is_hidden, is_bound, names_bound,
 use Rattle.educe_body.specs.declared.answers.Answers.{Answers}
 use Rattle.educe_body.specs.declared.callee.BuiltIn.TheVariants.{Cmp}
 use Rattle.educe_body.specs.declared.callee.Callee.{Callee}
-use Rattle.educe_body.specs.declared.comparison.Comparison.{Comparison}
+use Rattle.educe_bound.specs.declared.traits.Trait.{Trait}
 use Rattle.educe_body.specs.declared.environment.Binding.{Binding}
 use Rattle.educe_body.specs.declared.environment.Env.{Env}
 use Rattle.educe_body.specs.declared.environment.Referent.{Referent}
@@ -55,10 +55,10 @@ use Rattle.educe_laws.specs.BodyLaws.{lawful_forms, lawful_scopes}
 use Rattle.educe_laws.specs.Discriminants.{Counted, counted_from, counted, base_number, discriminant, discriminants, flat, discriminant_of, HaveNumbers}
 use Rattle.educe_laws.proofs.Arms.{IsOf, fits_own, fits_no_other, apart_first}
 use Rattle.educe_laws.proofs.Elements.{In, map_at, each_in, each_weaker}
-use Rattle.educe_laws.proofs.Facts.{AreFit, IsOwnName, IsOuter}
+use Rattle.educe_laws.proofs.Facts.{AreFit, IsOwnName, are_plain, IsOuter}
 use Rattle.educe_laws.proofs.OwnTexts.{HasOwnNumber}
 use Rattle.educe_laws.proofs.Structs.{names_for}
-use Rattle.educe_laws.proofs.Variables.{chosen_not_self, outer_apart}
+use Rattle.educe_laws.proofs.Variables.{name_not_self, around_apart}
 
 -- ---- constants
 
@@ -216,7 +216,7 @@ own_base : (d : DeriveInput) (table : Answers) (names : List Binding) → AllByR
 own_base d table names apart None own = tt
 own_base d table names apart (Some value) own = lawful_scopes.number d.tokens table names value apart own
 
-module _ (which : Comparison) (d : DeriveInput) (table : Answers) (variants : List Variant) (fit : AreFit which d variants) (numbers : List ℤ) (have : HaveNumbers table d numbers) where
+module _ (which : Trait) (d : DeriveInput) (table : Answers) (variants : List Variant) (fit : AreFit which d variants) (numbers : List ℤ) (have : HaveNumbers table d numbers) where
   -- the variants of what is counted are those of the enum
   counted_variants : map (λ (c : Counted). c.variant) (counted d) ≡ variants
   counted_variants = variants_counted None 0 (variants_of d) ∙ ap shape_variants fit.is
@@ -264,14 +264,14 @@ of_three m n own other function =
 module _ (d : DeriveInput) (names : Names) (are : AreNames d names) where
   -- neither the second value nor the key function is named `self`
   other_self : bytes_eq names.other (codes "self") ≡ false
-  other_self = bytes_eq-differ names.other (codes "self") (chosen_not_self d names are names.other (inl refl))
+  other_self = bytes_eq-differ names.other (codes "self") (name_not_self d plain_names (chosen_names names) are.are are_plain names.other (inl refl))
 
   function_self : bytes_eq names.discriminant (codes "self") ≡ false
-  function_self = bytes_eq-differ names.discriminant (codes "self") (chosen_not_self d names are names.discriminant (inr (inl refl)))
+  function_self = bytes_eq-differ names.discriminant (codes "self") (name_not_self d plain_names (chosen_names names) are.are are_plain names.discriminant (inr (inl refl)))
 
   -- and they have two names
   function_other : bytes_eq names.discriminant names.other ≡ false
-  function_other = (or_parts _ _ (lawful_names.apart are.words plain_names (chosen_names names) are.chosen).0).0
+  function_other = (or_parts _ _ (lawful_names.apart are.are.words plain_names (chosen_names names) are.are.chosen).0).0
 
   -- the scope of a function is one around a match
   pub outer_values : IsOuter names (names_for names.other)
@@ -300,21 +300,21 @@ module _ (d : DeriveInput) (names : Names) (are : AreNames d names) where
     scene = scene_of d a b table
 
     -- a key function adds one name to the scope, which stands for the discriminants
-    pub keys_value : (which : Comparison) (variants : List Variant) → AreFit which d variants → (numbers : List ℤ) → HaveNumbers table d numbers → IsOf d variants a → IsOf d variants b
+    pub keys_value : (which : Trait) (variants : List Variant) → AreFit which d variants → (numbers : List ℤ) → HaveNumbers table d numbers → IsOf d variants a → IsOf d variants b
         → (m n : ℤ) → discriminant_of table d a ≡ Some m → discriminant_of table d b ≡ Some n → (x : Form) → IsKeyFunction d names x
-        → form_value scene (record { names = names_for names.other }) x ≡ Gives (record { names = keyed names m n }) Nothing
+        → form_value scene (record { names = names_for names.other; parts = [] }) x ≡ Gives (record { names = keyed names m n; parts = [] }) Nothing
     keys_value which variants fit numbers have of_a of_b m n m_is n_is x k =
         let inner = names_for names.other ++ parameter k.this ∷ [] in
-        let known : AllByRecursion (IsOwnName names) inner = (inl refl, (inr (inl refl), (inr (inr (inr (inl (sym k.this_is.is)))), tt))) in
-        let apart = outer_apart d names are inner known in
+        let known : AllByRecursion (IsOwnName (chosen_names names)) inner = (inl refl, (inr (inl refl), (inr (inr (inr (inl (sym k.this_is.is)))), tt))) in
+        let apart = around_apart d names are inner known in
         let key_a = key_is which d table variants fit numbers have a of_a inner k.ty names.base k.arms apart k.ty_is k.arms_are ∙ m_is in
         let key_b = key_is which d table variants fit numbers have b of_b inner k.ty names.base k.arms apart k.ty_is k.arms_are ∙ n_is in
-        ap (form_value scene (record { names = names_for names.other })) k.is
-        ∙ (λ i. Gives (record { names = names_for names.other ++ record { name = k.function_is.is i; referent = Keys (key_a i) (key_b i) } ∷ [] }) Nothing)
+        ap (form_value scene (record { names = names_for names.other; parts = [] })) k.is
+        ∙ (λ i. Gives (record { names = names_for names.other ++ record { name = k.function_is.is i; referent = Keys (key_a i) (key_b i) } ∷ []; parts = [] }) Nothing)
 
     module _ (m n : ℤ) where
       abbrev after : Env
-      after = record { names = keyed names m n }
+      after = record { names = keyed names m n; parts = [] }
 
       -- a key is the number for what its value's name stands for
       key_value : (value : List ℕ) (r : Referent) (number : ℤ) → look_up after.names value ≡ Some r → number_for (Some m) (Some n) (Some r) ≡ Some number → (x : Form) → IsKeyOf names value x

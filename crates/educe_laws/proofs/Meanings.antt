@@ -8,12 +8,13 @@ use Rattle.std.proofs.lemmas.Bool.{false≢true, eq-eqb}
 use Rattle.std.proofs.lemmas.List.Sorted.{IsPermutation-map}
 use Rattle.educe_tokens.specs.declared.token.Token.{Token}
 use Rattle.educe_syntax.specs.DeriveInput.{DeriveInput}
+use Rattle.educe_bound.specs.declared.traits.Trait.{Trait}
 use Rattle.educe_body.specs.Meaning.{Scene, list_value, go_on, known_thing, outcome_of, outcome_of_thing}
 use Rattle.educe_body.specs.Scoping.{IsApart}
 use Rattle.educe_body.specs.declared.comparison.Comparison.{Comparison}
 use Rattle.educe_body.specs.declared.comparison.Comparison.TheVariants.{PartialEq, PartialOrd, Ord}
 use Rattle.educe_body.specs.declared.answers.Answer.{Answer}
-use Rattle.educe_body.specs.declared.answers.Answer.TheVariants.{Truth as AnswerTruth, Order as AnswerOrder, PartialOrder as AnswerPartialOrder, Number as AnswerNumber}
+use Rattle.educe_body.specs.declared.answers.Answer.TheVariants.{Truth as AnswerTruth}
 use Rattle.educe_body.specs.declared.answers.Answers.{Answers}
 use Rattle.educe_body.specs.declared.environment.Env.{Env}
 use Rattle.educe_body.specs.declared.value.Value.{Value}
@@ -22,10 +23,12 @@ use Rattle.educe_body.specs.declared.evaluator.Outcome.{Outcome}
 use Rattle.educe_body.specs.declared.evaluator.Outcome.TheVariants.{Truth as OutcomeTruth}
 use Rattle.educe_body.specs.declared.form.Known.{Known}
 use Rattle.educe_body.specs.declared.form.Known.TheVariants.{Truth, Order, PartialOrder}
+use Rattle.educe_laws.specs.Comparisons.{trait_of}
+use Rattle.educe_laws.specs.Rows.{is_order}
 use Rattle.educe_laws.specs.Settings.{Kept, How, plainly, by_method, by_order}
 use Rattle.educe_laws.specs.Comparing.{Compared, said, says, says_true, is_apart, differs, equal, compared, neutral, answered, order, outcome, number_order, discriminants_first, meaning}
 use Rattle.educe_laws.specs.Discriminants.{discriminant_of}
-use Rattle.educe_laws.specs.Steps.{IsInOrder, IsByRank}
+use Rattle.educe_laws.specs.Steps.{IsByRank, IsOrdered, IsInOrder}
 use Rattle.educe_laws.proofs.Elements.{each_moved}
 use Rattle.educe_laws.proofs.Least.{first_where, least_by-first}
 use Rattle.educe_laws.proofs.Pairing.{Look, seen}
@@ -34,29 +37,23 @@ use Rattle.educe_laws.proofs.Stepping.{decided}
 
 -- ---- the order of the fields
 
--- what holds of each field that takes part holds of each in the order of the comparison
-pub each_in_order : (which : Comparison) (P : Kept → Type 0) (kept ordered : List Kept) → IsInOrder which kept ordered → AllByRecursion P kept → AllByRecursion P ordered
-each_in_order PartialEq P kept ordered in_order each = subst (AllByRecursion P) (sym in_order) each
-each_in_order PartialOrd P kept ordered in_order each = each_moved P kept ordered in_order.same each
-each_in_order Ord P kept ordered in_order each = each_moved P kept ordered in_order.same each
+-- what holds of each field that takes part holds of each by rank, and of each as it is written
+each_ordered : (by_rank : Bool) (P : Kept → Type 0) (kept ordered : List Kept) → IsOrdered by_rank kept ordered → AllByRecursion P kept → AllByRecursion P ordered
+each_ordered true P kept ordered in_order each = each_moved P kept ordered in_order.same each
+each_ordered false P kept ordered in_order each = subst (AllByRecursion P) (sym in_order) each
+
+-- so it does in the order of the trait
+pub each_in_order : (which : Trait) (P : Kept → Type 0) (kept ordered : List Kept) → IsInOrder which kept ordered → AllByRecursion P kept → AllByRecursion P ordered
+each_in_order which = each_ordered (is_order which)
 
 -- what a field says to `PartialEq` is a truth value
 truth_said : (how : How) (answer : Option Answer) → IsSome (said PartialEq how answer) → (b : Bool) × (said PartialEq how answer ≡ Some (Truth b))
-truth_said plainly None known = absurd (false≢true known)
 truth_said plainly (Some (AnswerTruth b)) known = (not b, refl)
-truth_said plainly (Some (AnswerOrder o)) known = absurd (false≢true known)
-truth_said plainly (Some (AnswerPartialOrder p)) known = absurd (false≢true known)
-truth_said plainly (Some (AnswerNumber n)) known = absurd (false≢true known)
-truth_said (by_method path) None known = absurd (false≢true known)
+truth_said plainly answer known = absurd (false≢true known)
 truth_said (by_method path) (Some (AnswerTruth b)) known = (b, refl)
-truth_said (by_method path) (Some (AnswerOrder o)) known = absurd (false≢true known)
-truth_said (by_method path) (Some (AnswerPartialOrder p)) known = absurd (false≢true known)
-truth_said (by_method path) (Some (AnswerNumber n)) known = absurd (false≢true known)
-truth_said (by_order path) None known = absurd (false≢true known)
+truth_said (by_method path) answer known = absurd (false≢true known)
 truth_said (by_order path) (Some (AnswerTruth b)) known = (b, refl)
-truth_said (by_order path) (Some (AnswerOrder o)) known = absurd (false≢true known)
-truth_said (by_order path) (Some (AnswerPartialOrder p)) known = absurd (false≢true known)
-truth_said (by_order path) (Some (AnswerNumber n)) known = absurd (false≢true known)
+truth_said (by_order path) answer known = absurd (false≢true known)
 
 module _ (table : Answers) where
   equal_step : (c : Compared) (later : Option Compared) (rest b : Bool) → says PartialEq table c ≡ Some (Truth b) → answered PartialEq table later ≡ Truth rest
@@ -90,7 +87,7 @@ fields_meaning PartialOrd table cs = outcome (order PartialOrd table cs)
 fields_meaning Ord table cs = outcome (order Ord table cs)
 
 -- in the order of the trait the first field that tells the two values apart says what the fields mean
-pub means_in_order : (which : Comparison) (table : Answers) (look_a look_b : Look) (kept ordered : List Kept) (cs : List Compared) → IsInOrder which kept ordered
+pub means_in_order : (which : Comparison) (table : Answers) (look_a look_b : Look) (kept ordered : List Kept) (cs : List Compared) → IsInOrder (trait_of which) kept ordered
     → cs ≡ map (seen look_a look_b) kept → AllByRecursion (λ c. IsSome (says which table c)) cs
     → outcome (answered which table (first_where (differs which table) (map (seen look_a look_b) ordered))) ≡ fields_meaning which table cs
 means_in_order PartialEq table look_a look_b kept ordered cs in_order same known =
@@ -116,7 +113,7 @@ outcome_known (PartialOrder p) = refl
 
 module _ (scene : Scene) (env : Env) (input : List Token) (apart : AllByRecursion (IsApart input) env.names) (which : Comparison) where
   -- behind the steps stands what is answered where no field tells the two apart
-  pub ended : (o : Option Compared)
+  pub steps_ended : (o : Option Compared)
       → outcome_of (go_on (decided scene env input apart which o) (λ env thing. list_value scene env thing (form.Known (neutral which) ∷ []))) ≡ outcome (answered which scene.answers o)
-  ended None = outcome_known (neutral which)
-  ended (Some c) = outcome_known (answered which scene.answers (Some c))
+  steps_ended None = outcome_known (neutral which)
+  steps_ended (Some c) = outcome_known (answered which scene.answers (Some c))

@@ -25,13 +25,13 @@ use Rattle.educe_attrs.specs.Fields.{HaveNoCauses}
 use Rattle.educe_attrs.specs.Places.{OfField}
 use Rattle.educe_attrs.specs.Laws.{lawful_settings}
 use Rattle.educe_attrs.specs.Methods.{IsTextOf, standing, quoted}
-use Rattle.educe_body.specs.declared.comparison.Comparison.{Comparison}
+use Rattle.educe_bound.specs.declared.traits.Trait.{Trait}
 use Rattle.educe_body.specs.NameLaws.{lawful_names}
 use Rattle.educe_body.specs.Scoping.{is_ident, AreOwnNames}
 use Rattle.educe_body.specs.Words.{IsWordOf, ident, HasWord}
 use Rattle.educe_laws.specs.Cases.{fields_in, shape_cases, cases_of}
-use Rattle.educe_laws.specs.Comparisons.{trait_of, field_row}
 use Rattle.educe_laws.specs.Listed.{listed}
+use Rattle.educe_laws.specs.Rows.{field_row}
 use Rattle.educe_laws.specs.Settings.{Kept, how_with, is_kept, kept_at, kept_from, settings_of}
 use Rattle.educe_laws.proofs.Structs.{HaveOwnMethods}
 use Rattle.educe_laws.proofs.Elements.{In, In-from_Contains, Contains-from_In, each_in, each_weaker, each_mapped, each_apart}
@@ -83,7 +83,7 @@ own_how tokens true (Some path) own = own path refl
 
 -- ---- the methods of a definition
 
-module _ (which : Comparison) (d : DeriveInput) where
+module _ (which : Trait) (d : DeriveInput) where
   abbrev HasOwn : Kept → Type 0
   HasOwn k = HasOwnPath d.tokens k.how
 
@@ -91,20 +91,20 @@ module _ (which : Comparison) (d : DeriveInput) where
   own_step k rest true own later = (own, later)
   own_step k rest false own later = later
 
-  own_from : (place : ℕ) (fs : List Field) → AllByRecursion (FieldWithin (λ t. Contains d.tokens t)) fs → HaveNoCauses (trait_of which) (field_row which) (listed d) fs
+  own_from : (place : ℕ) (fs : List Field) → AllByRecursion (FieldWithin (λ t. Contains d.tokens t)) fs → HaveNoCauses which (field_row which) (listed d) fs
       → AllByRecursion HasOwn (kept_from which d place fs)
   own_from place [] within uncaused = tt
   own_from place (f ∷ fs) within uncaused =
       let settings = settings_of which d f in
-      let said = lawful_settings.field_said (trait_of which) (field_row which) (listed d) f.attrs uncaused.0 in
+      let said = lawful_settings.field_said which (field_row which) (listed d) f.attrs uncaused.0 in
       let own : (path : ExprPath) → settings.values.method ≡ Some path → AreOwnNames d.tokens path.written.tokens =
-      λ path is. text_own d.tokens path.written.tokens (lawful_settings.methods d.tokens (trait_of which) (field_row which) (listed d) f.attrs settings path within.0 said is) in
+      λ path is. text_own d.tokens path.written.tokens (lawful_settings.methods d.tokens which (field_row which) (listed d) f.attrs settings path within.0 said is) in
       own_step (kept_at which d place f) (kept_from which d (place + 1) fs) (is_kept which d f) (own_how d.tokens settings.method_returns_ordering settings.values.method own)
       (own_from (place + 1) fs within.1 uncaused.1)
 
   -- what holds of the fields of a variant
   abbrev NoCauses : List Field → Type 0
-  NoCauses fields = HaveNoCauses (trait_of which) (field_row which) (listed d) fields
+  NoCauses fields = HaveNoCauses which (field_row which) (listed d) fields
 
   variants_own : (variants : List Variant) → AllByRecursion (VariantWithin (λ t. Contains d.tokens t)) variants → AllByRecursion (λ v. NoCauses (fields_in v)) variants
       → AllByRecursion (λ v. HaveOwnMethods which d (fields_in v)) variants
@@ -114,7 +114,7 @@ module _ (which : Comparison) (d : DeriveInput) where
   cases_own : (shape : Shape) → ShapeWithin (λ t. Contains d.tokens t) shape → NoCauses (shape_fields shape) → AllByRecursion (HaveOwnMethods which d) (shape_cases shape)
   cases_own (Struct shape) within uncaused = (own_from 0 shape.fields within uncaused, tt)
   cases_own (Enum variants) within uncaused =
-      each_mapped (HaveOwnMethods which d) fields_in variants (variants_own variants within (each_apart (λ (f : Field). NoCause (OfField (trait_of which) (field_row which) (listed d) f.attrs)) fields_in variants uncaused))
+      each_mapped (HaveOwnMethods which d) fields_in variants (variants_own variants within (each_apart (λ (f : Field). NoCause (OfField which (field_row which) (listed d) f.attrs)) fields_in variants uncaused))
 
   -- the methods of the fields that take part, in each case, have names of the definition alone
   pub own_methods : IsWhole grammar.definition d.tokens d → NoCauses (all_fields d) → AllByRecursion (HaveOwnMethods which d) (cases_of d)

@@ -4,10 +4,13 @@ use Rattle.std.specs.Prelude.{if◌then◌else◌, unwrap_or}
 use Rattle.std.specs.List.{AllByRecursion}
 use Rattle.educe_syntax.specs.Field.{Field}
 use Rattle.educe_syntax.specs.DeriveInput.{DeriveInput}
+use Rattle.educe_bound.specs.declared.traits.Trait.{Trait}
 use Rattle.educe_body.specs.declared.comparison.Comparison.{Comparison}
 use Rattle.educe_body.specs.declared.value.FieldValue.{FieldValue}
+use Rattle.educe_laws.specs.Comparisons.{trait_of}
 use Rattle.educe_laws.specs.Settings.{Kept, is_kept, kept_at, kept_from}
 use Rattle.educe_laws.specs.Comparing.{Compared, compared_from, HaveTypes}
+use Rattle.educe_laws.specs.Hashing.{Valued, valued_from}
 
 -- the field value that a look-up gives
 abbrev pub part_in : Option FieldValue → FieldValue
@@ -37,7 +40,7 @@ module _ (look_a look_b : Look) where
   abbrev pub seen : Kept → Compared
   seen k = record { kept = k; first = value_in look_a k; second = value_in look_b k }
 
-  seen_step : (which : Comparison) (d : DeriveInput) (place : ℕ) (f : Field) (x y : FieldValue) (rest : List Compared) (kept : List Kept) (keeps : Bool)
+  seen_step : (which : Trait) (d : DeriveInput) (place : ℕ) (f : Field) (x y : FieldValue) (rest : List Compared) (kept : List Kept) (keeps : Bool)
       → look_a place f ≡ Some x → look_b place f ≡ Some y → rest ≡ map seen kept
       → (if keeps then record { kept = kept_at which d place f; first = x; second = y } ∷ rest else rest) ≡ map seen (if keeps then kept_at which d place f ∷ kept else kept)
   seen_step which d place f x y rest kept true at_a at_b same = λ i. record { kept = kept_at which d place f; first = part_in (sym at_a i); second = part_in (sym at_b i) } ∷ same i
@@ -45,24 +48,42 @@ module _ (look_a look_b : Look) where
 
   -- the fields that take part in a comparison, with their values
   pub compared-seen : (which : Comparison) (d : DeriveInput) (place : ℕ) (fs : List Field) (xs ys : List FieldValue) → FieldsGive look_a place fs xs → FieldsGive look_b place fs ys
-      → compared_from which d place fs xs ys ≡ map seen (kept_from which d place fs)
+      → compared_from which d place fs xs ys ≡ map seen (kept_from (trait_of which) d place fs)
   compared-seen which d place [] xs ys give_a give_b = refl
   compared-seen which d place (f ∷ fs) [] ys give_a give_b = absurd give_a
   compared-seen which d place (f ∷ fs) (x ∷ xs) [] give_a give_b = absurd give_b
   compared-seen which d place (f ∷ fs) (x ∷ xs) (y ∷ ys) give_a give_b =
-      seen_step which d place f x y (compared_from which d (place + 1) fs xs ys) (kept_from which d (place + 1) fs) (is_kept which d f) give_a.0 give_b.0
+      seen_step (trait_of which) d place f x y (compared_from which d (place + 1) fs xs ys) (kept_from (trait_of which) d (place + 1) fs) (is_kept (trait_of which) d f) give_a.0 give_b.0
       (compared-seen which d (place + 1) fs xs ys give_a.1 give_b.1)
+
+module _ (look : Look) where
+  -- a field with its value
+  abbrev pub given : Kept → Valued
+  given k = record { kept = k; value = value_in look k }
+
+  valued_step : (which : Trait) (d : DeriveInput) (place : ℕ) (f : Field) (x : FieldValue) (rest : List Valued) (kept : List Kept) (keeps : Bool) → look place f ≡ Some x → rest ≡ map given kept
+      → (if keeps then record { kept = kept_at which d place f; value = x } ∷ rest else rest) ≡ map given (if keeps then kept_at which d place f ∷ kept else kept)
+  valued_step which d place f x rest kept true found same = λ i. record { kept = kept_at which d place f; value = part_in (sym found i) } ∷ same i
+  valued_step which d place f x rest kept false found same = same
+
+  -- the fields of a value that take part, with their values
+  pub valued-given : (which : Trait) (d : DeriveInput) (place : ℕ) (fs : List Field) (xs : List FieldValue) → FieldsGive look place fs xs
+      → valued_from which d place fs xs ≡ map given (kept_from which d place fs)
+  valued-given which d place [] xs give = refl
+  valued-given which d place (f ∷ fs) [] give = absurd give
+  valued-given which d place (f ∷ fs) (x ∷ xs) give =
+      valued_step which d place f x (valued_from which d (place + 1) fs xs) (kept_from which d (place + 1) fs) (is_kept which d f) give.0 (valued-given which d (place + 1) fs xs give.1)
 
 given_one : (look : Look) (place : ℕ) (f : Field) (x : FieldValue) → look place f ≡ Some x → look place f ≡ Some (part_in (look place f))
 given_one look place f x at = at ∙ ap (λ found. Some (part_in found)) (sym at)
 
-given_step : (look : Look) (which : Comparison) (d : DeriveInput) (place : ℕ) (f : Field) (x : FieldValue) (kept : List Kept) (keeps : Bool) → look place f ≡ Some x
+given_step : (look : Look) (which : Trait) (d : DeriveInput) (place : ℕ) (f : Field) (x : FieldValue) (kept : List Kept) (keeps : Bool) → look place f ≡ Some x
     → AllByRecursion (IsGiven look) kept → AllByRecursion (IsGiven look) (if keeps then kept_at which d place f ∷ kept else kept)
 given_step look which d place f x kept true at given = (given_one look place f x at, given)
 given_step look which d place f x kept false at given = given
 
 -- each field that takes part has a value
-pub each_given : (look : Look) (which : Comparison) (d : DeriveInput) (place : ℕ) (fs : List Field) (xs : List FieldValue) → FieldsGive look place fs xs
+pub each_given : (look : Look) (which : Trait) (d : DeriveInput) (place : ℕ) (fs : List Field) (xs : List FieldValue) → FieldsGive look place fs xs
     → AllByRecursion (IsGiven look) (kept_from which d place fs)
 each_given look which d place [] xs give = tt
 each_given look which d place (f ∷ fs) [] give = absurd give

@@ -9,8 +9,9 @@ use Rattle.educe_syntax.specs.ExprPath.{ExprPath}
 use Rattle.educe_body.specs.declared.comparison.Comparison.{Comparison}
 use Rattle.educe_body.specs.declared.comparison.Comparison.TheVariants.{PartialEq, PartialOrd, Ord}
 use Rattle.educe_body.specs.declared.answers.Answer.{Answer}
-use Rattle.educe_body.specs.declared.answers.Answer.TheVariants.{Truth as AnswerTruth, Order as AnswerOrder, PartialOrder as AnswerPartialOrder, Number as AnswerNumber}
+use Rattle.educe_body.specs.declared.answers.Answer.TheVariants.{Truth as AnswerTruth, Order as AnswerOrder, PartialOrder as AnswerPartialOrder}
 use Rattle.educe_body.specs.declared.answers.Answers.{Answers}
+use Rattle.educe_body.specs.declared.callee.BuiltIn.{BuiltIn}
 use Rattle.educe_body.specs.declared.callee.Callee.{Callee}
 use Rattle.educe_body.specs.declared.environment.Binding.{Binding}
 use Rattle.educe_body.specs.declared.environment.Env.{Env}
@@ -38,11 +39,12 @@ HasOwnPath input plainly = Unit {0}
 HasOwnPath input (by_method path) = AreOwnNames input path.written.tokens
 HasOwnPath input (by_order path) = AreOwnNames input path.written.tokens
 
-called : (which : Comparison) (how : How) (input : List Token) (names : List Binding) (path : ExprPath) → AllByRecursion (IsApart input) names → HasOwnPath input how → IsCalled which how path
-    → callee_in names path ≡ Some (asked which how)
-called which plainly input names path apart own is = lawful_scopes.made names path (comparison which) is
-called which (by_method method) input names path apart own is = ap (callee_in names) is ∙ lawful_scopes.own input names method apart own
-called which (by_order method) input names path apart own is = ap (callee_in names) is ∙ lawful_scopes.own input names method apart own
+-- the path calls what it is to call
+pub called : (function : BuiltIn) (how : How) (input : List Token) (names : List Binding) (path : ExprPath) → AllByRecursion (IsApart input) names → HasOwnPath input how
+    → IsCalled function how path → callee_in names path ≡ Some (asked function how)
+called function plainly input names path apart own is = lawful_scopes.made names path function is
+called function (by_method method) input names path apart own is = ap (callee_in names) is ∙ lawful_scopes.own input names method apart own
+called function (by_order method) input names path apart own is = ap (callee_in names) is ∙ lawful_scopes.own input names method apart own
 
 -- ---- one step, by the answer of its call
 
@@ -72,48 +74,33 @@ ends : (env : Env) (flow : Flow) (x k : Known) → flow ≡ step_flow env x → 
 ends env flow x k here same = here ∙ ap (step_flow env) (ap (λ o. unwrap_or o k) same)
 
 by_ne : (env : Env) (answer : Option Answer) (k : Known) → said_truth true answer ≡ Some k → go_on (answer_flow env answer) unless_true ≡ step_flow env k
-by_ne env None k is = absurd (none_some k is)
 by_ne env (Some (AnswerTruth true)) k is = ends env _ (Truth false) k refl is
 by_ne env (Some (AnswerTruth false)) k is = ends env _ (Truth true) k refl is
-by_ne env (Some (AnswerOrder o)) k is = absurd (none_some k is)
-by_ne env (Some (AnswerPartialOrder p)) k is = absurd (none_some k is)
-by_ne env (Some (AnswerNumber n)) k is = absurd (none_some k is)
+by_ne env answer k is = absurd (none_some k is)
 
 by_truth : (env : Env) (answer : Option Answer) (k : Known) → said_truth false answer ≡ Some k → go_on (go_on (answer_flow env answer) opposite) unless_true ≡ step_flow env k
-by_truth env None k is = absurd (none_some k is)
 by_truth env (Some (AnswerTruth true)) k is = ends env _ (Truth true) k refl is
 by_truth env (Some (AnswerTruth false)) k is = ends env _ (Truth false) k refl is
-by_truth env (Some (AnswerOrder o)) k is = absurd (none_some k is)
-by_truth env (Some (AnswerPartialOrder p)) k is = absurd (none_some k is)
-by_truth env (Some (AnswerNumber n)) k is = absurd (none_some k is)
+by_truth env answer k is = absurd (none_some k is)
 
 by_cmp : (env : Env) (answer : Option Answer) (k : Known) → said_order answer ≡ Some k → go_on (answer_flow env answer) (arm_of false Greater Less) ≡ step_flow env k
-by_cmp env None k is = absurd (none_some k is)
-by_cmp env (Some (AnswerTruth b)) k is = absurd (none_some k is)
 by_cmp env (Some (AnswerOrder Less)) k is = ends env _ (Order Less) k refl is
 by_cmp env (Some (AnswerOrder Equal)) k is = ends env _ (Order Equal) k refl is
 by_cmp env (Some (AnswerOrder Greater)) k is = ends env _ (Order Greater) k refl is
-by_cmp env (Some (AnswerPartialOrder p)) k is = absurd (none_some k is)
-by_cmp env (Some (AnswerNumber n)) k is = absurd (none_some k is)
+by_cmp env answer k is = absurd (none_some k is)
 
 by_partial_cmp : (env : Env) (answer : Option Answer) (k : Known) → said_partial_order answer ≡ Some k → go_on (answer_flow env answer) (arm_of true Greater Less) ≡ step_flow env k
-by_partial_cmp env None k is = absurd (none_some k is)
-by_partial_cmp env (Some (AnswerTruth b)) k is = absurd (none_some k is)
-by_partial_cmp env (Some (AnswerOrder o)) k is = absurd (none_some k is)
 by_partial_cmp env (Some (AnswerPartialOrder None)) k is = ends env _ (PartialOrder None) k refl is
 by_partial_cmp env (Some (AnswerPartialOrder (Some Less))) k is = ends env _ (PartialOrder (Some Less)) k refl is
 by_partial_cmp env (Some (AnswerPartialOrder (Some Equal))) k is = ends env _ (PartialOrder (Some Equal)) k refl is
 by_partial_cmp env (Some (AnswerPartialOrder (Some Greater))) k is = ends env _ (PartialOrder (Some Greater)) k refl is
-by_partial_cmp env (Some (AnswerNumber n)) k is = absurd (none_some k is)
+by_partial_cmp env answer k is = absurd (none_some k is)
 
 by_some : (env : Env) (answer : Option Answer) (k : Known) → said_in_some answer ≡ Some k → go_on (go_on (answer_flow env answer) some_of) (arm_of true Greater Less) ≡ step_flow env k
-by_some env None k is = absurd (none_some k is)
-by_some env (Some (AnswerTruth b)) k is = absurd (none_some k is)
 by_some env (Some (AnswerOrder Less)) k is = ends env _ (PartialOrder (Some Less)) k refl is
 by_some env (Some (AnswerOrder Equal)) k is = ends env _ (PartialOrder (Some Equal)) k refl is
 by_some env (Some (AnswerOrder Greater)) k is = ends env _ (PartialOrder (Some Greater)) k refl is
-by_some env (Some (AnswerPartialOrder p)) k is = absurd (none_some k is)
-by_some env (Some (AnswerNumber n)) k is = absurd (none_some k is)
+by_some env answer k is = absurd (none_some k is)
 
 step_case : (which : Comparison) (how : How) (env : Env) (answer : Option Answer) (k : Known) → said which how answer ≡ Some k → end_flow which (test_flow which how env answer) ≡ step_flow env k
 step_case PartialEq plainly env answer k is = by_ne env answer k is
@@ -126,7 +113,7 @@ step_case Ord how env answer k is = by_cmp env answer k is
 
 -- ---- the steps on several fields
 
-some_is : {X : Type 0} (o : Option X) (d : X) → IsSome o → o ≡ Some (unwrap_or o d)
+pub some_is : {X : Type 0} (o : Option X) (d : X) → IsSome o → o ≡ Some (unwrap_or o d)
 some_is None d known = absurd (false≢true known)
 some_is (Some x) d known = refl
 
@@ -140,7 +127,7 @@ module _ (scene : Scene) (env : Env) (input : List Token) (apart : AllByRecursio
     pub own : Form
     pub others : Form
     pub is : x ≡ step_of which (tested which c.kept.how (Call path (own ∷ others ∷ [])))
-    pub path_is : IsCalled which c.kept.how path
+    pub path_is : IsCalled (comparison which) c.kept.how path
     pub named : HasOwnPath input c.kept.how
     pub first : form_value scene env own ≡ Gives env (Part c.first)
     pub second : form_value scene env others ≡ Gives env (Part c.second)
@@ -161,16 +148,16 @@ module _ (scene : Scene) (env : Env) (input : List Token) (apart : AllByRecursio
   tested-value Ord how call answer is = is
 
   call_value-answer : (c : Compared) (x : Form) (step : IsReadStep c x)
-      → form_value scene env (Call step.path (step.own ∷ step.others ∷ [])) ≡ answer_flow env (answer_of table (asked which c.kept.how) (Some c.first) (Some c.second))
+      → form_value scene env (Call step.path (step.own ∷ step.others ∷ [])) ≡ answer_flow env (answer_of table (asked (comparison which) c.kept.how) (Some c.first) (Some c.second))
   call_value-answer c x step =
       lawful_forms.call_two scene env step.path step.own step.others (Part c.first) (Part c.second) step.first step.second
-      ∙ ap (λ (callee : Option Callee). call_named table callee env (Part c.first ∷ Part c.second ∷ [])) (called which c.kept.how input env.names step.path apart step.named step.path_is)
+      ∙ ap (λ (callee : Option Callee). call_named table callee env (Part c.first ∷ Part c.second ∷ [])) (called (comparison which) c.kept.how input env.names step.path apart step.named step.path_is)
 
   -- a step goes on, or returns what the field says
   step-value : (c : Compared) (x : Form) (k : Known) → IsReadStep c x → says which table c ≡ Some k → form_value scene env x ≡ step_flow env k
   step-value c x k step is =
       let call = Call step.path (step.own ∷ step.others ∷ []) in
-      let answer = answer_of table (asked which c.kept.how) (Some c.first) (Some c.second) in
+      let answer = answer_of table (asked (comparison which) c.kept.how) (Some c.first) (Some c.second) in
       ap (form_value scene env) step.is ∙ step_of-value which (tested which c.kept.how call)
       ∙ ap (end_flow which) (tested-value which c.kept.how call answer (call_value-answer c x step)) ∙ step_case which c.kept.how env answer k is
 

@@ -3,7 +3,7 @@ use Rattle.std.proofs.Common.{◌≡◌, ◌≢◌, ◌≤◌, ◌^◌, ◌+◌,
 use Rattle.std.specs.Prelude.{if◌then◌else◌, codes}
 use Rattle.std.specs.List.{AllByRecursion}
 use Rattle.std.specs.Str.{bytes_eq}
-use Rattle.std.proofs.lemmas.Bool.{false≢true}
+use Rattle.std.proofs.lemmas.Bool.{false≢true, or_parts}
 use Rattle.std.proofs.lemmas.List.{append_cancel_left}
 use Rattle.std.proofs.lemmas.Slice.Eq.{bytes_eq-Decides}
 use Rattle.std.proofs.Math.Bool.{or-true}
@@ -12,6 +12,7 @@ use Rattle.educe_syntax.specs.Field.{Field}
 use Rattle.educe_syntax.specs.Keywords.{unraw}
 use Rattle.educe_syntax.specs.Naming.{field_names, AreApart as AreNamesApart}
 use Rattle.educe_attrs.specs.FieldSettings.{FieldSettings}
+use Rattle.educe_bound.specs.declared.traits.Trait.{Trait}
 use Rattle.educe_body.specs.declared.comparison.Comparison.{Comparison}
 use Rattle.educe_body.specs.declared.environment.Binding.{Binding}
 use Rattle.educe_body.specs.declared.environment.Referent.{Referent}
@@ -23,11 +24,12 @@ use Rattle.educe_body.specs.NameLaws.{lawful_names}
 use Rattle.educe_body.specs.Scoping.{IsApart, own_self, apart}
 use Rattle.educe_body.specs.Words.{HasWord}
 use Rattle.educe_body.proofs.Fields.{bytes_eq-same, bytes_eq-differ}
-use Rattle.educe_laws.specs.Arms.{Names, AreNames, AreScoped, plain_names, chosen_names, variables}
+use Rattle.educe_laws.specs.Arms.{Names, AreChosenFor, AreNames, AreScoped, plain_names, chosen_names, variables}
 use Rattle.educe_laws.specs.BodyLaws.{lawful_keys}
+use Rattle.educe_laws.specs.Comparisons.{trait_of}
 use Rattle.educe_laws.specs.Settings.{Kept, keeps, settings_of, kept_with, kept_by, kept_fields}
-use Rattle.educe_laws.proofs.Elements.{In, In-all, In-behind, each_weaker, each_joined}
-use Rattle.educe_laws.proofs.Facts.{IsOwnName, IsOuter}
+use Rattle.educe_laws.proofs.Elements.{In, In-all, In-behind, each_in, each_weaker, each_joined}
+use Rattle.educe_laws.proofs.Facts.{IsOwnName, ArePlain, are_plain, IsOuter}
 use Rattle.educe_laws.proofs.Pairing.{Look, value_in}
 use Rattle.educe_laws.proofs.Structs.{unraw_mark, unraw_behind, behind_not_self, not_self}
 
@@ -54,6 +56,13 @@ not_held : (texts : List (List ℕ)) (text : List ℕ) → AllByRecursion (λ t.
 not_held [] text differ = refl
 not_held (t ∷ texts) text differ = ap (λ b. b || is_held texts text) (bytes_eq-differ t text differ.0) ∙ not_held texts text differ.1
 
+-- a text that neither of two lists holds is not held by both together
+not_held_joined : (xs ys : List (List ℕ)) (text : List ℕ) → is_held xs text ≡ false → is_held ys text ≡ false → is_held (xs ++ ys) text ≡ false
+not_held_joined [] ys text first second = second
+not_held_joined (x ∷ xs) ys text first second =
+    let both = or_parts (bytes_eq x text) (is_held xs text) first in
+    ap (λ b. b || is_held (xs ++ ys) text) both.0 ∙ not_held_joined xs ys text both.1 second
+
 -- where a text differs from each, each differs from it
 each_flipped : (text : List ℕ) (texts : List (List ℕ)) → AllByRecursion (λ t. text ≢ t) texts → AllByRecursion (λ t. t ≢ text) texts
 each_flipped text texts differ = each_weaker (λ t. text ≢ t) (λ t. t ≢ text) (λ t differs same. differs (sym same)) texts differ
@@ -62,6 +71,12 @@ each_flipped text texts differ = each_weaker (λ t. text ≢ t) (λ t. t ≢ tex
 apart_from_different : (texts : List (List ℕ)) → AreDifferent texts → AreApart texts
 apart_from_different [] differ = tt
 apart_from_different (t ∷ texts) differ = (not_held texts t (each_flipped t texts differ.0), apart_from_different texts differ.1)
+
+-- texts that are apart, others that differ, and none of the one is one of the other
+apart_joined : (xs ys : List (List ℕ)) → AreApart xs → AreDifferent ys → AllByRecursion (λ x. AllByRecursion (λ y. x ≢ y) ys) xs → AreApart (xs ++ ys)
+apart_joined [] ys first second across = apart_from_different ys second
+apart_joined (x ∷ xs) ys first second across =
+    (not_held_joined xs ys x first.0 (not_held ys x (each_flipped x ys across.0)), apart_joined xs ys first.1 second across.1)
 
 -- texts that differ, and others of which none is one of those
 different_joined : (xs ys : List (List ℕ)) → AreDifferent xs → AreDifferent ys → AllByRecursion (λ x. AllByRecursion (λ y. x ≢ y) ys) xs → AreDifferent (xs ++ ys)
@@ -99,7 +114,7 @@ kept_different place (f ∷ fs) (s ∷ all) differ =
     different_if (keeps s) (kept_with s place f) (kept_by (place + 1) fs all) (each_kept (λ key. binding_key place f ≢ key) (place + 1) fs all differ.0) (kept_different (place + 1) fs all differ.1)
 
 -- the fields of a case that take part have keys that differ
-pub fields_different : (which : Comparison) (d : DeriveInput) (fs : List Field) → AreNamesApart (field_names fs) → length fs ≤ 2 ^ 64 → AreDifferent (map kept_key (kept_fields which d fs))
+pub fields_different : (which : Trait) (d : DeriveInput) (fs : List Field) → AreNamesApart (field_names fs) → length fs ≤ 2 ^ 64 → AreDifferent (map kept_key (kept_fields which d fs))
 fields_different which d fs names few = kept_different 0 fs (map (settings_of which d) fs) (lawful_keys.apart fs names few)
 
 -- ---- variables
@@ -181,37 +196,44 @@ each_chosen P behind words (n ∷ names) [] chosen each = absurd chosen
 each_chosen P behind words (n ∷ names) (t ∷ texts) chosen each =
     (subst P (sym chosen.0.is) (behind chosen.0.count n each.0), each_chosen P behind (words ++ t ∷ []) names texts chosen.1 each.1)
 
-module _ (d : DeriveInput) (names : Names) (are : AreNames d names) where
-  -- what is held when the prefixes are chosen
+module _ (d : DeriveInput) (plain names : List (List ℕ)) (are : AreChosenFor d plain names) (fit : ArePlain plain) where
+  -- what is held when a prefix is chosen
   abbrev held : List (List ℕ)
-  held = are.words ++ chosen_names names
+  held = are.words ++ names
 
   -- a chosen name is held
-  chosen_held : (name : List ℕ) → In name (chosen_names names) → is_held held name ≡ true
-  chosen_held name found = held_in held name (In-behind are.words (chosen_names names) name found)
+  chosen_held : (name : List ℕ) → In name names → is_held held name ≡ true
+  chosen_held name found = held_in held name (In-behind are.words names name found)
 
   -- it is no word of the definition
-  chosen_no_word : (name : List ℕ) → In name (chosen_names names) → HasWord d.tokens name → ⊥
-  chosen_no_word name found =
-      lawful_names.no_word d.tokens are.words name (λ word has. (are.words_are word).1 has)
-      (In-all (λ text. is_held are.words text ≡ false) (chosen_names names) name (lawful_names.chosen are.words plain_names (chosen_names names) are.chosen) found)
+  chosen_no_words : AllByRecursion (λ name. HasWord d.tokens name → ⊥) names
+  chosen_no_words =
+      each_weaker (λ text. is_held are.words text ≡ false) (λ name. HasWord d.tokens name → ⊥)
+      (λ name free. lawful_names.no_word d.tokens are.words name (λ word has. (are.words_are word).1 has) free) names (lawful_names.chosen are.words plain names are.chosen)
 
   -- it has no `r#`
-  chosen_plain : (name : List ℕ) → In name (chosen_names names) → unraw name ≡ name
-  chosen_plain name found =
-      In-all (λ text. unraw text ≡ text) (chosen_names names) name
-      (each_chosen (λ text. unraw text ≡ text) unraw_behind are.words plain_names (chosen_names names) are.chosen (refl, (refl, (refl, (refl, tt))))) found
+  chosen_raw : AllByRecursion (λ text. unraw text ≡ text) names
+  chosen_raw = each_chosen (λ text. unraw text ≡ text) unraw_behind are.words plain names are.chosen fit.raw
 
   -- and it is not `self`
-  pub chosen_not_self : (name : List ℕ) → In name (chosen_names names) → name ≢ codes "self"
-  chosen_not_self name found =
-      not_self name (In-all (λ text. bytes_eq text (codes "self") ≡ false) (chosen_names names) name
-      (each_chosen (λ text. bytes_eq text (codes "self") ≡ false) behind_not_self are.words plain_names (chosen_names names) are.chosen (refl, (refl, (refl, (refl, tt))))) found)
+  chosen_not_self : AllByRecursion (λ text. text ≢ codes "self") names
+  chosen_not_self =
+      each_weaker (λ text. bytes_eq text (codes "self") ≡ false) (λ text. text ≢ codes "self") not_self names
+      (each_chosen (λ text. bytes_eq text (codes "self") ≡ false) behind_not_self are.words plain names are.chosen fit.others)
+
+  pub name_not_self : (name : List ℕ) → In name names → name ≢ codes "self"
+  name_not_self name found = In-all (λ text. text ≢ codes "self") names name chosen_not_self found
 
   -- a binding of `self` or of a chosen name hides no word of the definition
   own_apart : (b : Binding) → IsOwnName names b → IsApart d.tokens b
   own_apart b own =
-      elim own [ inl self ↦ own_self self | inr found ↦ apart (λ has. chosen_no_word b.name found (subst (HasWord d.tokens) (chosen_plain b.name found) has)) ]
+      elim own [
+        | inl self ↦ own_self self
+        | inr found ↦
+            let raw = In-all (λ text. unraw text ≡ text) names b.name chosen_raw found in
+            let no_word = In-all (λ name. HasWord d.tokens name → ⊥) names b.name chosen_no_words found in
+            apart (λ has. no_word (subst (HasWord d.tokens) raw has))
+      ]
 
   -- so does none of those around a match
   pub outer_apart : (outer : List Binding) → AllByRecursion (IsOwnName names) outer → AllByRecursion (IsApart d.tokens) outer
@@ -229,25 +251,78 @@ module _ (d : DeriveInput) (names : Names) (are : AreNames d names) where
     variable_not_self key = not_self (prefix ++ key) (ap (λ text. bytes_eq text (codes "self")) (marked key).1)
 
     -- it is no chosen name
-    variable_not_chosen : (name : List ℕ) → In name (chosen_names names) → (key : List ℕ) → prefix ++ key ≢ name
+    variable_not_chosen : (name : List ℕ) → In name names → (key : List ℕ) → prefix ++ key ≢ name
     variable_not_chosen name found key same = false≢true (sym (lawful_names.prefixed held (95 ∷ tail) prefix key is) ∙ ap (is_held held) same ∙ chosen_held name found)
 
     -- it is no word of the definition
     variable_no_word : (key : List ℕ) → HasWord d.tokens (prefix ++ key) → ⊥
     variable_no_word key =
-        lawful_names.no_word d.tokens held (prefix ++ key) (lawful_names.held d.tokens are.words (chosen_names names) are.words_are) (lawful_names.prefixed held (95 ∷ tail) prefix key is)
+        lawful_names.no_word d.tokens held (prefix ++ key) (lawful_names.held d.tokens are.words names are.words_are) (lawful_names.prefixed held (95 ∷ tail) prefix key is)
 
     -- no variable hides one
     variables_are_apart : (look : Look) (ks : List Kept) → AllByRecursion (IsApart d.tokens) (map (own_binding prefix look) ks)
     variables_are_apart look [] = tt
     variables_are_apart look (k ∷ ks) =
         let mark = marked (kept_key k) in
-        let plain : unraw (variable prefix k) ≡ variable prefix k = ap unraw mark.1 ∙ unraw_mark mark.0 ∙ sym mark.1 in
-        (apart (λ has. variable_no_word (kept_key k) (subst (HasWord d.tokens) plain has)), variables_are_apart look ks)
+        let raw : unraw (variable prefix k) ≡ variable prefix k = ap unraw mark.1 ∙ unraw_mark mark.0 ∙ sym mark.1 in
+        (apart (λ has. variable_no_word (kept_key k) (subst (HasWord d.tokens) raw has)), variables_are_apart look ks)
 
+    -- with the variables, no name in scope hides one
+    pub with_variables_apart : (outer : List Binding) (look : Look) (ks : List Kept) → AllByRecursion (IsApart d.tokens) outer → AllByRecursion (IsApart d.tokens) (with_variables outer prefix look ks)
+    with_variables_apart outer look ks each = each_joined (IsApart d.tokens) outer (map (own_binding prefix look) ks) each (variables_are_apart look ks)
+
+    -- behind the variables a chosen name stands for what it does outside
+    pub chosen_found : (outer : List Binding) (look : Look) (ks : List Kept) (name : List ℕ) → In name names → look_up (with_variables outer prefix look ks) name ≡ look_up outer name
+    chosen_found outer look ks name found =
+        look_up-outer outer (map (own_binding prefix look) ks) name (unbound prefix look ks name (each_variable (λ t. t ≢ name) prefix ks (variable_not_chosen name found)))
+
+    -- none of the variables is a chosen name
+    none_chosen : (ks : List Kept) (name : List ℕ) → In name names → AllByRecursion (λ t. name ≢ t) (map (variable prefix) ks)
+    none_chosen ks name found = each_variable (λ t. name ≢ t) prefix ks (λ key same. variable_not_chosen name found key (sym same))
+
+    -- no two of the chosen names and the variables are the same, none is `self`, and none is a word of the definition
+    pub variables_scoped : (ks : List Kept) → AreDifferent (map kept_key ks) → AreScoped d (names ++ map (variable prefix) ks)
+    variables_scoped ks differ = record {
+      apart = apart_joined names (map (variable prefix) ks) (lawful_names.apart are.words plain names are.chosen) (variables_different prefix ks differ)
+          (each_weaker (λ name. In name names) (λ name. AllByRecursion (λ t. name ≢ t) (map (variable prefix) ks)) (none_chosen ks) names (each_in names));
+      not_self = not_held (names ++ map (variable prefix) ks) (codes "self")
+          (each_joined (λ t. t ≢ codes "self") names (map (variable prefix) ks) chosen_not_self (each_variable (λ t. t ≢ codes "self") prefix ks variable_not_self));
+      no_words = each_joined (λ t. HasWord d.tokens t → ⊥) names (map (variable prefix) ks) chosen_no_words (each_variable (λ t. HasWord d.tokens t → ⊥) prefix ks variable_no_word);
+    }
+
+  -- the chosen names are apart so too
+  pub chosen_scoped : AreScoped d names
+  chosen_scoped = record {
+    apart = lawful_names.apart are.words plain names are.chosen;
+    not_self = not_held names (codes "self") chosen_not_self;
+    no_words = chosen_no_words;
+  }
+
+-- what the variable of a field that takes part stands for: the value of the field
+pub variable_found : (outer : List Binding) (prefix : List ℕ) (look : Look) (ks : List Kept) → AreDifferent (map kept_key ks) → (k : Kept) → In k ks
+    → look_up (with_variables outer prefix look ks) (variable prefix k) ≡ Some (Bound (value_in look k))
+variable_found outer prefix look ks differ k found =
+    look_up-inner outer (map (own_binding prefix look) ks) (variable prefix k) (Bound (value_in look k)) (bound_at prefix look ks k (variables_different prefix ks differ) found)
+
+-- ---- the names of an enum's comparison
+
+module _ (d : DeriveInput) (names : Names) (are : AreNames d names) where
   -- a variable for the one value is none for the other
   variables_differ : (key other : List ℕ) → names.own ++ key ≢ names.others ++ other
-  variables_differ key other = lawful_names.prefixes held held (codes "_s_") (codes "_o_") names.own names.others key other are.own_is are.others_is refl
+  variables_differ key other =
+      let words = are.are.words ++ chosen_names names in
+      lawful_names.prefixes words words (codes "_s_") (codes "_o_") names.own names.others key other are.own_is are.others_is refl
+
+  -- the names around a match hide no word of the definition
+  pub around_apart : (outer : List Binding) → AllByRecursion (IsOwnName (chosen_names names)) outer → AllByRecursion (IsApart d.tokens) outer
+  around_apart = outer_apart d plain_names (chosen_names names) are.are are_plain
+
+  -- neither is a chosen name
+  own_not_chosen : (name : List ℕ) → In name (chosen_names names) → (key : List ℕ) → names.own ++ key ≢ name
+  own_not_chosen = variable_not_chosen d plain_names (chosen_names names) are.are are_plain (codes "s_") names.own are.own_is
+
+  others_not_chosen : (name : List ℕ) → In name (chosen_names names) → (key : List ℕ) → names.others ++ key ≢ name
+  others_not_chosen = variable_not_chosen d plain_names (chosen_names names) are.are are_plain (codes "o_") names.others are.others_is
 
   -- ---- the scope of an arm
 
@@ -268,15 +343,14 @@ module _ (d : DeriveInput) (names : Names) (are : AreNames d names) where
         (λ key. each_variable (λ y. names.own ++ key ≢ y) names.others kept (variables_differ key)))
 
     -- none of them is a chosen name
-    none_chosen : (name : List ℕ) → In name (chosen_names names) → AllByRecursion (λ t. name ≢ t) both
-    none_chosen name found =
-        each_of_both (λ t. name ≢ t) (λ key same. variable_not_chosen (codes "s_") names.own are.own_is name found key (sym same))
-        (λ key same. variable_not_chosen (codes "o_") names.others are.others_is name found key (sym same))
+    neither_chosen : (name : List ℕ) → In name (chosen_names names) → AllByRecursion (λ t. name ≢ t) both
+    neither_chosen name found =
+        each_of_both (λ t. name ≢ t) (λ key same. own_not_chosen name found key (sym same)) (λ key same. others_not_chosen name found key (sym same))
 
     -- the second value and the key function have different names
     other_not_discriminant : names.other ≢ names.discriminant
     other_not_discriminant same =
-        false≢true (sym (lawful_names.apart are.words plain_names (chosen_names names) are.chosen).0
+        false≢true (sym (lawful_names.apart are.are.words plain_names (chosen_names names) are.are.chosen).0
         ∙ held_in (names.discriminant ∷ names.this ∷ names.base ∷ []) names.other (inl (sym same)))
 
     -- no two names in the scope of an arm are the same, and none but `self` is a word of the definition
@@ -284,23 +358,27 @@ module _ (d : DeriveInput) (names : Names) (are : AreNames d names) where
     names_scoped =
         let other : In names.other (chosen_names names) = inl refl in
         let discriminant : In names.discriminant (chosen_names names) = inr (inl refl) in
+        let not_self = chosen_not_self d plain_names (chosen_names names) are.are are_plain in
+        let no_words = chosen_no_words d plain_names (chosen_names names) are.are are_plain in
         record {
           apart = apart_from_different (names.other ∷ names.discriminant ∷ both) (
-            (other_not_discriminant, none_chosen names.other other),
-            (none_chosen names.discriminant discriminant, both_different),
+            (other_not_discriminant, neither_chosen names.other other),
+            (neither_chosen names.discriminant discriminant, both_different),
           );
           not_self = not_held (names.other ∷ names.discriminant ∷ both) (codes "self") (
-            chosen_not_self names.other other,
+            not_self.0,
             (
-              chosen_not_self names.discriminant discriminant,
-              each_of_both (λ t. t ≢ codes "self") (variable_not_self (codes "s_") names.own are.own_is) (variable_not_self (codes "o_") names.others are.others_is),
+              not_self.1.0,
+              each_of_both (λ t. t ≢ codes "self") (variable_not_self d plain_names (chosen_names names) are.are are_plain (codes "s_") names.own are.own_is)
+                  (variable_not_self d plain_names (chosen_names names) are.are are_plain (codes "o_") names.others are.others_is),
             ),
           );
           no_words = (
-            chosen_no_word names.other other,
+            no_words.0,
             (
-              chosen_no_word names.discriminant discriminant,
-              each_of_both (λ t. HasWord d.tokens t → ⊥) (variable_no_word (codes "s_") names.own are.own_is) (variable_no_word (codes "o_") names.others are.others_is),
+              no_words.1.0,
+              each_of_both (λ t. HasWord d.tokens t → ⊥) (variable_no_word d plain_names (chosen_names names) are.are are_plain (codes "s_") names.own are.own_is)
+                  (variable_no_word d plain_names (chosen_names names) are.are are_plain (codes "o_") names.others are.others_is),
             ),
           );
         }
@@ -317,10 +395,7 @@ module _ (d : DeriveInput) (names : Names) (are : AreNames d names) where
 
       -- behind the variables for the first value, the name of the second stands for it
       pub other_found : look_up own_names names.other ≡ Some Other
-      other_found =
-          look_up-outer outer (map (own_binding names.own look_a) kept) names.other
-          (unbound names.own look_a kept names.other (each_variable (λ t. t ≢ names.other) names.own kept (variable_not_chosen (codes "s_") names.own are.own_is names.other (inl refl))))
-          ∙ around.other
+      other_found = chosen_found d plain_names (chosen_names names) are.are are_plain (codes "s_") names.own are.own_is outer look_a kept names.other (inl refl) ∙ around.other
 
       -- a variable for the first value stands for the value of its field in that
       pub own_found : (k : Kept) → In k kept → look_up arm_names (variable names.own k) ≡ Some (Bound (value_in look_a k))
@@ -328,23 +403,20 @@ module _ (d : DeriveInput) (names : Names) (are : AreNames d names) where
           look_up-outer own_names (map (own_binding names.others look_b) kept) (variable names.own k)
           (unbound names.others look_b kept (variable names.own k)
           (each_variable (λ t. t ≢ variable names.own k) names.others kept (λ key same. variables_differ (kept_key k) key (sym same))))
-          ∙ look_up-inner outer (map (own_binding names.own look_a) kept) (variable names.own k) (Bound (value_in look_a k))
-          (bound_at names.own look_a kept k (variables_different names.own kept differ) found)
+          ∙ variable_found outer names.own look_a kept differ k found
 
       -- one for the second value stands for that in the second
       pub others_found : (k : Kept) → In k kept → look_up arm_names (variable names.others k) ≡ Some (Bound (value_in look_b k))
-      others_found k found =
-          look_up-inner own_names (map (own_binding names.others look_b) kept) (variable names.others k) (Bound (value_in look_b k))
-          (bound_at names.others look_b kept k (variables_different names.others kept differ) found)
+      others_found k found = variable_found own_names names.others look_b kept differ k found
 
       -- none of these names hides a word of the definition
       pub arm_apart : AllByRecursion (IsApart d.tokens) arm_names
       arm_apart =
-          each_joined (IsApart d.tokens) own_names (map (own_binding names.others look_b) kept)
-          (each_joined (IsApart d.tokens) outer (map (own_binding names.own look_a) kept) (outer_apart outer around.known) (variables_are_apart (codes "s_") names.own are.own_is look_a kept))
-          (variables_are_apart (codes "o_") names.others are.others_is look_b kept)
+          with_variables_apart d plain_names (chosen_names names) are.are are_plain (codes "o_") names.others are.others_is own_names look_b kept
+          (with_variables_apart d plain_names (chosen_names names) are.are are_plain (codes "s_") names.own are.own_is outer look_a kept
+          (around_apart outer around.known))
 
 -- the names in the scope of an arm of an enum's function are apart, and none but `self` is a word of the definition
 pub arm_scope : (which : Comparison) (d : DeriveInput) (names : Names) (fields : List Field) → AreNames d names → AreNamesApart (field_names fields) → length fields ≤ 2 ^ 64
-    → AreScoped d (names.other ∷ names.discriminant ∷ variables names.own which d fields ++ variables names.others which d fields)
-arm_scope which d names fields are distinct few = names_scoped d names are (kept_fields which d fields) (fields_different which d fields distinct few)
+    → AreScoped d (names.other ∷ names.discriminant ∷ variables names.own (trait_of which) d fields ++ variables names.others (trait_of which) d fields)
+arm_scope which d names fields are distinct few = names_scoped d names are (kept_fields (trait_of which) d fields) (fields_different (trait_of which) d fields distinct few)

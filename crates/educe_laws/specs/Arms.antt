@@ -15,6 +15,7 @@ use Rattle.educe_syntax.specs.FieldForm.TheVariants.{Named, Unnamed, Unit as NoF
 use Rattle.educe_syntax.specs.Ident.{Ident}
 use Rattle.educe_syntax.specs.Variant.{Variant}
 use Rattle.educe_discriminants.specs.declared.discriminant_type.DiscriminantType.{DiscriminantType}
+use Rattle.educe_bound.specs.declared.traits.Trait.{Trait}
 use Rattle.educe_attrs.specs.FieldSettings.{FieldSettings}
 use Rattle.educe_attrs.specs.Represented.{IsDiscriminantType}
 use Rattle.educe_body.specs.BuiltIn.{IsBuiltIn}
@@ -38,6 +39,7 @@ use Rattle.educe_body.specs.declared.pattern.Pattern.{Pattern}
 use Rattle.educe_body.specs.declared.pattern.PatternField.{PatternField}
 use Rattle.educe_laws.specs.Cases.{fields_in}
 use Rattle.educe_laws.specs.Comparing.{neutral}
+use Rattle.educe_laws.specs.Comparisons.{trait_of}
 use Rattle.educe_laws.specs.Discriminants.{Counted, counted}
 use Rattle.educe_laws.specs.Settings.{Kept, keeps, settings_of, kept_fields}
 use Rattle.educe_laws.specs.Steps.{bound, AreSteps, IsInOrder}
@@ -62,13 +64,18 @@ plain_names = codes "other" ∷ codes "discriminant" ∷ codes "this" ∷ codes 
 abbrev pub chosen_names : Names → List (List ℕ)
 chosen_names names = names.other ∷ names.discriminant ∷ names.this ∷ names.base ∷ []
 
--- each is chosen, in this order, apart from the words of the definition and from the names before it; and so are then the prefixes
-pub record AreNames (definition : DeriveInput) (names : Names) : Type 0 where
+-- each of these names is chosen for one of the plain ones, in this order, apart from the words of the definition and from the names
+-- before it
+pub record AreChosenFor (definition : DeriveInput) (plain names : List (List ℕ)) : Type 0 where
   pub words : List (List ℕ)
   pub words_are : AreWordsOf definition.tokens words
-  pub chosen : AreChosen words plain_names (chosen_names names)
-  pub own_is : IsPrefix (words ++ chosen_names names) (codes "_s_") names.own
-  pub others_is : IsPrefix (words ++ chosen_names names) (codes "_o_") names.others
+  pub chosen : AreChosen words plain names
+
+-- the names are chosen so; and then the prefixes are chosen apart from the words of the definition and from the names
+pub record AreNames (definition : DeriveInput) (names : Names) : Type 0 where
+  pub are : AreChosenFor definition plain_names (chosen_names names)
+  pub own_is : IsPrefix (are.words ++ chosen_names names) (codes "_s_") names.own
+  pub others_is : IsPrefix (are.words ++ chosen_names names) (codes "_o_") names.others
 
 -- a name that the program makes, at no place
 pub record IsName (text : List ℕ) (name : Ident) : Type 0 where
@@ -76,7 +83,7 @@ pub record IsName (text : List ℕ) (name : Ident) : Type 0 where
   pub nowhere : name.span ≡ no_place
 
 -- the names of the variables behind a prefix for the fields that take part
-abbrev pub variables : List ℕ → Comparison → DeriveInput → List Field → List (List ℕ)
+abbrev pub variables : List ℕ → Trait → DeriveInput → List Field → List (List ℕ)
 variables prefix which definition fields = map (λ k. prefix ++ binding_key k.place k.field) (kept_fields which definition fields)
 
 -- no two of the names are the same, none is `self`, and none is a word of the definition
@@ -121,10 +128,17 @@ pub record IsPatternBy (prefix : List ℕ) (variant : Variant) (all : List Field
   pub fields_are : ArePatternFields prefix 0 (fields_in variant) all pattern.fields
 
 -- the same by the settings of the fields
-abbrev pub IsPattern : Comparison → DeriveInput → List ℕ → Variant → Pattern → Type 0
+abbrev pub IsPattern : Trait → DeriveInput → List ℕ → Variant → Pattern → Type 0
 IsPattern which definition prefix variant pattern = IsPatternBy prefix variant (map (settings_of which definition) (fields_in variant)) pattern
 
 -- ---- arms
+
+-- one arm for each variant, of which the first has this place
+abbrev pub AreArms : (ℕ → Variant → Arm → Type 0) → ℕ → List Variant → List Arm → Type 0
+AreArms IsOwn place [] [] = Unit {0}
+AreArms IsOwn place [] (arm ∷ arms) = ⊥
+AreArms IsOwn place (v ∷ vs) [] = ⊥
+AreArms IsOwn place (v ∷ vs) (arm ∷ arms) = IsOwn place v arm × AreArms IsOwn (place + 1) vs arms
 
 -- what is done where the other value is of another variant: `eq` returns false, and an order, which is asked after the
 -- discriminants, does nothing
@@ -136,13 +150,13 @@ IsOtherwise Ord others = others ≡ None
 -- the arm of a variant: the pattern for the value of `self`; and behind it, if the other value is of this variant, one step for
 -- each field that takes part, in the order of the trait, on its two variables
 pub record IsArm (which : Comparison) (definition : DeriveInput) (names : Names) (variant : Variant) (arm : Arm) : Type 0 where
-  pub own_is : IsPattern which definition names.own variant arm.pattern
+  pub own_is : IsPattern (trait_of which) definition names.own variant arm.pattern
   pub inner : Pattern
-  pub inner_is : IsPattern which definition names.others variant inner
+  pub inner_is : IsPattern (trait_of which) definition names.others variant inner
   pub value : Ident
   pub value_is : IsName names.other value
   pub ordered : List Kept
-  pub ordered_is : IsInOrder which (kept_fields which definition (fields_in variant)) ordered
+  pub ordered_is : IsInOrder (trait_of which) (kept_fields (trait_of which) definition (fields_in variant)) ordered
   pub steps : List Form
   pub steps_are : AreSteps which (bound names.own) (bound names.others) ordered steps
   pub others : Option (List Form)

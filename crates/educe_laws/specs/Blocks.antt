@@ -1,46 +1,56 @@
 -- What the block of a derived trait holds.
-use Rattle.std.specs.Prelude.{ℕ, ◌≡◌, ◌<◌, Bool, List, [], ◌∷◌, ◌++◌, Some, codes}
+use Rattle.std.specs.Prelude.{ℕ, ◌≡◌, ◌<◌, Bool, true, false, List, [], ◌∷◌, ◌++◌, Option, Some, None, codes}
 use Rattle.std.specs.List.{AllByRecursion}
 use Rattle.educe_tokens.specs.declared.word.Word.{Word}
 use Rattle.educe_tokens.specs.WrittenLexemes.{written_lexemes}
 use Rattle.educe_syntax.specs.DeriveInput.{DeriveInput}
 use Rattle.educe_syntax.specs.Field.{Field}
+use Rattle.educe_syntax.specs.Generics.{Generics}
 use Rattle.educe_syntax.specs.Shape.{Shape}
 use Rattle.educe_syntax.specs.Shape.TheVariants.{Struct, Enum}
+use Rattle.educe_syntax.specs.Ty.{Ty}
 use Rattle.educe_syntax.specs.Variant.{Variant}
-use Rattle.educe_bound.specs.declared.bound.Bound.TheVariants.{Auto}
+use Rattle.educe_bound.specs.declared.bound.Bound.{Bound}
+use Rattle.educe_bound.specs.declared.bound.Bound.TheVariants.{Disabled, Auto, All, Custom}
 use Rattle.educe_bound.specs.declared.traits.Trait.{Trait}
 use Rattle.educe_bound.specs.Predicates.{keys_of}
 use Rattle.educe_bound.specs.declared.traits.Trait.TheVariants as trait
-use Rattle.educe_attrs.specs.Lints.{impl_attributes}
+use Rattle.educe_attrs.specs.Lints.{lints, impl_attributes}
 use Rattle.educe_body.specs.declared.comparison.Comparison.{Comparison}
 use Rattle.educe_body.specs.declared.comparison.Comparison.TheVariants.{PartialEq, PartialOrd, Ord}
 use Rattle.educe_body.specs.declared.form.Form.{Form}
 use Rattle.educe_body.specs.declared.form.Form as form
 use Rattle.educe_body.specs.declared.body.Body.{Body}
+use Rattle.educe_body.specs.declared.body.CheckItem.{CheckItem}
 use Rattle.educe_body.specs.declared.body.Function.{Function}
 use Rattle.educe_body.specs.declared.body.ImplItem.{ImplItem}
 use Rattle.educe_body.specs.declared.body.Item.{Item}
-use Rattle.educe_body.specs.declared.body.Item.TheVariants.{Impl}
+use Rattle.educe_body.specs.declared.body.Item.TheVariants.{Impl, New, FieldCheck}
 use Rattle.educe_body.specs.declared.answers.Answers.{Answers}
+use Rattle.educe_body.specs.declared.evaluator.Outcome.TheVariants.{Parts}
 use Rattle.educe_body.specs.declared.value.Value.{Value}
 use Rattle.educe_body.specs.Chosen.{underscored}
 use Rattle.educe_body.specs.Meaning.{Scene, value}
 use Rattle.educe_body.specs.Words.{HasWord}
 use Rattle.educe_laws.specs.Arms.{Names, AreNames, IsEnumBlock}
+use Rattle.educe_laws.specs.Checks.{IsCheck}
 use Rattle.educe_laws.specs.Comparisons.{trait_of}
+use Rattle.educe_laws.specs.HashBodies.{IsHashBody}
+use Rattle.educe_laws.specs.Hashing.{hash_of, HashCovers}
 use Rattle.educe_laws.specs.Headers.{AreCopied, IsHeader, bound_for, AreTight}
 use Rattle.educe_laws.specs.Listed.{listed_in_order}
+use Rattle.educe_laws.specs.Making.{IsDefaultBody, MakesDefault, has_new, IsNewBody, MakesNew}
 use Rattle.educe_laws.specs.Settings.{Kept, kept_fields}
 use Rattle.educe_laws.specs.Steps.{Reading, of_base, AreSteps, IsInOrder}
+use Rattle.educe_laws.specs.Types.{checked_types}
 use Rattle.educe_laws.specs.Comparing.{neutral, Covers, meaning}
 
--- the name is the one that is chosen for the second value of a struct: `other` behind the fewest `_` that make it no word of the input
-pub record IsParameter (definition : DeriveInput) (name : List ℕ) : Type 0 where
+-- the name is the one that is chosen for this one: it, behind the fewest `_` that make it no word of the input
+pub record IsParameter (definition : DeriveInput) (plain name : List ℕ) : Type 0 where
   pub count : ℕ
-  pub is : name ≡ underscored count (codes "other")
+  pub is : name ≡ underscored count plain
   pub no_word : HasWord definition.tokens name → ⊥
-  pub least : (fewer : ℕ) → fewer < count → HasWord definition.tokens (underscored fewer (codes "other"))
+  pub least : (fewer : ℕ) → fewer < count → HasWord definition.tokens (underscored fewer plain)
 
 -- one step for each of these fields, and then what is answered where no step returned
 pub record HasSteps (which : Comparison) (own others : Reading) (ordered : List Kept) (block : List Form) : Type 0 where
@@ -53,9 +63,9 @@ pub record HasSteps (which : Comparison) (own others : Reading) (ordered : List 
 pub record IsStructBody (which : Comparison) (definition : DeriveInput) (fields : List Field) (body : Body) : Type 0 where
   pub param : Word
   pub params_are : body.params ≡ param ∷ []
-  pub param_is : IsParameter definition param.text
+  pub param_is : IsParameter definition (codes "other") param.text
   pub ordered : List Kept
-  pub ordered_is : IsInOrder which (kept_fields which definition fields) ordered
+  pub ordered_is : IsInOrder (trait_of which) (kept_fields (trait_of which) definition fields) ordered
   pub copied : Bool
   pub copied_are : AreCopied definition copied
   pub block_has : HasSteps which (of_base copied (codes "self")) (of_base copied param.text) ordered body.block
@@ -84,34 +94,100 @@ function_name PartialEq = codes "eq"
 function_name PartialOrd = codes "partial_cmp"
 function_name Ord = codes "cmp"
 
--- the functions of an impl of the trait: the one of its name
-pub record AreFunctions (which : Comparison) (definition : DeriveInput) (functions : List Function) : Type 0 where
-  pub name : Word
+-- the functions of an impl: one of this name, whose body is as it is to be
+pub record IsFunction (name : List ℕ) (IsRight : Body → Type 0) (functions : List Function) : Type 0 where
+  pub own : Word
   pub body : Body
-  pub are : functions ≡ record { name = name; body = body } ∷ []
-  pub name_is : name.text ≡ function_name which
-  pub body_is : IsBody which definition body
+  pub are : functions ≡ record { name = own; body = body } ∷ []
+  pub name_is : own.text ≡ name
+  pub body_is : IsRight body
 
--- the block of a comparison: one impl of its trait for the defined type, with the attributes of generated impls and the header of
--- the trait
-pub record IsImpl (which : Comparison) (definition : DeriveInput) (item : ImplItem) : Type 0 where
+-- an impl of a trait for the defined type, with the attributes of generated impls, the header of the trait, and its functions
+pub record IsImpl (which : Trait) (definition : DeriveInput) (AreFunctions : List Function → Type 0) (item : ImplItem) : Type 0 where
   pub which_is : item.which ≡ which
   pub attributes_are : written_lexemes item.attributes ≡ impl_attributes definition.attrs
-  pub header_is : IsHeader (trait_of which) definition item.generics
+  pub header_is : IsHeader which definition item.generics
   pub ident_is : item.ident ≡ definition.ident
-  pub functions_are : AreFunctions which definition item.functions
+  pub functions_are : AreFunctions item.functions
 
--- the items of the block of a comparison: that impl, and nothing else
-pub record IsComparisonBlock (which : Comparison) (definition : DeriveInput) (items : List Item) : Type 0 where
+-- the items of a block: that impl, and nothing else
+pub record IsImplBlock (which : Trait) (definition : DeriveInput) (AreFunctions : List Function → Type 0) (items : List Item) : Type 0 where
   pub item : ImplItem
   pub are : items ≡ Impl item ∷ []
-  pub impl_is : IsImpl which definition item
+  pub impl_is : IsImpl which definition AreFunctions item
 
--- the items of the block of a trait; only those of comparisons are built so far
+-- the block of a comparison: one impl with the one function of its trait
+abbrev pub IsComparisonBlock : Comparison → DeriveInput → List Item → Type 0
+IsComparisonBlock which definition items = IsImplBlock (trait_of which) definition (IsFunction (function_name which) (IsBody which definition)) items
+
+-- the impl with no trait that holds `new`: it has the lint attributes and the generics of the impl of `Default`
+pub record IsNew (definition : DeriveInput) (generics : Generics) (item : ImplItem) : Type 0 where
+  pub which_is : item.which ≡ trait.Default
+  pub attributes_are : written_lexemes item.attributes ≡ lints definition.attrs
+  pub generics_are : item.generics ≡ generics
+  pub ident_is : item.ident ≡ definition.ident
+  pub functions_are : IsFunction (codes "new") IsNewBody item.functions
+
+-- with true that impl, and else nothing
+abbrev pub AreNew : Bool → DeriveInput → Generics → List Item → Type 0
+AreNew false definition generics items = items ≡ []
+AreNew true definition generics items = (item : ImplItem) × (items ≡ New item ∷ []) × IsNew definition generics item
+
+-- the impl of `Default`: it has the one function `default`
+abbrev pub IsDefaultImpl : DeriveInput → ImplItem → Type 0
+IsDefaultImpl definition item = IsImpl trait.Default definition (IsFunction (codes "default") (IsDefaultBody definition)) item
+
+-- the block of `Default`: that impl, and where the type says so the one that holds `new`
+pub record IsDefaultBlock (definition : DeriveInput) (items : List Item) : Type 0 where
+  pub item : ImplItem
+  pub more : List Item
+  pub are : items ≡ Impl item ∷ more
+  pub impl_is : IsDefaultImpl definition item
+  pub more_are : AreNew (has_new definition) definition item.generics more
+
+-- the block of `Hash`: one impl with the one function `hash`
+abbrev pub IsHashBlock : DeriveInput → List Item → Type 0
+IsHashBlock definition items = IsImplBlock trait.Hash definition (IsFunction (codes "hash") (IsHashBody definition)) items
+
+-- no functions
+abbrev pub AreNone : List Function → Type 0
+AreNone functions = functions ≡ []
+
+-- whether the types of fields are checked: where the bound is the automatic one, and there are such types
+abbrev pub has_check : Bound → List Ty → Bool
+has_check Disabled types = false
+has_check Auto [] = false
+has_check Auto (t ∷ ts) = true
+has_check All types = false
+has_check (Custom predicates) types = false
+
+-- the check of the types of fields, with the header of `Eq`, and behind it the impl, and nothing else
+pub record IsCheckedBlock (definition : DeriveInput) (items : List Item) : Type 0 where
+  pub check : CheckItem
+  pub item : ImplItem
+  pub are : items ≡ FieldCheck check ∷ Impl item ∷ []
+  pub generics : Generics
+  pub header_is : IsHeader trait.Eq definition generics
+  pub check_is : IsCheck definition generics (checked_types definition) check
+  pub impl_is : IsImpl trait.Eq definition AreNone item
+
+-- the items of the block of `Eq`: with true the check and the impl, and else the impl alone
+abbrev pub IsEqBlockWith : Bool → DeriveInput → List Item → Type 0
+IsEqBlockWith true definition items = IsCheckedBlock definition items
+IsEqBlockWith false definition items = IsImplBlock trait.Eq definition AreNone items
+
+-- the block of `Eq`: one impl, which has no functions, and before it the check, where types of fields are checked
+abbrev pub IsEqBlock : DeriveInput → List Item → Type 0
+IsEqBlock definition items = IsEqBlockWith (has_check (bound_for trait.Eq definition) (checked_types definition)) definition items
+
+-- the items of the block of a trait; only those of comparisons, of `Eq`, of `Hash` and of `Default` are built so far
 abbrev pub IsBlock : Trait → DeriveInput → List Item → Type 0
 IsBlock trait.PartialEq definition items = IsComparisonBlock PartialEq definition items
+IsBlock trait.Eq definition items = IsEqBlock definition items
 IsBlock trait.PartialOrd definition items = IsComparisonBlock PartialOrd definition items
 IsBlock trait.Ord definition items = IsComparisonBlock Ord definition items
+IsBlock trait.Hash definition items = IsHashBlock definition items
+IsBlock trait.Default definition items = IsDefaultBlock definition items
 IsBlock _ definition items = ⊥
 
 -- the blocks of these traits, one behind the other, and nothing else
@@ -126,17 +202,41 @@ OneEach definition items = Blocks (listed_in_order definition) definition items
 
 -- `self` is the first value, the parameter the second
 abbrev pub scene_of : DeriveInput → Value → Value → Answers → Scene
-scene_of definition a b table = record { definition = definition; this = Some a; other = Some b; answers = table }
+scene_of definition a b table = record { definition = definition; this = Some a; other = Some b; answers = table; field = None }
 
 -- over each table and any two values that it covers, the function evaluates to what the comparison means
-abbrev pub Evaluates : Comparison → DeriveInput → Body → Type 0
-Evaluates which definition body =
+abbrev pub Compares : Comparison → DeriveInput → Body → Type 0
+Compares which definition body =
     (table : Answers) (a b : Value) → Covers which table definition a b → value body (scene_of definition a b table) ≡ meaning which table definition a b
 
--- each function of the item evaluates to what the item's trait means
+-- `self` is the value, whatever the other one is
+abbrev pub hash_scene : DeriveInput → Value → Option Value → Answers → Scene
+hash_scene definition a other table = record { definition = definition; this = Some a; other = other; answers = table; field = None }
+
+-- over each table and any value that it covers, the function feeds what the value feeds to a hasher
+abbrev pub Hashes : DeriveInput → Body → Type 0
+Hashes definition body =
+    (table : Answers) (a : Value) (other : Option Value) → HashCovers table definition a → value body (hash_scene definition a other table) ≡ Parts (hash_of table definition a)
+
+-- the function evaluates to what the trait means; only comparisons, `Hash` and `Default` have a meaning so far
+abbrev pub Evaluates : Trait → DeriveInput → Body → Type 0
+Evaluates trait.PartialEq definition body = Compares PartialEq definition body
+Evaluates trait.PartialOrd definition body = Compares PartialOrd definition body
+Evaluates trait.Ord definition body = Compares Ord definition body
+Evaluates trait.Hash definition body = Hashes definition body
+Evaluates trait.Default definition body = MakesDefault definition body
+Evaluates _ definition body = ⊥
+
+-- each function of the item evaluates to what the item's trait means, or `new` to the default value; the functions of a check are never
+-- called
 abbrev pub EachEvaluates : DeriveInput → Item → Type 0
 EachEvaluates definition (Impl item) = AllByRecursion (λ f. Evaluates item.which definition f.body) item.functions
+EachEvaluates definition (New item) = AllByRecursion (λ f. MakesNew definition f.body) item.functions
+EachEvaluates definition (FieldCheck check) = Unit {0}
 
--- where the bound of the item's trait is the automatic one, its own predicates suffice, and none of them can be dropped
+-- where the bound of the item's trait is the automatic one, its own predicates suffice, and none of them can be dropped; a check has
+-- those of its impl
 abbrev pub HasTightBounds : DeriveInput → Item → Type 0
 HasTightBounds definition (Impl item) = bound_for item.which definition ≡ Auto → AreTight item.which definition (keys_of item.generics.predicates)
+HasTightBounds definition (New item) = bound_for item.which definition ≡ Auto → AreTight item.which definition (keys_of item.generics.predicates)
+HasTightBounds definition (FieldCheck check) = Unit {0}

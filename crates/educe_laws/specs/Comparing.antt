@@ -4,12 +4,9 @@ use Rattle.std.specs.List.{filter, list_all, AllByRecursion}
 use Rattle.std.specs.declared.cmp.Ordering.{Ordering}
 use Rattle.std.specs.declared.cmp.Ordering.TheVariants.{Less, Equal, Greater}
 use Rattle.std.specs.Ordering.{int_cmp}
-use Rattle.std.specs.Str.{bytes_eq}
-use Rattle.std.specs.Cmp.Lexicographic.{pointwise}
 use Rattle.educe_syntax.specs.Field.{Field}
 use Rattle.educe_syntax.specs.DeriveInput.{DeriveInput}
 use Rattle.educe_syntax.specs.Few.{all_fields}
-use Rattle.educe_syntax.specs.Ty.{out-Ty}
 use Rattle.educe_body.specs.declared.comparison.Comparison.{Comparison}
 use Rattle.educe_body.specs.declared.comparison.Comparison.TheVariants.{PartialEq, PartialOrd, Ord}
 use Rattle.educe_body.specs.declared.value.FieldValue.{FieldValue}
@@ -20,28 +17,21 @@ use Rattle.educe_body.specs.declared.callee.BuiltIn.TheVariants.{Ne, Cmp, Partia
 use Rattle.educe_body.specs.declared.form.Known.{Known}
 use Rattle.educe_body.specs.declared.form.Known.TheVariants.{Truth, Order, PartialOrder}
 use Rattle.educe_body.specs.declared.answers.Answer.{Answer}
-use Rattle.educe_body.specs.declared.answers.Answer.TheVariants.{Truth as AnswerTruth, Order as AnswerOrder, PartialOrder as AnswerPartialOrder, Number as AnswerNumber}
+use Rattle.educe_body.specs.declared.answers.Answer.TheVariants.{Truth as AnswerTruth, Order as AnswerOrder, PartialOrder as AnswerPartialOrder}
 use Rattle.educe_body.specs.declared.answers.Answers.{Answers}
 use Rattle.educe_body.specs.declared.evaluator.Outcome.{Outcome}
 use Rattle.educe_body.specs.declared.evaluator.Outcome.TheVariants.{Truth as OutcomeTruth, Order as OutcomeOrder, PartialOrder as OutcomePartialOrder}
 use Rattle.educe_body.specs.Answering.{answer_of}
-use Rattle.educe_body.specs.Callees.{spellings, as_callee, callee_of}
+use Rattle.educe_body.specs.Callees.{as_callee, callee_of}
+use Rattle.educe_body.specs.Types.{type_spellings, first_place}
 use Rattle.educe_laws.specs.Cases.{cases_of, case_of}
-use Rattle.educe_laws.specs.Comparisons.{is_order}
+use Rattle.educe_laws.specs.Comparisons.{trait_of}
 use Rattle.educe_laws.specs.Discriminants.{discriminant_of, HaveDiscriminants}
 use Rattle.educe_laws.specs.Ranks.{least_by}
+use Rattle.educe_laws.specs.Rows.{is_order}
 use Rattle.educe_laws.specs.Settings.{Kept, How, plainly, by_method, by_order, is_kept, kept_at}
 
 -- ---- values that have the shape of a definition
-
--- the spellings of a field's type
-abbrev pub type_spellings : Field → List (List ℕ)
-type_spellings field = spellings (out-Ty field.ty).written.tokens
-
--- the place of the first of these fields whose type has these tokens
-abbrev pub first_place : List Field → List (List ℕ) → ℕ
-first_place [] type = 0
-first_place (f ∷ fs) type = if pointwise bytes_eq (type_spellings f) type then 0 else first_place fs type + 1
 
 -- one value for each of these fields, of its type's place among all fields
 abbrev pub HaveTypes : List Field → List Field → List FieldValue → Type 0
@@ -70,7 +60,7 @@ compared_from which definition place [] xs ys = []
 compared_from which definition place (f ∷ fs) [] ys = []
 compared_from which definition place (f ∷ fs) (x ∷ xs) [] = []
 compared_from which definition place (f ∷ fs) (x ∷ xs) (y ∷ ys) =
-    if is_kept which definition f then record { kept = kept_at which definition place f; first = x; second = y } ∷ compared_from which definition (place + 1) fs xs ys
+    if is_kept (trait_of which) definition f then record { kept = kept_at (trait_of which) definition place f; first = x; second = y } ∷ compared_from which definition (place + 1) fs xs ys
     else compared_from which definition (place + 1) fs xs ys
 
 -- the fields that take part in a comparison of two values of one case, with their values
@@ -83,43 +73,31 @@ comparison PartialEq = Ne
 comparison PartialOrd = PartialCmp
 comparison Ord = Cmp
 
--- what is called on the two values: that function, or the method
-abbrev pub asked : Comparison → How → Callee
-asked which plainly = as_callee (comparison which)
-asked which (by_method path) = callee_of path
-asked which (by_order path) = callee_of path
+-- what is called on a field: this function of the core library, or the method
+abbrev pub asked : BuiltIn → How → Callee
+asked function plainly = as_callee function
+asked function (by_method path) = callee_of path
+asked function (by_order path) = callee_of path
 
 -- whether an answer means that two values are equal; with true, the answer is negated
 abbrev pub said_truth : Bool → Option Answer → Option Known
-said_truth opposite None = None
 said_truth opposite (Some (AnswerTruth b)) = Some (Truth (if opposite then not b else b))
-said_truth opposite (Some (AnswerOrder o)) = None
-said_truth opposite (Some (AnswerPartialOrder p)) = None
-said_truth opposite (Some (AnswerNumber n)) = None
+said_truth opposite answer = None
 
 -- the order that is answered
 abbrev pub said_order : Option Answer → Option Known
-said_order None = None
-said_order (Some (AnswerTruth b)) = None
 said_order (Some (AnswerOrder o)) = Some (Order o)
-said_order (Some (AnswerPartialOrder p)) = None
-said_order (Some (AnswerNumber n)) = None
+said_order answer = None
 
 -- the partial order that is answered
 abbrev pub said_partial_order : Option Answer → Option Known
-said_partial_order None = None
-said_partial_order (Some (AnswerTruth b)) = None
-said_partial_order (Some (AnswerOrder o)) = None
 said_partial_order (Some (AnswerPartialOrder p)) = Some (PartialOrder p)
-said_partial_order (Some (AnswerNumber n)) = None
+said_partial_order answer = None
 
 -- the order that is answered, in `Some`
 abbrev pub said_in_some : Option Answer → Option Known
-said_in_some None = None
-said_in_some (Some (AnswerTruth b)) = None
 said_in_some (Some (AnswerOrder o)) = Some (PartialOrder (Some o))
-said_in_some (Some (AnswerPartialOrder p)) = None
-said_in_some (Some (AnswerNumber n)) = None
+said_in_some answer = None
 
 -- what a field says by an answer: to `PartialEq` the opposite of what `ne` answers, or what its method does; to `Ord` the order
 -- that is answered; to `PartialOrd` the partial order, or in `Some` the order that a method of `Ord` answers
@@ -134,7 +112,7 @@ said Ord how answer = said_order answer
 
 -- what a field says to a trait, if it says something
 abbrev pub says : Comparison → Answers → Compared → Option Known
-says which table c = said which c.kept.how (answer_of table (asked which c.kept.how) (Some c.first) (Some c.second))
+says which table c = said which c.kept.how (answer_of table (asked (comparison which) c.kept.how) (Some c.first) (Some c.second))
 
 -- both values have the definition's shape; where they are of one case, by the table each field that takes part says something;
 -- and for an order, by the table the variants have discriminants, which are numbers of their type and differ
@@ -142,7 +120,7 @@ pub record Covers (which : Comparison) (table : Answers) (definition : DeriveInp
   pub first : HasShape definition a
   pub second : HasShape definition b
   pub each : a.variant ≡ b.variant → AllByRecursion (λ c. IsSome (says which table c)) (compared which definition a b)
-  pub ordered : IsTrue (is_order which) → HaveDiscriminants table definition
+  pub ordered : IsTrue (is_order (trait_of which)) → HaveDiscriminants table definition
 
 -- ---- what a derived function means
 

@@ -16,13 +16,12 @@ use Rattle.educe_attrs.specs.Fields.{OfFields, HaveNoCauses}
 use Rattle.educe_attrs.specs.Phases.{Handling, OfLast}
 use Rattle.educe_attrs.specs.Places.{IsFieldCause, OfPlace}
 use Rattle.educe_attrs.specs.Said.{IsPlaceCause, IsSaidCause}
-use Rattle.educe_body.specs.declared.comparison.Comparison.{Comparison}
-use Rattle.educe_body.specs.declared.comparison.Comparison.TheVariants.{PartialEq, PartialOrd, Ord}
 use Rattle.educe_syntax.specs.Few.{variants_of, all_fields}
 use Rattle.educe_syntax.specs.Variant.{Variant}
 use Rattle.educe_laws.specs.Cases.{fields_in, cases_of, variant_attributes, field_attributes}
-use Rattle.educe_laws.specs.Comparisons.{trait_of, is_order, type_row, variant_row, field_row}
+use Rattle.educe_laws.specs.Defaults.{IsDefaultCause}
 use Rattle.educe_laws.specs.Listed.{listed}
+use Rattle.educe_laws.specs.Rows.{is_order, type_row, variant_row, field_row}
 use Rattle.educe_laws.specs.Settings.{Kept, kept_fields, ReusesARank}
 
 -- the error for a repeated rank
@@ -47,41 +46,44 @@ pub record IsReuse (kept : List Kept) (e : EduceError) : Type 0 where
   pub is : e ≡ reuse_of rank place
 
 -- two of these fields that take part in an order have one rank, and no field of them says something wrong of it
-pub record IsRankCause (which : Comparison) (definition : DeriveInput) (fields : List Field) (e : EduceError) : Type 0 where
+pub record IsRankCause (which : Trait) (definition : DeriveInput) (fields : List Field) (e : EduceError) : Type 0 where
   pub orders : IsTrue (is_order which)
-  pub read : HaveNoCauses (trait_of which) (field_row which) (listed definition) fields
+  pub read : HaveNoCauses which (field_row which) (listed definition) fields
   pub reuse : IsReuse (kept_fields which definition fields) e
 
--- why a comparison is refused: what the type says of it is; what a variant says of it is; what a field says of it is; or, where
--- it is an order, two fields of one case that take part have one rank
-pub data IsComparisonCause (which : Comparison) (definition : DeriveInput) : EduceError → Type 0 where
-  by_type : {e : EduceError} → IsSaidCause (trait_of which) type_row definition.attrs e → IsComparisonCause which definition e
+-- why a trait is refused whose attributes are read field by field: what the type says of it is; what a variant says of it is; what a
+-- field says of it is; or, where it is an order, two fields of one case that take part have one rank
+pub data IsFieldwiseCause (which : Trait) (definition : DeriveInput) : EduceError → Type 0 where
+  by_type : {e : EduceError} → IsSaidCause which (type_row which) definition.attrs e → IsFieldwiseCause which definition e
   by_variant : {e : EduceError} (variant : Variant) → IsAmong variant (variants_of definition)
-      → IsSaidCause (trait_of which) variant_row variant.attrs e → IsComparisonCause which definition e
+      → IsSaidCause which (variant_row which) variant.attrs e → IsFieldwiseCause which definition e
   by_field : {e : EduceError} (field : Field) → IsAmong field (all_fields definition)
-      → IsFieldCause (trait_of which) (field_row which) (listed definition) field.attrs e → IsComparisonCause which definition e
+      → IsFieldCause which (field_row which) (listed definition) field.attrs e → IsFieldwiseCause which definition e
   by_rank : {e : EduceError} (fields : List Field) → IsAmong fields (cases_of definition) → IsRankCause which definition fields e
-      → IsComparisonCause which definition e
+      → IsFieldwiseCause which definition e
 
 -- why the fields of a case are refused: one of them is, or a rank
-abbrev pub OfCase : Comparison → DeriveInput → List Field → Cause
-OfCase which definition fields = λ e. OfFields (trait_of which) (field_row which) (listed definition) fields e ⊎ IsRankCause which definition fields e
+abbrev pub OfCase : Trait → DeriveInput → List Field → Cause
+OfCase which definition fields = λ e. OfFields which (field_row which) (listed definition) fields e ⊎ IsRankCause which definition fields e
 
 -- why a variant is refused: its own attributes are, or its fields
-abbrev pub OfVariant : Comparison → DeriveInput → Variant → Cause
+abbrev pub OfVariant : Trait → DeriveInput → Variant → Cause
 OfVariant which definition variant =
-    λ e. OfPlace (trait_of which) variant_row (listed definition) variant.attrs e ⊎ OfCase which definition (fields_in variant) e
+    λ e. OfPlace which (variant_row which) (listed definition) variant.attrs e ⊎ OfCase which definition (fields_in variant) e
 
 -- why what stands behind the name of a definition is refused: the fields of a struct are, or one of the variants of an enum
-abbrev pub OfShape : Comparison → DeriveInput → Shape → Cause
+abbrev pub OfShape : Trait → DeriveInput → Shape → Cause
 OfShape which definition (Struct shape) = OfCase which definition shape.fields
 OfShape which definition (Enum variants) = λ e. (variant : Variant) × IsAmong variant variants × OfVariant which definition variant e
 
--- why a trait is refused; only comparisons are built so far
+-- why a trait is refused; the others are not built yet
 abbrev pub IsTraitCause : DeriveInput → Trait → Cause
-IsTraitCause definition trait.PartialEq = IsComparisonCause PartialEq definition
-IsTraitCause definition trait.PartialOrd = IsComparisonCause PartialOrd definition
-IsTraitCause definition trait.Ord = IsComparisonCause Ord definition
+IsTraitCause definition trait.PartialEq = IsFieldwiseCause trait.PartialEq definition
+IsTraitCause definition trait.Eq = IsFieldwiseCause trait.Eq definition
+IsTraitCause definition trait.PartialOrd = IsFieldwiseCause trait.PartialOrd definition
+IsTraitCause definition trait.Ord = IsFieldwiseCause trait.Ord definition
+IsTraitCause definition trait.Hash = IsFieldwiseCause trait.Hash definition
+IsTraitCause definition trait.Default = IsDefaultCause definition
 IsTraitCause definition _ = λ _. ⊥
 
 -- what is asked of the handlers

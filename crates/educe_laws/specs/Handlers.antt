@@ -2,12 +2,16 @@
 use Rattle.std.specs.Prelude.{◌≡◌, true, List, [], ◌∷◌, ◌++◌, if◌then◌else◌}
 use Rattle.std.specs.List.{filter, flat_map, before_first, AllByRecursion, AllZip}
 use Rattle.educe_syntax.specs.DeriveInput.{DeriveInput}
+use Rattle.educe_syntax.specs.Refusal.{IsDefinition}
 use Rattle.educe_bound.specs.declared.traits.Trait.{Trait}
 use Rattle.educe_bound.specs.Predicates.{Key}
 use Rattle.educe_bound.specs.Traits.{is_listed, same_trait}
+use Rattle.educe_attrs.specs.Causes.{NoCause}
+use Rattle.educe_attrs.specs.Phases.{OfHandler}
 use Rattle.educe_body.specs.declared.body.Item.{Item}
 use Rattle.educe_laws.specs.Blocks.{IsBlock, EachEvaluates}
 use Rattle.educe_laws.specs.Built.{built_traits, IsBuilt}
+use Rattle.educe_laws.specs.Handled.{handling}
 use Rattle.educe_laws.specs.Headers.{AreOf}
 use Rattle.educe_laws.specs.Listed.{listed}
 
@@ -46,12 +50,18 @@ noted_of which (n ∷ ns) = if same_trait n.which which then n.added else noted_
 abbrev pub inherited_from : List Noted → List Trait → List Key
 inherited_from noted traits = flat_map (λ which. noted_of which noted) traits
 
--- the definition is ready for the handler of this trait: it lists the traits, and this one among them; it is of the form that is
--- built; and the context holds what the handlers before this one noted
+-- the handlers of those of these traits that are listed have no cause
+abbrev pub AreUncaused : DeriveInput → List Trait → Type 0
+AreUncaused definition done = AllByRecursion (λ which. is_listed (listed definition) which ≡ true → NoCause (OfHandler (handling definition) which)) done
+
+-- the definition is ready for the handler of this trait: it is the value of its tokens; it lists the traits, and this one among them;
+-- it is of the form that is built; and the handlers before this one have no cause, and the context holds what they noted
 pub record IsReady (which : Trait) (definition : DeriveInput) (traits : List Trait) (noted : List Noted) : Type 0 where
+  pub is_read : IsDefinition definition.tokens definition
   pub traits_are : traits ≡ listed definition
   pub lists : is_listed traits which ≡ true
   pub built : IsBuilt definition
+  pub uncaused : AreUncaused definition (traits_before which)
   pub noted_are : AreNoted definition (traits_before which) noted
 
 -- the items before are kept, and behind them stands the block of the trait

@@ -1,8 +1,6 @@
 -- The headers of impls: their generic parameters, and the predicates of their where clauses (documentation of `educe`, Bounds).
-use Rattle.std.specs.Prelude.{◌≡◌, ◌↔◌, Bool, true, false, IsTrue, List, [], ◌∷◌, ◌++◌, map, Option, Some, None}
-use Rattle.std.specs.List.{filter_map}
+use Rattle.std.specs.Prelude.{◌≡◌, ◌↔◌, Bool, true, false, ◌&&◌, IsTrue, List, [], ◌∷◌, ◌++◌, Option, Some, None}
 use Rattle.educe_syntax.specs.DeriveInput.{DeriveInput}
-use Rattle.educe_syntax.specs.Field.{Field}
 use Rattle.educe_syntax.specs.Generics.{Generics}
 use Rattle.educe_syntax.specs.Ty.{Ty}
 use Rattle.educe_syntax.specs.WherePredicate.{WherePredicate}
@@ -16,42 +14,12 @@ use Rattle.educe_bound.specs.Bounds.{bound_of}
 use Rattle.educe_bound.specs.Predicates.{Key, keys_of, exceptions_of, asks_for, AreByBound, AreCopies, lifetimes_first}
 use Rattle.educe_bound.specs.Traits.{is_listed}
 use Rattle.educe_attrs.specs.Packed.{IsPacked}
-use Rattle.educe_attrs.specs.Places.{place_settings}
 use Rattle.educe_attrs.specs.WherePredicatesOrBool.{WherePredicatesOrBool}
-use Rattle.educe_body.specs.declared.comparison.Comparison.{Comparison}
-use Rattle.educe_body.specs.declared.comparison.Comparison.TheVariants.{PartialEq, PartialOrd, Ord}
 use Rattle.educe_laws.specs.Built.{is_struct}
-use Rattle.educe_laws.specs.Cases.{cases_of}
-use Rattle.educe_laws.specs.Comparisons.{trait_of, type_row}
 use Rattle.educe_laws.specs.Listed.{listed}
-use Rattle.educe_laws.specs.Settings.{Kept, How, plainly, by_method, by_order, kept_fields}
-use Rattle.educe_laws.specs.Steps.{IsInOrder}
-
--- ---- the types that bounds speak of
-
--- the fields that take part, in the order in which the trait goes over those of each case, and one case behind the other
-abbrev pub AreVisited : Comparison → DeriveInput → List (List Field) → List Kept → Type 0
-AreVisited which definition [] visited = visited ≡ []
-AreVisited which definition (fields ∷ cases) visited =
-    (own : List Kept) × (more : List Kept) × (visited ≡ own ++ more) × IsInOrder which (kept_fields which definition fields) own × AreVisited which definition cases more
-
--- the type of a field
-abbrev pub type_of : Kept → Ty
-type_of kept = kept.field.ty
-
--- the type of a field that is compared by the trait's own function
-abbrev pub touched_by : How → Ty → Option Ty
-touched_by plainly ty = Some ty
-touched_by (by_method path) ty = None
-touched_by (by_order path) ty = None
-
--- the types of the fields that are read
-abbrev pub read_types : List Kept → List Ty
-read_types visited = map type_of visited
-
--- the types of those that are compared by the trait's own function
-abbrev pub touched_types : List Kept → List Ty
-touched_types visited = filter_map (λ k. touched_by k.how (type_of k)) visited
+use Rattle.educe_laws.specs.Rows.{reads_fields}
+use Rattle.educe_laws.specs.Settings.{type_settings}
+use Rattle.educe_laws.specs.Types.{AreTypes}
 
 -- ---- the predicates that are added
 
@@ -60,9 +28,9 @@ abbrev pub bound_said : Option WherePredicatesOrBool → Bound
 bound_said None = Auto
 bound_said (Some value) = bound_of value
 
--- the bound that the type says for a comparison
-abbrev pub bound_for : Comparison → DeriveInput → Bound
-bound_for which definition = bound_said (place_settings (trait_of which) type_row (listed definition) definition.attrs).bound
+-- the bound that the type says for a trait
+abbrev pub bound_for : Trait → DeriveInput → Bound
+bound_for which definition = bound_said (type_settings which definition).bound
 
 -- whether fields are read by copies: in a packed struct
 pub record AreCopied (definition : DeriveInput) (copied : Bool) : Type 0 where
@@ -80,16 +48,17 @@ Inherits Auto own inherited all = Extends own inherited all
 Inherits All own inherited all = all ≡ own
 Inherits (Custom predicates) own inherited all = all ≡ own
 
--- The predicates that the impl of a comparison adds to those of the definition: what its bound asks for by itself, which are its
--- own; what copies ask for, where they are not there yet; and then what it inherits.
-pub record AreAdded (which : Comparison) (definition : DeriveInput) (inherited own all : List Key) : Type 0 where
-  pub visited : List Kept
-  pub visited_are : AreVisited which definition (cases_of definition) visited
-  pub own_are : AreByBound (bound_for which definition) (exceptions_of (trait_of which)) definition.generics.params definition.ident.text (trait_of which) (touched_types visited) own
+-- The predicates that the impl of a trait adds to those of the definition: what its bound asks for by itself, which are its own;
+-- what copies ask for, where the trait reads fields and they are not there yet; and then what it inherits.
+pub record AreAdded (which : Trait) (definition : DeriveInput) (inherited own all : List Key) : Type 0 where
+  pub read : List Ty
+  pub touched : List Ty
+  pub types_are : AreTypes which definition read touched
+  pub own_are : AreByBound (bound_for which definition) (exceptions_of which) definition.generics.params definition.ident.text which touched own
   pub copied : Bool
   pub copied_are : AreCopied definition copied
   pub copies : List Key
-  pub copies_are : ArePacked copied (bound_for which definition) definition (read_types visited) copies
+  pub copies_are : ArePacked (reads_fields which && copied) (bound_for which definition) definition read copies
   pub with_copies : List Key
   pub copies_added : Extends own copies with_copies
   pub inherited_added : Inherits (bound_for which definition) with_copies inherited all
@@ -104,18 +73,11 @@ prerequisites trait.PartialOrd = trait.PartialEq ∷ []
 prerequisites trait.Ord = trait.Eq ∷ trait.PartialOrd ∷ []
 prerequisites _ = []
 
--- the predicates that the impl of a trait adds, by those that it inherits; only comparisons are built so far
-abbrev pub AreAddedBy : Trait → DeriveInput → List Key → List Key → List Key → Type 0
-AreAddedBy trait.PartialEq definition = AreAdded PartialEq definition
-AreAddedBy trait.PartialOrd definition = AreAdded PartialOrd definition
-AreAddedBy trait.Ord definition = AreAdded Ord definition
-AreAddedBy _ definition = λ inherited own all. ⊥
-
 mutual
   -- the predicates that the impl of a trait adds
   pub data AreOf (definition : DeriveInput) : Trait → List Key → Type 0 where
     added : (which : Trait) (inherited own : List Key) {all : List Key} → AreInherited definition (prerequisites which) inherited
-        → AreAddedBy which definition inherited own all → AreOf definition which all
+        → AreAdded which definition inherited own all → AreOf definition which all
 
   -- those that it inherits of these traits: of those that are listed, one behind the other
   pub data AreInherited (definition : DeriveInput) : List Trait → List Key → Type 0 where
@@ -135,19 +97,19 @@ pub record IsHeader (which : Trait) (definition : DeriveInput) (generics : Gener
   pub own : List Key
   pub added : List WherePredicate
   pub inherited_are : AreInherited definition (prerequisites which) inherited
-  pub added_are : AreAddedBy which definition inherited own (keys_of added)
+  pub added_are : AreAdded which definition inherited own (keys_of added)
   pub predicates_are : generics.predicates ≡ definition.generics.predicates ++ added
 
 -- ---- automatic bounds
 
--- The predicates of the header of a comparison are those of the definition, then its own, and then others. From its own ones the
--- comparison can be derived of the type of each field that its own function compares; and once any one of them is dropped, of one
--- of these types it can't.
-pub record AreTight (which : Comparison) (definition : DeriveInput) (header : List Key) : Type 0 where
-  pub visited : List Kept
-  pub visited_are : AreVisited which definition (cases_of definition) visited
+-- The predicates of the header of a trait are those of the definition, then its own, and then others. From its own ones the trait
+-- can be derived of each type that has to have it; and once any one of them is dropped, of one of these types it can't.
+pub record AreTight (which : Trait) (definition : DeriveInput) (header : List Key) : Type 0 where
+  pub read : List Ty
+  pub touched : List Ty
+  pub types_are : AreTypes which definition read touched
   pub own : List Key
   pub others : List Key
   pub header_is : header ≡ keys_of definition.generics.predicates ++ (own ++ others)
-  pub suffices : Suffices (exceptions_of (trait_of which)) definition.generics.params definition.ident.text (asks_for (trait_of which)) (touched_types visited) own
-  pub minimal : AreMinimal (exceptions_of (trait_of which)) definition.generics.params definition.ident.text (asks_for (trait_of which)) (touched_types visited) own
+  pub suffices : Suffices (exceptions_of which) definition.generics.params definition.ident.text (asks_for which) touched own
+  pub minimal : AreMinimal (exceptions_of which) definition.generics.params definition.ident.text (asks_for which) touched own

@@ -1,5 +1,6 @@
--- The comparisons, and the traits that a definition lists.
+-- The comparisons, the forms of attributes of each trait, and the traits that a definition lists.
 pub mod Comparisons
+pub mod Rows
 pub mod Listed
 -- The fields of each case, and the discriminants of variants.
 pub mod Cases
@@ -7,12 +8,20 @@ pub mod Discriminants
 -- What attributes say of a field, and the order of ranks.
 pub mod Ranks
 pub mod Settings
+pub mod Defaults
+pub mod Said
 -- What a comparison means of two values.
 pub mod Comparing
+-- What `Hash` means of a value.
+pub mod Hashing
 -- What the items of a trait hold, and what their functions evaluate to.
 pub mod Steps
+pub mod Types
 pub mod Headers
 pub mod Arms
+pub mod Making
+pub mod HashBodies
+pub mod Checks
 pub mod Blocks
 -- The form of definitions that is built so far, and why a trait is refused.
 pub mod Built
@@ -22,3 +31,6 @@ pub mod Handlers
 -- Laws that hold with no call, as terms and as records.
 pub mod BodyLaws
 pub mod Laws
+pub mod HashLaws
+pub mod DefaultLaws
+pub mod EqLaws

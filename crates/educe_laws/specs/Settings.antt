@@ -1,36 +1,42 @@
--- What the attributes of a type and of its fields say to a comparison.
+-- What the attributes of a type, of its variants and of its fields say of a trait.
 use Rattle.std.specs.Prelude.{ℕ, ℤ, pos, ◌-ℤ◌, ◌+◌, ◌^◌, ◌<◌, ◌≤◌, ◌≡◌, Bool, true, false, not, List, [], ◌∷◌, map, Option, None, Some, if◌then◌else◌, unwrap_or}
 use Rattle.std.specs.List.{AllByRecursion, Contains}
 use Rattle.educe_tokens.specs.declared.span.Span.{Span}
 use Rattle.educe_syntax.specs.ExprPath.{ExprPath}
 use Rattle.educe_syntax.specs.Field.{Field}
 use Rattle.educe_syntax.specs.DeriveInput.{DeriveInput}
+use Rattle.educe_syntax.specs.Variant.{Variant}
+use Rattle.educe_attrs.specs.Values.{Values}
 use Rattle.educe_attrs.specs.FieldSettings.{FieldSettings}
 use Rattle.educe_attrs.specs.Fields.{settings_at}
 use Rattle.educe_attrs.specs.Compared.{number_of, place_of}
 use Rattle.educe_attrs.specs.Places.{place_settings, IsSaid, IsFieldSaid}
-use Rattle.educe_bound.specs.Traits.{is_listed}
-use Rattle.educe_body.specs.declared.comparison.Comparison.{Comparison}
-use Rattle.educe_syntax.specs.Few.{all_fields}
-use Rattle.educe_laws.specs.Comparisons.{trait_of, type_row, field_row}
+use Rattle.educe_bound.specs.declared.traits.Trait.{Trait}
+use Rattle.educe_syntax.specs.Few.{variants_of, all_fields}
 use Rattle.educe_laws.specs.Listed.{listed}
 use Rattle.educe_laws.specs.Ranks.{AreRanksApart}
+use Rattle.educe_laws.specs.Rows.{type_row, variant_row, field_row}
 
 -- ---- settings
 
--- the settings of a field
-abbrev pub settings_of : Comparison → DeriveInput → Field → FieldSettings
-settings_of which definition = settings_at (trait_of which) (field_row which) (listed definition)
+-- the settings of the type
+abbrev pub type_settings : Trait → DeriveInput → Values
+type_settings which definition = place_settings which (type_row which) (listed definition) definition.attrs
 
--- The settings of the type, among them its bound, are what its attributes say of the comparison. Those of each field are what its
--- attributes say of it, or, where both orders are listed and an order has none of its own, of the other.
-pub record AreSaid (which : Comparison) (definition : DeriveInput) : Type 0 where
-  pub type_said : IsSaid (trait_of which) type_row definition.attrs (place_settings (trait_of which) type_row (listed definition) definition.attrs)
-  pub fields_said : AllByRecursion (λ field. IsFieldSaid (trait_of which) (field_row which) (listed definition) field.attrs (settings_of which definition field)) (all_fields definition)
+-- those of a variant
+abbrev pub variant_settings : Trait → DeriveInput → Variant → Values
+variant_settings which definition variant = place_settings which (variant_row which) (listed definition) variant.attrs
 
--- that of each listed comparison
-abbrev pub AreAllSaid : DeriveInput → Type 0
-AreAllSaid definition = (which : Comparison) → is_listed (listed definition) (trait_of which) ≡ true → AreSaid which definition
+-- those of a field
+abbrev pub settings_of : Trait → DeriveInput → Field → FieldSettings
+settings_of which definition = settings_at which (field_row which) (listed definition)
+
+-- The settings of the type, among them its bound, and those of each variant are what their attributes say of the trait. Those of
+-- each field are what its attributes say of it, or, where both orders are listed and an order has none of its own, of the other.
+pub record AreSaid (which : Trait) (definition : DeriveInput) : Type 0 where
+  pub type_said : IsSaid which (type_row which) definition.attrs (type_settings which definition)
+  pub variants_said : AllByRecursion (λ (variant : Variant). IsSaid which (variant_row which) variant.attrs (variant_settings which definition variant)) (variants_of definition)
+  pub fields_said : AllByRecursion (λ field. IsFieldSaid which (field_row which) (listed definition) field.attrs (settings_of which definition field)) (all_fields definition)
 
 -- whether a field with these settings takes part
 abbrev pub keeps : FieldSettings → Bool
@@ -48,7 +54,7 @@ rank_by place settings = number_of settings.values.rank (default_rank place)
 abbrev pub rank_span_by : FieldSettings → Span → Span
 rank_span_by settings other = unwrap_or (place_of settings.values.rank) other
 
--- how a field is compared: by the trait's own function; by a method; or, where `PartialOrd` takes the method of `Ord`, by
+-- how a field is treated: by the trait's own function; by a method; or, where `PartialOrd` takes the method of `Ord`, by
 -- one that returns an `Ordering`
 pub data How : Type 0 where
   plainly : How
@@ -61,21 +67,21 @@ how_with ordering None = plainly
 how_with false (Some path) = by_method path
 how_with true (Some path) = by_order path
 
--- how a field with these settings is compared
+-- how a field with these settings is treated
 abbrev pub how_by : FieldSettings → How
 how_by settings = how_with settings.method_returns_ordering settings.values.method
 
 -- ---- fields
 
--- the field takes part in the comparison
-abbrev pub is_kept : Comparison → DeriveInput → Field → Bool
+-- the field takes part in what the trait does
+abbrev pub is_kept : Trait → DeriveInput → Field → Bool
 is_kept which definition field = keeps (settings_of which definition field)
 
 -- where the rank stands: the parameter, or the field where it has none
-abbrev pub rank_span_of : Comparison → DeriveInput → Field → Span
+abbrev pub rank_span_of : Trait → DeriveInput → Field → Span
 rank_span_of which definition field = rank_span_by (settings_of which definition field) field.span
 
--- a field that takes part, its place among the fields of its case, counted from 0, its rank, where that stands, and how it is compared
+-- a field that takes part, its place among the fields of its case, counted from 0, its rank, where that stands, and how it is treated
 pub record Kept : Type 0 where
   pub field : Field
   pub place : ℕ
@@ -100,15 +106,15 @@ kept_by place (f ∷ fs) [] = []
 kept_by place (f ∷ fs) (s ∷ all) = if keeps s then kept_with s place f ∷ kept_by (place + 1) fs all else kept_by (place + 1) fs all
 
 -- the field at a place, as it takes part
-abbrev pub kept_at : Comparison → DeriveInput → ℕ → Field → Kept
+abbrev pub kept_at : Trait → DeriveInput → ℕ → Field → Kept
 kept_at which definition place field = kept_with (settings_of which definition field) place field
 
 -- those that take part among fields of which the first has this place
-abbrev pub kept_from : Comparison → DeriveInput → ℕ → List Field → List Kept
+abbrev pub kept_from : Trait → DeriveInput → ℕ → List Field → List Kept
 kept_from which definition place fields = kept_by place fields (map (settings_of which definition) fields)
 
 -- those that take part among the fields of one case, in written order
-abbrev pub kept_fields : Comparison → DeriveInput → List Field → List Kept
+abbrev pub kept_fields : Trait → DeriveInput → List Field → List Kept
 kept_fields which definition fields = kept_from which definition 0 fields
 
 -- no two of the fields have one rank

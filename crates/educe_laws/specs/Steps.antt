@@ -1,4 +1,5 @@
--- The steps of comparisons: what a function does with each field that takes part.
+-- How the fields of values are read, what is called on them, and the steps of comparisons: what a function does with each field that
+-- takes part.
 use Rattle.std.specs.Prelude.{ℕ, ◌≡◌, Bool, true, false, List, [], ◌∷◌, ◌++◌, None, IsPermutation}
 use Rattle.std.specs.List.{AllZip}
 use Rattle.std.specs.declared.cmp.Ordering.TheVariants.{Less, Greater}
@@ -7,12 +8,15 @@ use Rattle.educe_tokens.specs.Appends.{no_place}
 use Rattle.educe_syntax.specs.Ident.{Ident}
 use Rattle.educe_syntax.specs.ExprPath.{ExprPath}
 use Rattle.educe_syntax.specs.Field.{Field}
+use Rattle.educe_bound.specs.declared.traits.Trait.{Trait}
 use Rattle.educe_body.specs.declared.comparison.Comparison.{Comparison}
 use Rattle.educe_body.specs.declared.comparison.Comparison.TheVariants.{PartialEq, PartialOrd, Ord}
+use Rattle.educe_body.specs.declared.callee.BuiltIn.{BuiltIn}
 use Rattle.educe_body.specs.declared.form.Form.{Form, Local, Reference, BracedCopy, Call, Not, SomeOf, IfReturn, MatchOrdering}
 use Rattle.educe_body.specs.BuiltIn.{IsBuiltIn}
 use Rattle.educe_body.specs.Keys.{key_of, binding_key}
 use Rattle.educe_laws.specs.Ranks.{Rises}
+use Rattle.educe_laws.specs.Rows.{is_order}
 use Rattle.educe_laws.specs.Settings.{Kept, How, plainly, by_method, by_order}
 use Rattle.educe_laws.specs.Comparing.{comparison}
 
@@ -67,11 +71,11 @@ step_of PartialEq test = IfReturn test
 step_of PartialOrd test = MatchOrdering test true None Greater Less
 step_of Ord test = MatchOrdering test false None Greater Less
 
--- the path that is called: that of the trait's function in the core library, or the method's as it was read
-abbrev pub IsCalled : Comparison → How → ExprPath → Type 0
-IsCalled which plainly path = IsBuiltIn (comparison which) path
-IsCalled which (by_method own) path = path ≡ own
-IsCalled which (by_order own) path = path ≡ own
+-- the path that is called: that of this function of the core library, or the method's as it was read
+abbrev pub IsCalled : BuiltIn → How → ExprPath → Type 0
+IsCalled function plainly path = IsBuiltIn function path
+IsCalled function (by_method own) path = path ≡ own
+IsCalled function (by_order own) path = path ≡ own
 
 -- a call on this field of both values and no other: `path ( & self . key , & other . key )`, or on the field's two variables
 pub record IsComparison (which : Comparison) (own others : Reading) (kept : Kept) (x : Form) : Type 0 where
@@ -79,7 +83,7 @@ pub record IsComparison (which : Comparison) (own others : Reading) (kept : Kept
   pub first : Form
   pub second : Form
   pub is : x ≡ Call path (first ∷ second ∷ [])
-  pub path_is : IsCalled which kept.how path
+  pub path_is : IsCalled (comparison which) kept.how path
   pub first_is : IsRead own kept first
   pub second_is : IsRead others kept second
 
@@ -98,8 +102,11 @@ pub record IsByRank (kept sorted : List Kept) : Type 0 where
   pub same : IsPermutation kept sorted
   pub rises : Rises (λ (k : Kept). k.rank) sorted
 
--- the order in which a trait goes over the fields: `eq` as they are written, the two orders by rank
-abbrev pub IsInOrder : Comparison → List Kept → List Kept → Type 0
-IsInOrder PartialEq kept ordered = ordered ≡ kept
-IsInOrder PartialOrd kept ordered = IsByRank kept ordered
-IsInOrder Ord kept ordered = IsByRank kept ordered
+-- with true by rank, and else as they are written
+abbrev pub IsOrdered : Bool → List Kept → List Kept → Type 0
+IsOrdered true kept ordered = IsByRank kept ordered
+IsOrdered false kept ordered = ordered ≡ kept
+
+-- the order in which a trait goes over the fields: the two orders by rank, and the others as they are written
+abbrev pub IsInOrder : Trait → List Kept → List Kept → Type 0
+IsInOrder which = IsOrdered (is_order which)

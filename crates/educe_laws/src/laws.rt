@@ -1,14 +1,44 @@
-//! Laws of what is derived that hold with no call: the function does nothing, and its contract is the
+//! Laws of what is derived that hold with no call: the functions do nothing, and their contracts are the
 //! laws.
-ghost use Rattle.educe_laws.specs.Laws.{ComparisonLaws};
+ghost use Rattle.educe_laws.specs.DefaultLaws.{DefaultLaws};
+ghost use Rattle.educe_laws.specs.EqLaws.{EqLaws};
+ghost use Rattle.educe_laws.specs.HashLaws.{HashLaws};
+ghost use Rattle.educe_laws.specs.Laws.{ComparisonLaws, TraitLaws};
 
-/// Where no cause of a comparison stands, the settings of its fields are what their attributes say and
-/// no others, and the functions of its block evaluate, over each table and any two values that it
-/// covers, to what the comparison means, methods included. The names in the scope of a struct's function
-/// and of the arms of an enum's are apart from each other and, `self` aside, no words of the input.
-/// Where discriminants are numbers of their type, the constants have them. What the context notes of the
-/// traits that an impl inherits from is what it inherits; and where the bound of an impl is the automatic
-/// one, its own predicates suffice, and none of them can be dropped.
+/// Where no cause of a listed trait stands, its settings are what the attributes say, and those of fields
+/// are no others. What the context notes of the traits that an impl inherits from is what it inherits; and
+/// where the bound of an impl is the automatic one, its own predicates suffice, and none of them can be
+/// dropped.
+pub fn trait_laws()
+    ensures { TraitLaws }
+{}
+
+/// Where no cause of a comparison stands, the functions of its block evaluate, over each table and any two
+/// values that it covers, to what the comparison means, methods included. The names in the scope of a
+/// struct's function and of the arms of an enum's are apart from each other and, `self` aside, no words of
+/// the input. Where discriminants are numbers of their type, the constants have them.
 pub fn comparison_laws()
     ensures { ComparisonLaws }
+{}
+
+/// Where no field says something wrong of `Hash`, the function of its block feeds, over each table and any
+/// value that it covers, the place of the value's variant and what its fields feed, methods included. The
+/// names in the scope of a struct's function and of the arms of an enum's are apart from each other and,
+/// `self` aside, no words of the input.
+pub fn hash_laws()
+    ensures { HashLaws }
+{}
+
+/// The functions of the block of `Default` evaluate, over each table by which each of their calls makes a
+/// value, to the struct, the variant or the whole value that the attributes determine: each field to what
+/// its attributes say, or to the default value of its type.
+pub fn default_laws()
+    ensures { DefaultLaws }
+{}
+
+/// The names that the check of `Eq` declares are apart from each other, and none is a word of the input,
+/// such as the name of a parameter. No function of the block of `Eq` is called, so that there is none to
+/// evaluate.
+pub fn eq_laws()
+    ensures { EqLaws }
 {}

@@ -1,0 +1,23 @@
+-- What the attributes of a definition say of the traits that it lists.
+use Rattle.std.specs.Prelude.{◌≡◌, true}
+use Rattle.educe_syntax.specs.DeriveInput.{DeriveInput}
+use Rattle.educe_bound.specs.declared.traits.Trait.{Trait}
+use Rattle.educe_bound.specs.declared.traits.Trait.TheVariants as trait
+use Rattle.educe_bound.specs.Traits.{is_listed}
+use Rattle.educe_laws.specs.Defaults.{AreDefaultsSaid}
+use Rattle.educe_laws.specs.Listed.{listed}
+use Rattle.educe_laws.specs.Settings.{AreSaid}
+
+-- the settings of a trait are what the attributes say of it
+abbrev pub AreSaidOf : Trait → DeriveInput → Type 0
+AreSaidOf trait.PartialEq definition = AreSaid trait.PartialEq definition
+AreSaidOf trait.Eq definition = AreSaid trait.Eq definition
+AreSaidOf trait.PartialOrd definition = AreSaid trait.PartialOrd definition
+AreSaidOf trait.Ord definition = AreSaid trait.Ord definition
+AreSaidOf trait.Hash definition = AreSaid trait.Hash definition
+AreSaidOf trait.Default definition = AreDefaultsSaid definition
+AreSaidOf _ definition = ⊥
+
+-- so it is for each listed trait
+abbrev pub AreAllSaid : DeriveInput → Type 0
+AreAllSaid definition = (which : Trait) → is_listed (listed definition) which ≡ true → AreSaidOf which definition
