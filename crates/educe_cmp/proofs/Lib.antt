@@ -1,14 +1,3 @@
-pub mod Lists
-pub mod Texts
-pub mod Sorting
-pub mod Kept
-pub mod Earliest
-pub mod Repeats
-pub mod PatternFields
-pub mod Named
 pub mod Counted
-pub mod Refused
 pub mod Added
-pub mod Inherited
-pub mod Visited
-pub mod Headed
+pub mod CheckedTypes

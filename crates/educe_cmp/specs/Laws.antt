@@ -1,7 +1,13 @@
--- The laws of comparisons as terms, which proofs cite with no call.
+-- The laws of comparisons and of `Eq` as terms, which proofs cite with no call.
+use Rattle.educe_laws.specs.EqLaws.{EqLaws}
 use Rattle.educe_laws.specs.Laws.{ComparisonLaws}
+use Rattle.educe_laws.proofs.Checked as checked
 use Rattle.educe_laws.proofs.Evaluating as evaluating
 
 -- the functions of a comparison's block evaluate to what the comparison means
 pub lawful_comparisons : ComparisonLaws
 lawful_comparisons = evaluating.lawful_comparisons
+
+-- what holds of the block of `Eq`
+pub lawful_checks : EqLaws
+lawful_checks = checked.lawful_checks

@@ -1,9 +1,6 @@
-pub mod Ranked
--- The names that functions declare, and how they read fields.
-pub mod OneWord
+-- The names that functions declare.
 pub mod Names
-pub mod Readings
--- The types of fields that bounds speak of, and the predicates that are added.
-pub mod Visits
--- The laws of comparisons as terms.
+-- The types of which `Eq` is checked.
+pub mod EqTypes
+-- The laws of comparisons and of `Eq` as terms.
 pub mod Laws

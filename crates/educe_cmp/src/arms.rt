@@ -5,20 +5,19 @@ ghost use Rattle.educe_body.specs.BuiltIn.{IsBuiltIn};
 ghost use Rattle.educe_syntax.specs.DeriveInput.{DeriveInput};
 ghost use Rattle.educe_syntax.specs.Variant.{Variant};
 ghost use Rattle.educe_cmp.specs.Names.{names_of};
-ghost use Rattle.educe_cmp.specs.Ranked.{kept_of};
+ghost use Rattle.educe_handlers.specs.Ranked.{kept_of};
 ghost use Rattle.educe_laws.specs.Arms as spec;
 ghost use Rattle.educe_laws.specs.Cases.{fields_in};
 ghost use Rattle.educe_laws.specs.Comparing as meaning;
+ghost use Rattle.educe_laws.specs.Comparisons.{trait_of};
 ghost use Rattle.educe_laws.specs.Settings.{settings_of, kept_fields};
 ghost use Rattle.educe_laws.specs.Steps.{IsInOrder};
 
 use crate::comparing::{neutral, steps};
 use crate::names::Names;
-use crate::patterns::pattern;
-use crate::ranked::Ranked;
-use crate::reading::Reading;
 use educe_attrs::FieldSettings;
 use educe_body::{Arm, Arms, Comparison, Form, Forms, Known, Shared};
+use educe_handlers::{Ranked, Reading, pattern};
 use educe_syntax::{Duplicate, ExprPath, Ident, Variant};
 use educe_tokens::{Boxed, Seq};
 use std::alloc::{AllocError, Global};
@@ -52,8 +51,8 @@ pub fn arm(
     requires plain { IsBuiltIn (meaning.comparison which) plain.now }
     requires each { length settings.now ≡ length (fields_in variant.now) }
     ensures { (definition : DeriveInput) →
-        settings.now ≡ map (settings_of which definition) (fields_in variant.now) →
-        IsInOrder which (kept_fields which definition (fields_in variant.now)) (map kept_of fields.now) →
+        settings.now ≡ map (settings_of (trait_of which) definition) (fields_in variant.now) →
+        IsInOrder (trait_of which) (kept_fields (trait_of which) definition (fields_in variant.now)) (map kept_of fields.now) →
         IfOk result (spec.IsArm which definition (names_of names.now) variant.now) }
 {
     let own = pattern(alloc, &names.own, variant, settings)?;

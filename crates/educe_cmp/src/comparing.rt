@@ -1,15 +1,14 @@
 //! The steps of the traits that compare two values.
 ghost use Rattle.std.specs.Prelude.{◌≡◌, IfOk, map};
 ghost use Rattle.educe_body.specs.BuiltIn.{IsBuiltIn};
-ghost use Rattle.educe_cmp.specs.Ranked.{how_of, kept_of};
-ghost use Rattle.educe_cmp.specs.Readings.{reading_of, CanRead};
+ghost use Rattle.educe_handlers.specs.Ranked.{how_of, kept_of};
+ghost use Rattle.educe_handlers.specs.Readings.{reading_of, CanRead};
 ghost use Rattle.educe_laws.specs.Comparing as meaning;
 ghost use Rattle.educe_laws.specs.Steps as spec;
 
-use crate::ranked::{How, Ranked};
-use crate::reading::{Reading, read};
 use educe_body::{BuiltIn, Comparison, Form, Forms, Known, Shared, built_in_path};
-use educe_syntax::{Duplicate, ExprPath};
+use educe_handlers::{How, Ranked, Reading, called, read};
+use educe_syntax::ExprPath;
 use educe_tokens::{Boxed, Seq};
 use std::alloc::{AllocError, Global};
 use std::cmp::Ordering;
@@ -33,23 +32,6 @@ pub fn comparison_path(alloc: Global, which: Comparison) -> Result<Shared<ExprPa
     Shared::new(alloc, path)
 }
 
-/// The path that is called to compare a field in this way.
-fn called(
-    alloc: Global,
-    which: Comparison,
-    how: How<'_>,
-    plain: &Shared<ExprPath>,
-) -> Result<Shared<ExprPath>, AllocError>
-    requires { IsBuiltIn (meaning.comparison which) plain.now }
-    ensures { IfOk result (spec.IsCalled which (how_of how.entry)) }
-{
-    match how {
-        How::Plainly => plain.duplicate(),
-        How::ByMethod(path) => Shared::new(alloc, path.duplicate(alloc)?),
-        How::ByOrder(path) => Shared::new(alloc, path.duplicate(alloc)?),
-    }
-}
-
 /// A call that compares a field of both values: `path(&self.key, &other.key)`, or of its two
 /// variables.
 fn compared(
@@ -68,7 +50,7 @@ fn compared(
     let mut arguments = Seq::new(alloc);
     arguments.push(read(alloc, own, ranked)?)?;
     arguments.push(read(alloc, others, ranked)?)?;
-    let path = called(alloc, which, ranked.how, plain)?;
+    let path = called(alloc, ranked.how, plain)?;
     Ok(Form::Call(path, arguments))
 }
 

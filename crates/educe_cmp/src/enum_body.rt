@@ -9,11 +9,11 @@ ghost use Rattle.educe_laws.specs.Blocks.{IsEnumBody};
 
 use crate::arms::match_block;
 use crate::comparing::neutral;
-use crate::comparison::is_order;
+use crate::comparison::trait_of;
 use crate::key_function::{key_comparison, key_function};
 use crate::names::Names;
-use crate::patterns::has_brackets;
 use educe_body::{Arms, Body, Comparison, Form, Forms};
+use educe_handlers::{has_brackets, is_order};
 use educe_syntax::{DeriveInput, Variant};
 use educe_tokens::{Boxed, Seq, Word};
 use std::alloc::{AllocError, Global};
@@ -122,7 +122,7 @@ fn enum_block(
         block.push(Form::Known(neutral(which)))?;
         return Ok(block);
     }
-    if is_order(which) {
+    if is_order(trait_of(which)) {
         keyed_block(alloc, which, ast, names, variants, arms)
     } else {
         match_block(alloc, which, arms)

@@ -7,7 +7,7 @@ ghost use Rattle.educe_attrs.specs.Causes.{NoCause, OfStop};
 ghost use Rattle.educe_attrs.specs.Fields.{HaveNoCauses};
 ghost use Rattle.educe_attrs.specs.Phases.{OfHandler};
 ghost use Rattle.educe_bound.specs.Predicates.{keys_of};
-ghost use Rattle.educe_cmp.specs.Visits.{Visits};
+ghost use Rattle.educe_handlers.specs.SeenTypes.{Sees};
 ghost use Rattle.educe_laws.specs.Blocks.{IsComparisonBlock, IsBody};
 ghost use Rattle.educe_laws.specs.Cases.{cases_of};
 ghost use Rattle.educe_laws.specs.Comparisons as comparisons;
@@ -15,41 +15,43 @@ ghost use Rattle.educe_laws.specs.Handled.{OfShape, handling};
 ghost use Rattle.educe_laws.specs.Handlers.{IsReady, AddsBlock, AddsMeaning, AreNoted, traits_through};
 ghost use Rattle.educe_laws.specs.Headers.{AreCopied, AreOf};
 ghost use Rattle.educe_laws.specs.Listed as listing;
+ghost use Rattle.educe_laws.specs.Rows.{field_row};
 
 use crate::cases::{enum_case, struct_case};
 use crate::comparison::trait_of;
-use crate::context::TraitHandlerContext;
-use crate::header::{Header, bound_of_type, header_of, is_copied};
 use crate::items::comparison_item;
-use crate::task::Task;
-use crate::visits::Visit;
 use educe_attrs::Stop;
 use educe_body::{Body, Comparison, Item, Items};
 use educe_bound::Trait;
+use educe_handlers::{
+    Header, SeenTypes, Task, TraitHandlerContext, bound_of_type, header_of, is_copied, no_types,
+};
 use educe_syntax::{DeriveInput, Predicates, Shape};
 use std::alloc::Global;
 
-/// The body of a listed comparison. Fields are read by copies where they have to be, and what bounds
-/// speak of is visited. It is refused exactly where an attribute of a variant or a field or a rank is
-/// wrong, or memory fails.
+/// The body of a listed comparison. Fields are read by copies where they have to be, and the types that
+/// bounds speak of are added. It is refused exactly where an attribute of a variant or a field or a rank
+/// is wrong, or memory fails.
 fn body<'d>(
     alloc: Global,
+    which: Comparison,
     task: Task<'d, '_>,
     copied: bool,
-    visits: &mut Vec<Visit<'d>>,
+    types: &mut SeenTypes<'d>,
 ) -> Result<Body, Stop>
+    requires same { task.which ≡ comparisons.trait_of which }
     requires listed { task.listed.now ≡ listing.listed task.ast.now }
     requires copied { AreCopied task.ast.now copied }
-    ensures ok { IfOk result (IsBody task.entry.which task.entry.ast.now) }
-    ensures visits { OnOk result (Visits task.entry.which task.entry.ast.now (cases_of task.entry.ast.now) visits.old.items visits.new.items) }
+    ensures ok { IfOk result (IsBody which task.entry.ast.now) }
+    ensures types { OnOk result (Sees task.entry.which task.entry.ast.now (cases_of task.entry.ast.now) types.old types.new) }
     ensures uncaused { IfOk result (λ _. NoCause (OfShape task.entry.which task.entry.ast.now task.entry.ast.now.shape)) }
     ensures err { IfErr result (λ s. OfStop (OfShape task.entry.which task.entry.ast.now task.entry.ast.now.shape) s) }
 {
     match &task.ast.shape {
         Shape::Struct(shape) => {
-            struct_case(alloc, task, shape.fields.as_slice(), copied, visits)
+            struct_case(alloc, which, task, shape.fields.as_slice(), copied, types)
         }
-        Shape::Enum(variants) => enum_case(alloc, task, variants.as_slice(), visits),
+        Shape::Enum(variants) => enum_case(alloc, which, task, variants.as_slice(), types),
     }
 }
 
@@ -57,22 +59,24 @@ fn body<'d>(
 /// an `educe` list, an attribute of the comparison or a rank is wrong, or memory fails.
 fn block(
     alloc: Global,
+    which: Comparison,
     task: Task<'_, '_>,
     ctx: &TraitHandlerContext,
 ) -> Result<(Item, Predicates), Stop>
-    requires { IsReady (comparisons.trait_of task.which) task.ast.now task.listed.now ctx.now }
-    ensures ok { IfOk result (λ found. IsComparisonBlock task.entry.which task.entry.ast.now (found.0 ∷ [])) }
-    ensures added { IfOk result (λ found. AreOf task.entry.ast.now (comparisons.trait_of task.entry.which) (keys_of found.1)) }
-    ensures read { IfOk result (λ _. HaveNoCauses (comparisons.trait_of task.entry.which) (comparisons.field_row task.entry.which) (listing.listed task.entry.ast.now) (all_fields task.entry.ast.now)) }
-    ensures uncaused { IfOk result (λ _. NoCause (OfHandler (handling task.entry.ast.now) (comparisons.trait_of task.entry.which))) }
-    ensures err { IfErr result (λ s. OfStop (OfHandler (handling task.entry.ast.now) (comparisons.trait_of task.entry.which)) s) }
+    requires same { task.which ≡ comparisons.trait_of which }
+    requires ready { IsReady task.which task.ast.now task.listed.now ctx.now }
+    ensures ok { IfOk result (λ found. IsComparisonBlock which task.entry.ast.now (found.0 ∷ [])) }
+    ensures added { IfOk result (λ found. AreOf task.entry.ast.now task.entry.which (keys_of found.1)) }
+    ensures read { IfOk result (λ _. HaveNoCauses task.entry.which (field_row task.entry.which) (listing.listed task.entry.ast.now) (all_fields task.entry.ast.now)) }
+    ensures uncaused { IfOk result (λ _. NoCause (OfHandler (handling task.entry.ast.now) task.entry.which)) }
+    ensures err { IfErr result (λ s. OfStop (OfHandler (handling task.entry.ast.now) task.entry.which) s) }
 {
     let bound = bound_of_type(alloc, task)?;
     let copied = is_copied(alloc, task.ast)?;
-    let mut visits = Vec::new(alloc);
-    let body = body(alloc, task, copied, &mut visits)?;
-    let Header { generics, added } = header_of(alloc, task, &bound, &visits, copied, ctx)?;
-    let item = comparison_item(alloc, task.which, task.ast, generics, body)?;
+    let mut types = no_types(alloc);
+    let body = body(alloc, which, task, copied, &mut types)?;
+    let Header { generics, added } = header_of(alloc, task, &bound, &types, copied, ctx)?;
+    let item = comparison_item(alloc, which, task.ast, generics, body)?;
     Ok((item, added))
 }
 
@@ -97,11 +101,11 @@ pub fn compare(
     // There are as many tokens as a `usize` can count, so as many fields at the most.
     let _count = ast.tokens.len();
     let task = Task {
-        which,
+        which: trait_of(which),
         ast,
         listed: traits,
     };
-    let (item, added) = block(alloc, task, ctx)?;
+    let (item, added) = block(alloc, which, task, ctx)?;
     items.push(item)?;
     ctx.note_predicates(trait_of(which), added)?;
     Ok(())

@@ -10,9 +10,9 @@ ghost use Rattle.educe_laws.specs.Discriminants.{counted_from};
 
 use crate::discriminants::{Constants, constants};
 use crate::names::Names;
-use crate::patterns::bare_pattern;
 use educe_attrs::discriminant_type;
 use educe_body::{BuiltIn, Form, KeyArm, KeyArms, Shared, built_in_path};
+use educe_handlers::bare_pattern;
 use educe_syntax::{DeriveInput, Duplicate, Ident, Variant};
 use educe_tokens::Seq;
 use std::alloc::{AllocError, Global};

@@ -3,9 +3,10 @@ ghost use Rattle.std.specs.Prelude.{◌≡◌, IfOk};
 ghost use Rattle.educe_tokens.specs.Appends.{no_place};
 ghost use Rattle.educe_tokens.specs.Spells.{IsWord};
 ghost use Rattle.educe_laws.specs.Arms.{AreNames};
-ghost use Rattle.educe_cmp.specs.OneWord.{IsWord-prop};
+ghost use Rattle.educe_handlers.specs.OneWord.{IsWord-prop};
 
 use educe_body::UsedIdents;
+use educe_handlers::{select, select_prefix};
 use educe_syntax::{DeriveInput, Ident};
 use educe_tokens::Spelling;
 use std::alloc::{AllocError, Global};
@@ -42,19 +43,19 @@ impl Names {
         ensures { IfOk result (λ names. AreNames ast.now (names_of names)) }
     {
         let mut used = UsedIdents::new(alloc, ast.tokens.as_slice())?;
-        let other = used.select(alloc, "other")?;
-        let discriminant = used.select(alloc, "discriminant")?;
-        let this = used.select(alloc, "this")?;
-        let base = used.select(alloc, "base")?;
-        let own = used.select_prefix(alloc, "_s_")?;
-        let others = used.select_prefix(alloc, "_o_")?;
+        let other = select(alloc, &mut used, "other")?;
+        let discriminant = select(alloc, &mut used, "discriminant")?;
+        let this = select(alloc, &mut used, "this")?;
+        let base = select(alloc, &mut used, "base")?;
+        let own = select_prefix(alloc, &used, "_s_")?;
+        let others = select_prefix(alloc, &used, "_o_")?;
         Ok(Names {
             other,
             discriminant,
             this,
             base,
-            own: Spelling::from_str(alloc, &own)?,
-            others: Spelling::from_str(alloc, &others)?,
+            own,
+            others,
         })
     }
 }

@@ -1,10 +1,9 @@
 //! The handler of `Ord`.
-use crate::context::TraitHandlerContext;
-use crate::handler::TraitHandler;
 use crate::handling::compare;
 use educe_attrs::Stop;
 use educe_body::{Comparison, Items};
 use educe_bound::Trait;
+use educe_handlers::{TraitHandler, TraitHandlerContext};
 use educe_syntax::{DeriveInput, Shape};
 use std::alloc::Global;
 

@@ -1,8 +1,8 @@
 use Rattle.std.proofs.Common.{subst, map}
-use Rattle.educe_cmp.specs.Ranked.{kept_of}
+use Rattle.educe_handlers.specs.Ranked.{kept_of}
 use Rattle.educe_laws.specs.Arms.{IsPatternBy}
-use Rattle.educe_cmp.proofs.Lists.{one_pushed}
-use Rattle.educe_cmp.proofs.Named.{name_copied}
+use Rattle.educe_handlers.proofs.Lists.{one_pushed}
+use Rattle.educe_handlers.proofs.Named.{name_copied}
 use Rattle.educe_cmp.proofs.arms.arm.Goals as goal
 
 pub returns : goal.returns

@@ -1,6 +1,9 @@
 use Rattle.std.proofs.Common.{ap}
 use Rattle.educe_body.specs.declared.form.Form.{Call}
-use Rattle.educe_cmp.proofs.Lists.{two_pushed}
+use Rattle.educe_handlers.specs.Ranked.{how_of}
+use Rattle.educe_handlers.proofs.CalledPaths.{called_is}
+use Rattle.educe_handlers.proofs.Lists.{two_pushed}
+use Rattle.educe_laws.specs.Comparing.{comparison}
 use Rattle.educe_cmp.proofs.comparing.compared.Goals as goal
 
 pub returns : goal.returns
@@ -13,7 +16,7 @@ returns c =
       first = first;
       second = second;
       is = ap (Call c.in_ok-path.path) arguments;
-      path_is = c.in_ok-path.ensures;
+      path_is = called_is (comparison c.args.which) (how_of c.args.ranked.now.how) c.args.plain.now c.in_ok-path.path c.requires.plain c.in_ok-path.ensures;
       first_is = c.in_ok-read.ensures;
       second_is = c.in_ok-read-2.ensures;
     }

@@ -2,12 +2,12 @@ use Rattle.std.proofs.Common.{◌≡◌, List, take, subst, arith}
 use Rattle.std.specs.List.{AllZip}
 use Rattle.std.proofs.lemmas.List.{take_all}
 use Rattle.educe_body.specs.declared.form.Form.{Form}
-use Rattle.educe_cmp.specs.declared.ranked.Ranked.{Ranked}
-use Rattle.educe_cmp.specs.Ranked.{kept_of}
-use Rattle.educe_cmp.specs.Readings.{reading_of}
+use Rattle.educe_handlers.specs.declared.ranked.Ranked.{Ranked}
+use Rattle.educe_handlers.specs.Ranked.{kept_of}
+use Rattle.educe_handlers.specs.Readings.{reading_of}
 use Rattle.educe_laws.specs.Settings.{Kept}
 use Rattle.educe_laws.specs.Steps.{IsStep}
-use Rattle.educe_cmp.proofs.Lists.{zip_more, zip_mapped}
+use Rattle.educe_handlers.proofs.Lists.{zip_more, zip_mapped}
 use Rattle.educe_cmp.proofs.comparing.steps.Goals as goal
 
 pub loop-ranked-preserved : goal.loop-ranked-preserved

@@ -1,9 +1,9 @@
 use Rattle.std.proofs.Common.{take}
 use Rattle.std.specs.List.{AllZip}
-use Rattle.educe_cmp.specs.declared.ranked.Ranked.{Ranked}
+use Rattle.educe_handlers.specs.declared.ranked.Ranked.{Ranked}
 use Rattle.educe_laws.specs.Steps.{IsStep}
-use Rattle.educe_cmp.specs.Ranked.{kept_of}
-use Rattle.educe_cmp.specs.Readings.{reading_of}
+use Rattle.educe_handlers.specs.Ranked.{kept_of}
+use Rattle.educe_handlers.specs.Readings.{reading_of}
 use Rattle.educe_cmp.proofs.comparing.steps.Given as goal
 
 abbrev pub invariant-loop-ranked : goal.invariant-loop-ranked

@@ -1,6 +1,6 @@
 use Rattle.std.proofs.Common.{◌∙◌}
 use Rattle.educe_cmp.specs.Names.{names_of}
-use Rattle.educe_cmp.proofs.Lists.{one_pushed}
+use Rattle.educe_handlers.proofs.Lists.{one_pushed}
 use Rattle.educe_cmp.proofs.enum_body.enum_body.Goals as goal
 
 pub returns : goal.returns

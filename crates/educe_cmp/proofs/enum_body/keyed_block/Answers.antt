@@ -1,5 +1,5 @@
 use Rattle.educe_cmp.specs.Names.{names_of}
-use Rattle.educe_cmp.proofs.Lists.{two_pushed}
+use Rattle.educe_handlers.proofs.Lists.{two_pushed}
 use Rattle.educe_cmp.proofs.enum_body.keyed_block.Goals as goal
 
 pub returns : goal.returns

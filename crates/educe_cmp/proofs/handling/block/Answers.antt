@@ -1,28 +1,54 @@
-use Rattle.std.proofs.Common.{◌≡◌, true}
+use Rattle.std.proofs.Common.{◌≡◌, sym, subst, true}
+use Rattle.std.specs.Prelude.{IsTrue}
 use Rattle.educe_attrs.specs.Phases.{OfHandler}
 use Rattle.educe_attrs.specs.Places.{OfPlace}
+use Rattle.educe_bound.specs.declared.traits.Trait.{Trait}
 use Rattle.educe_bound.specs.Traits.{is_listed}
-use Rattle.educe_laws.specs.Comparisons.{trait_of, type_row}
+use Rattle.educe_body.specs.declared.comparison.Comparison.{Comparison}
+use Rattle.educe_laws.specs.Comparisons.{trait_of}
 use Rattle.educe_laws.specs.Handled.{OfShape, handling}
+use Rattle.educe_laws.specs.Headers.{IsHeader}
 use Rattle.educe_laws.specs.Listed.{listed}
+use Rattle.educe_laws.specs.Rows.{is_fieldwise, type_row}
+use Rattle.educe_laws.specs.Types.{AreTypes, AreOfFields}
 use Rattle.educe_laws.proofs.Stops.{stop_passed}
-use Rattle.educe_laws.proofs.Refused.{type_refused, shape_refused}
-use Rattle.educe_cmp.proofs.Refused.{fields_uncaused, comparison_uncaused}
+use Rattle.educe_laws.proofs.Refused.{comparison_fieldwise, type_refused, shape_refused}
+use Rattle.educe_handlers.specs.SeenTypes.{read_of, touched_of}
+use Rattle.educe_handlers.proofs.Refused.{fields_uncaused, handler_uncaused}
+use Rattle.educe_handlers.proofs.Visited.{sees_all}
+use Rattle.educe_cmp.proofs.Added.{types_are}
 use Rattle.educe_cmp.proofs.handling.block.Goals as goal
+
+-- the trait of a comparison is read field by field
+fieldwise : (which : Comparison) (own : Trait) → own ≡ trait_of which → IsTrue (is_fieldwise own)
+fieldwise which own same = subst (λ of. IsTrue (is_fieldwise of)) (sym same) (comparison_fieldwise which)
 
 pub returns-in_err-bound-clause-err : goal.returns-in_err-bound-clause-err
 returns-in_err-bound-clause-err c =
     let which = c.args.task.which in
     let ast = c.args.task.ast.now in
-    stop_passed (OfPlace (trait_of which) type_row (listed ast) ast.attrs) (OfHandler (handling ast) (trait_of which)) (type_refused which ast)
+    stop_passed (OfPlace which (type_row which) (listed ast) ast.attrs) (OfHandler (handling ast) which) (type_refused which (fieldwise c.args.which which c.requires.same) ast)
     c.from_residual.result c.in_err-bound.field-0.0 c.from_residual.ensures.1 c.in_err-bound.ensures.err
 
 pub returns-in_err-body-clause-err : goal.returns-in_err-body-clause-err
 returns-in_err-body-clause-err c =
     let which = c.args.task.which in
     let ast = c.args.task.ast.now in
-    stop_passed (OfShape which ast ast.shape) (OfHandler (handling ast) (trait_of which)) (shape_refused which ast)
+    stop_passed (OfShape which ast ast.shape) (OfHandler (handling ast) which) (shape_refused which (fieldwise c.args.which which c.requires.same) ast)
     c.from_residual-in_err-body.result c.in_err-body.field-0.0 c.from_residual-in_err-body.ensures.1 c.in_err-body.ensures.err
+
+pub header_of-requires-clause-types : goal.header_of-requires-clause-types
+header_of-requires-clause-types c =
+    let which = c.args.task.which in
+    let ast = c.args.task.ast.now in
+    let types = c.body.new.types in
+    let are = sees_all which ast c.no_types-types.result types c.no_types-types.ensures.read c.no_types-types.ensures.touched c.in_ok-body.ensures.types in
+    subst (λ own. AreTypes own ast (read_of types) (touched_of types)) (sym c.requires.same)
+    (types_are c.args.which ast (read_of types) (touched_of types) (subst (λ own. AreOfFields own ast (read_of types) (touched_of types)) c.requires.same are))
+
+pub comparison_item-requires-clause-generics : goal.comparison_item-requires-clause-generics
+comparison_item-requires-clause-generics c =
+    subst (λ own. IsHeader own c.args.task.ast.now c.in_ok-generics.field-0.generics) c.requires.same c.in_ok-generics.ensures.generics
 
 pub returns-clause-read : goal.returns-clause-read
 returns-clause-read c = fields_uncaused c.args.task.which c.args.task.ast.now c.in_ok-body.ensures.uncaused
@@ -31,5 +57,5 @@ pub returns-clause-uncaused : goal.returns-clause-uncaused
 returns-clause-uncaused c =
     let which = c.args.task.which in
     let ast = c.args.task.ast.now in
-    let is_one : is_listed (listed ast) (trait_of which) ≡ true = rw (← c.requires.traits_are) c.requires.lists in
-    comparison_uncaused which ast c.in_ok-body.ensures.uncaused c.in_ok-bound.ensures.uncaused is_one
+    let is_one : is_listed (listed ast) which ≡ true = rw (← c.requires.ready.traits_are) c.requires.ready.lists in
+    handler_uncaused which ast c.in_ok-body.ensures.uncaused c.in_ok-bound.ensures.uncaused (fieldwise c.args.which which c.requires.same) is_one

@@ -8,7 +8,7 @@ use Rattle.std.proofs.lemmas.Iterator.Consumers.{YieldsList-at, YieldsList-end}
 use Rattle.educe_syntax.specs.Variant.{Variant}
 use Rattle.educe_body.specs.declared.key_function.Constant.{Constant}
 use Rattle.educe_cmp.proofs.Counted.{IsArmOf, key_arms_from}
-use Rattle.educe_cmp.proofs.Lists.{zip_push, zip_mapped}
+use Rattle.educe_handlers.proofs.Lists.{zip_push, zip_mapped}
 use Rattle.educe_cmp.proofs.key_function.key_arms.Goals as goal
 
 -- a pair with the variant behind the reference

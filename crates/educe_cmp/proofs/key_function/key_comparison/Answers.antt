@@ -4,7 +4,7 @@ use Rattle.educe_body.specs.declared.callee.BuiltIn.TheVariants.{Cmp}
 use Rattle.educe_body.specs.declared.form.Form.{Call}
 use Rattle.educe_cmp.specs.Names.{names_of}
 use Rattle.educe_laws.specs.Arms.{IsKeyOf}
-use Rattle.educe_cmp.proofs.Lists.{two_pushed}
+use Rattle.educe_handlers.proofs.Lists.{two_pushed}
 use Rattle.educe_cmp.proofs.key_function.key_comparison.Goals as goal
 
 pub returns : goal.returns

@@ -3,7 +3,7 @@ use Rattle.std.specs.List.{AllZip}
 use Rattle.std.specs.Prelude.{None}
 use Rattle.educe_laws.specs.Arms.{IsKeyArm}
 use Rattle.educe_laws.specs.Discriminants.{counted_from}
-use Rattle.educe_cmp.proofs.Named.{name_copied}
+use Rattle.educe_handlers.proofs.Named.{name_copied}
 use Rattle.educe_cmp.proofs.key_function.key_function.Goals as goal
 
 pub returns : goal.returns

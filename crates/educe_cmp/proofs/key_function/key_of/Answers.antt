@@ -1,5 +1,5 @@
 use Rattle.std.proofs.Common.{refl}
-use Rattle.educe_cmp.proofs.Named.{name_copied}
+use Rattle.educe_handlers.proofs.Named.{name_copied}
 use Rattle.educe_cmp.proofs.key_function.key_of.Goals as goal
 
 pub returns : goal.returns

@@ -4,8 +4,8 @@ use Rattle.educe_body.specs.declared.form.Form as form
 use Rattle.educe_body.specs.declared.form.Known.{Known}
 use Rattle.educe_laws.specs.Blocks.{HasSteps, IsParameter}
 use Rattle.educe_laws.specs.Steps.{of_base, AreSteps}
-use Rattle.educe_cmp.specs.Ranked.{kept_of}
-use Rattle.educe_cmp.proofs.Lists.{one_pushed}
+use Rattle.educe_handlers.specs.Ranked.{kept_of}
+use Rattle.educe_handlers.proofs.Lists.{one_pushed}
 use Rattle.educe_cmp.proofs.struct_body.struct_body.Goals as goal
 
 pub returns : goal.returns
@@ -19,7 +19,7 @@ returns c all ordered_is =
     record {
       param = c.new.result;
       params_are = one_pushed _ _ _ c.new-params.ensures c.in_ok-push-2.ensures.ok;
-      param_is = subst (IsParameter c.args.ast.now) (sym name) c.in_ok-other.ensures.chosen;
+      param_is = subst (IsParameter c.args.ast.now (codes "other")) (sym name) c.in_ok-other.ensures.chosen;
       ordered = ordered;
       ordered_is = ordered_is;
       copied = copied;

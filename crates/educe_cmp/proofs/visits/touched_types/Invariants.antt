@@ -1,8 +1,0 @@
-use Rattle.std.proofs.Common.{◌≡◌, map, take}
-use Rattle.std.specs.Borrow.{Bor}
-use Rattle.educe_syntax.specs.Ty.{Ty}
-use Rattle.educe_cmp.specs.Visits.{touched_in, seen_of}
-use Rattle.educe_cmp.proofs.visits.touched_types.Given as goal
-
-abbrev pub invariant-loop-visit : goal.invariant-loop-visit
-invariant-loop-visit l = map (λ (t : Bor Ty). t.now) l.types.items ≡ touched_in (map seen_of (take l.visit-index l.visits))

@@ -1,0 +1,14 @@
+pub mod Lists
+pub mod Named
+pub mod Chosen
+pub mod Sorting
+pub mod Kept
+pub mod Earliest
+pub mod Repeats
+pub mod PatternFields
+pub mod Refused
+pub mod Inherited
+pub mod Visited
+pub mod Headed
+pub mod Formed
+pub mod CalledPaths

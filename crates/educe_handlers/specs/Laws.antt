@@ -1,0 +1,7 @@
+-- The laws of traits as terms, which proofs cite with no call.
+use Rattle.educe_laws.specs.Laws.{TraitLaws}
+use Rattle.educe_laws.proofs.Traits as traits
+
+-- what holds of every trait that is built
+pub lawful_traits : TraitLaws
+lawful_traits = traits.lawful_traits

@@ -1,0 +1,10 @@
+-- The fields that a handler goes over.
+pub mod Ranked
+-- Words, and how functions read fields.
+pub mod OneWord
+pub mod Readings
+-- The types of fields that bounds speak of, and the predicates that are added.
+pub mod SeenTypes
+pub mod Adding
+-- Laws that hold with no call.
+pub mod Laws

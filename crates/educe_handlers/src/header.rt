@@ -1,0 +1,187 @@
+//! The headers of impls: their generic parameters and where clauses.
+ghost use Rattle.std.specs.Prelude.{◌≡◌, ◌++◌, ◌&&◌, IfOk, IfErr, OnOk};
+ghost use Rattle.educe_attrs.specs.Causes.{NoCause, OfStop};
+ghost use Rattle.educe_attrs.specs.Places.{OfPlace};
+ghost use Rattle.educe_bound.specs.Predicates.{keys_of, exceptions_of, AreByBound, lifetimes_first};
+ghost use Rattle.educe_handlers.specs.Adding.{Adds};
+ghost use Rattle.educe_handlers.specs.SeenTypes.{read_of, touched_of};
+ghost use Rattle.educe_laws.specs.Handlers.{IsReady, inherited_from};
+ghost use Rattle.educe_laws.specs.Headers as spec;
+ghost use Rattle.educe_laws.specs.Listed as listing;
+ghost use Rattle.educe_laws.specs.Rows as rows;
+ghost use Rattle.educe_laws.specs.Types.{AreTypes};
+
+use crate::context::TraitHandlerContext;
+use crate::prerequisites::prerequisites;
+use crate::rows::reads_fields;
+use crate::said::type_values;
+use crate::seen_types::SeenTypes;
+use crate::task::Task;
+use educe_attrs::{Stop, Values, WherePredicatesOrBool, is_packed};
+use educe_bound::{
+    Bound, Trait, exceptions_of, extend_where_predicates, lifetimes_first, with_predicates,
+};
+use educe_syntax::{DeriveInput, Generics, Predicates, Shape};
+use educe_tokens::Seq;
+use std::alloc::{AllocError, Global};
+
+/// The generics of an impl, and the predicates among them that it adds to those of the definition.
+#[derive(Drop)]
+pub struct Header {
+    pub generics: Generics,
+    pub added: Predicates,
+}
+
+/// The bound that is said; where none is, the automatic one (documentation of `educe`, Bounds).
+pub fn bound_said(said: Option<WherePredicatesOrBool>) -> Bound
+    ensures { result ≡ spec.bound_said said }
+{
+    match said {
+        Some(value) => Bound::from_value(value),
+        None => Bound::Auto,
+    }
+}
+
+/// The bound that the type says for a trait. It is refused exactly where an attribute of the type is
+/// wrong, or memory fails.
+pub fn bound_of_type(alloc: Global, task: Task<'_, '_>) -> Result<Bound, Stop>
+    requires { task.listed.now ≡ listing.listed task.ast.now }
+    ensures ok { IfOk result (λ bound. bound ≡ spec.bound_for task.entry.which task.entry.ast.now) }
+    ensures uncaused { IfOk result (λ _. NoCause (OfPlace task.entry.which (rows.type_row task.entry.which) (listing.listed task.entry.ast.now) task.entry.ast.now.attrs)) }
+    ensures err { IfErr result (λ s. OfStop (OfPlace task.entry.which (rows.type_row task.entry.which) (listing.listed task.entry.ast.now) task.entry.ast.now.attrs) s) }
+{
+    let Values { bound, .. } = type_values(alloc, task)?;
+    Ok(bound_said(bound))
+}
+
+/// Whether fields are read by copies: in a packed struct, of whose fields no references can be taken
+/// (Rust Reference, The alignment modifiers).
+pub fn is_copied(alloc: Global, ast: &DeriveInput) -> Result<bool, AllocError>
+    ensures { IfOk result (spec.AreCopied ast.now) }
+{
+    match &ast.shape {
+        Shape::Struct(_) => is_packed(alloc, &ast.attrs),
+        Shape::Enum(_) => Ok(false),
+    }
+}
+
+/// The predicates that the bound asks for by itself.
+fn own_predicates(
+    alloc: Global,
+    task: Task<'_, '_>,
+    bound: &Bound,
+    types: &SeenTypes<'_>,
+) -> Result<Predicates, AllocError>
+    ensures { let which = task.entry.which in let ast = task.entry.ast.now in
+        IfOk result (λ found. AreByBound bound.now (exceptions_of which) ast.generics.params ast.ident.text which (touched_of types.now) (keys_of found)) }
+{
+    let exceptions = exceptions_of(task.which);
+    bound.into_where_predicates_by_generic_parameters_check_types(
+        alloc,
+        &task.ast.generics.params,
+        task.which,
+        &types.touched,
+        &task.ast.ident,
+        &exceptions,
+    )
+}
+
+/// Whether the functions of the trait read copies of fields, where a trait that reads fields has to.
+fn are_copied(which: Trait, copied: bool) -> bool
+    ensures { result ≡ (rows.reads_fields which && copied) }
+{
+    reads_fields(which) && copied
+}
+
+/// The predicates by which fields may be read by copies, where they are.
+fn copy_predicates(
+    alloc: Global,
+    ast: &DeriveInput,
+    bound: &Bound,
+    types: &SeenTypes<'_>,
+    copied: bool,
+) -> Result<Predicates, AllocError>
+    ensures { IfOk result (λ found. spec.ArePacked copied bound.now ast.now (read_of types.now) (keys_of found)) }
+{
+    if copied {
+        bound.packed_copy_predicates(alloc, &ast.generics.params, &types.read, &ast.ident)
+    } else {
+        Ok(Seq::new(alloc))
+    }
+}
+
+/// Adds the predicates that an impl inherits, under the automatic bound alone.
+fn inherit(
+    alloc: Global,
+    which: Trait,
+    bound: &Bound,
+    ctx: &TraitHandlerContext,
+    own: &mut Predicates,
+) -> Result<(), AllocError>
+    ensures { OnOk result (spec.Inherits bound.now (keys_of own.old) (inherited_from ctx.now (spec.prerequisites which)) (keys_of own.new)) }
+{
+    match bound {
+        Bound::Disabled => Ok(()),
+        Bound::Auto => ctx.inherit_from(alloc, prerequisites(which), own),
+        Bound::All => Ok(()),
+        Bound::Custom(_) => Ok(()),
+    }
+}
+
+/// The predicates that an impl adds to those of the definition: its own, those for copies, and those
+/// that it inherits (documentation of `educe`, Bounds).
+fn added(
+    alloc: Global,
+    task: Task<'_, '_>,
+    bound: &Bound,
+    types: &SeenTypes<'_>,
+    copied: bool,
+    ctx: &TraitHandlerContext,
+) -> Result<Predicates, AllocError>
+    requires bound { bound.now ≡ spec.bound_for task.which task.ast.now }
+    requires types { AreTypes task.which task.ast.now (read_of types.now) (touched_of types.now) }
+    requires copied { spec.AreCopied task.ast.now copied }
+    ensures { IfOk result (λ all. Adds task.entry.which task.entry.ast.now (inherited_from ctx.now (spec.prerequisites task.entry.which)) (keys_of all)) }
+{
+    let by_copies = are_copied(task.which, copied);
+    let mut all = own_predicates(alloc, task, bound, types)?;
+    let copies = copy_predicates(alloc, task.ast, bound, types, by_copies)?;
+    extend_where_predicates(alloc, &mut all, &copies)?;
+    inherit(alloc, task.which, bound, ctx, &mut all)?;
+    Ok(all)
+}
+
+/// The generics of an impl that adds these predicates.
+fn generics_with(
+    alloc: Global,
+    generics: &Generics,
+    added: &Predicates,
+) -> Result<Generics, AllocError>
+    ensures params { IfOk result (λ found. found.params ≡ lifetimes_first generics.now.params) }
+    ensures predicates { IfOk result (λ found. found.predicates ≡ generics.now.predicates ++ added.now) }
+{
+    let Generics { params, predicates } = with_predicates(alloc, generics, added)?;
+    let params = lifetimes_first(alloc, &params)?;
+    Ok(Generics { params, predicates })
+}
+
+/// The header of the impl of a trait that is next. The types are those that its bounds speak of.
+pub fn header_of(
+    alloc: Global,
+    task: Task<'_, '_>,
+    bound: &Bound,
+    types: &SeenTypes<'_>,
+    copied: bool,
+    ctx: &TraitHandlerContext,
+) -> Result<Header, AllocError>
+    requires ready { IsReady task.which task.ast.now task.listed.now ctx.now }
+    requires bound { bound.now ≡ spec.bound_for task.which task.ast.now }
+    requires types { AreTypes task.which task.ast.now (read_of types.now) (touched_of types.now) }
+    requires copied { spec.AreCopied task.ast.now copied }
+    ensures generics { IfOk result (λ header. spec.IsHeader task.entry.which task.entry.ast.now header.generics) }
+    ensures added { IfOk result (λ header. spec.AreOf task.entry.ast.now task.entry.which (keys_of header.added)) }
+{
+    let added = added(alloc, task, bound, types, copied, ctx)?;
+    let generics = generics_with(alloc, &task.ast.generics, &added)?;
+    Ok(Header { generics, added })
+}

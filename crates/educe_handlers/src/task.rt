@@ -1,0 +1,11 @@
+//! What the functions of a handler are asked for.
+use educe_bound::Trait;
+use educe_syntax::DeriveInput;
+
+/// A trait, the definition that it is derived for, and the traits that this lists.
+#[derive(Clone, Copy)]
+pub struct Task<'d, 'l> {
+    pub which: Trait,
+    pub ast: &'d DeriveInput,
+    pub listed: &'l [Trait],
+}
