@@ -1,0 +1,7 @@
+-- The laws of `Default` as terms, which proofs cite with no call.
+use Rattle.educe_laws.specs.DefaultLaws.{DefaultLaws}
+use Rattle.educe_laws.proofs.DefaultEvaluating as evaluating
+
+-- the functions of the block of `Default` evaluate to what they mean
+pub lawful_defaults : DefaultLaws
+lawful_defaults = evaluating.lawful_defaults

@@ -1,0 +1,7 @@
+-- The laws of what is derived as terms, which proofs cite with no call.
+use Rattle.educe_laws.specs.HashLaws.{HashLaws}
+use Rattle.educe_laws.proofs.HashEvaluating as evaluating
+
+-- the function of the block of `Hash` evaluates to what `Hash` means
+pub lawful_hashes : HashLaws
+lawful_hashes = evaluating.lawful_hashes
