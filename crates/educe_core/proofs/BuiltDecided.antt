@@ -1,8 +1,7 @@
 -- A definition that is not of another form than the one that is built so far is of that form.
 use Rattle.std.proofs.Common.{Bool, true, false, refl, IsTrue}
 use Rattle.educe_syntax.specs.DeriveInput.{DeriveInput}
-use Rattle.educe_laws.specs.Built.{IsBuilt, are_built}
-use Rattle.educe_laws.specs.Listed.{listed}
+use Rattle.educe_laws.specs.Built.{IsBuilt, is_built}
 
 -- a test passes if it can't fail
 true_if : (b : Bool) → ((IsTrue b → ⊥) → ⊥) → IsTrue b
@@ -11,4 +10,4 @@ true_if false twice = absurd (twice (λ is. cc))
 
 -- A definition of which it can't be that it is not of the form is of the form.
 pub built_if : (d : DeriveInput) → ((IsBuilt d → ⊥) → ⊥) → IsBuilt d
-built_if d twice = true_if (are_built (listed d)) twice
+built_if d twice = true_if (is_built d) twice

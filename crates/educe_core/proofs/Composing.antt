@@ -1,15 +1,13 @@
 -- One handler behind the other.
 use Rattle.std.proofs.Common.{◌≡◌, ◌≢◌, ◌∙◌, Bool, true, false, cond, List, [], ◌∷◌, ◌++◌, Result, Ok, Err, refl, sym, ap, subst, append_assoc, append-nil, arith}
-use Rattle.std.specs.Prelude.{IsTrue, Contains, OnOk, slice_index_or}
+use Rattle.std.specs.Prelude.{Contains, OnOk, slice_index_or}
 use Rattle.std.specs.List.{filter, AllByRecursion, AllZip}
 use Rattle.std.proofs.lemmas.Bool.{true≢false, false≢true, eq-eqb}
 use Rattle.std.proofs.lemmas.List.Elements.{filter-append, All-contains, All-from_recursion}
 use Rattle.std.proofs.lemmas.List.Folds.{list_any_at}
-use Rattle.std.proofs.lemmas.List.Sums.{AllPass-from_list_all}
 use Rattle.std.proofs.lemmas.Map.Views.{Contains-from_any}
 use Rattle.educe_tokens.specs.declared.error.EduceError.{EduceError}
 use Rattle.educe_syntax.specs.DeriveInput.{DeriveInput}
-use Rattle.educe_syntax.specs.Refusal.{IsDefinition}
 use Rattle.educe_bound.specs.declared.traits.Trait.{Trait}
 use Rattle.educe_bound.specs.Traits.{variants, place, same_trait, is_listed}
 use Rattle.educe_bound.proofs.Apart.{same_is}
@@ -19,16 +17,15 @@ use Rattle.educe_attrs.specs.Listing.{IsListing}
 use Rattle.educe_attrs.specs.Phases.{OfHandler}
 use Rattle.educe_attrs.specs.Stop.{Stop}
 use Rattle.educe_body.specs.declared.body.Item.{Item}
-use Rattle.educe_body.specs.declared.comparison.Comparison.{Comparison}
-use Rattle.educe_body.specs.declared.comparison.Comparison.TheVariants.{PartialEq, PartialOrd, Ord}
-use Rattle.educe_cmp.specs.Laws.{lawful_comparisons}
+use Rattle.educe_handlers.specs.Laws.{lawful_traits}
 use Rattle.educe_laws.specs.Blocks.{IsBlock, Blocks, OneEach, EachEvaluates}
-use Rattle.educe_laws.specs.Built.{built_traits, are_built}
+use Rattle.educe_laws.specs.Built.{built_traits, IsBuilt}
 use Rattle.educe_laws.specs.Handled.{handling, IsListedCause}
 use Rattle.educe_laws.specs.Handlers.{Noted, IsNoted, AreNoted, AddsBlock, AddsMeaning, handled_of}
 use Rattle.educe_laws.specs.Listed.{listed, listed_in_order}
-use Rattle.educe_laws.specs.Settings.{AreAllSaid}
+use Rattle.educe_laws.specs.Said.{AreAllSaid}
 use Rattle.educe_laws.proofs.Elements.{each_joined}
+use Rattle.educe_laws.proofs.Inheriting.{listed_built, built_listed}
 use Rattle.educe_core.specs.Composed.{AreHandled}
 
 -- ---- the listed traits
@@ -41,11 +38,6 @@ listed_stands traits which lists = Contains-from_any (λ a b same. (same_is a b)
 standing_listed : (traits : List Trait) (which : Trait) → Contains traits which → is_listed traits which ≡ true
 standing_listed traits which found =
     list_any_at (same_trait which) traits found.0 which found.1 (eq-eqb (place which) (place (slice_index_or traits found.0 which)) (ap place (sym found.2)))
-
--- where the items of all are built, those of each are
-standing_built : (traits : List Trait) (which : Trait) → IsTrue (are_built traits) → Contains traits which → is_listed built_traits which ≡ true
-standing_built traits which built found =
-    All-contains (λ name. is_listed built_traits name ≡ true) traits which (AllPass-from_list_all (is_listed built_traits) traits built) found
 
 -- an element passes one test, and what is left of a list of them the other
 within_step : {X : Type 0} (p : X → Bool) (x : X) (rest passed : List X) (in_q in_p : Bool) → p x ≡ in_p → (in_p ≡ true → in_q ≡ true) → filter p rest ≡ passed
@@ -60,9 +52,8 @@ filter-within p q [] within = refl
 filter-within p q (x ∷ xs) within = within_step p x (filter q xs) (filter p xs) (q x) (p x) refl (within x) (filter-within p q xs within)
 
 -- where the items of all listed traits are built, these are the listed ones among those that are built
-built_in_order : (d : DeriveInput) → IsTrue (are_built (listed d)) → handled_of (listed d) built_traits ≡ listed_in_order d
-built_in_order d built =
-    filter-within (is_listed (listed d)) (is_listed built_traits) variants (λ which lists. standing_built (listed d) which built (listed_stands (listed d) which lists))
+built_in_order : (d : DeriveInput) → IsBuilt d → handled_of (listed d) built_traits ≡ listed_in_order d
+built_in_order d built = filter-within (is_listed (listed d)) (is_listed built_traits) variants (λ which lists. listed_built (listed d) which (built_listed d built) lists)
 
 -- a cause of a listed trait's handler is one of the last phase
 pub listed_refused : (d : DeriveInput) (which : Trait) → is_listed (listed d) which ≡ true → (e : EduceError) → OfHandler (handling d) which e → IsListedCause d e
@@ -82,7 +73,7 @@ module _ (done : List Trait) (which : Trait) (d : DeriveInput) (noted : List Not
   handled_more = filter-append (is_listed (listed d)) done (which ∷ [])
 
   -- the trait is listed, and its handler ran
-  listed_more : (after : List Noted) (new : List Item) → is_listed (listed d) which ≡ true → AddsBlock which d items new → (IsDefinition d.tokens d → AddsMeaning d items new)
+  listed_more : (after : List Noted) (new : List Item) → is_listed (listed d) which ≡ true → AddsBlock which d items new → AddsMeaning d items new
       → AreNoted d (done ++ which ∷ []) after → NoCause (OfHandler (handling d) which) → AreHandled (done ++ which ∷ []) d after new
   listed_more after new lists adds means notes uncaused =
       let now_handled : handled_of (listed d) done ++ which ∷ [] ≡ handled_of (listed d) (done ++ which ∷ []) =
@@ -91,9 +82,7 @@ module _ (done : List Trait) (which : Trait) (d : DeriveInput) (noted : List Not
       record {
         noted_are = notes;
         blocks = subst (λ is. Blocks (handled_of (listed d) (done ++ which ∷ [])) d is) (sym adds.is) (subst (λ ts. Blocks ts d (items ++ adds.own)) now_handled more);
-        evaluates = λ definition.
-            let meaning = means definition in
-            subst (AllByRecursion (EachEvaluates d)) (sym meaning.is) (each_joined (EachEvaluates d) items meaning.own (before.evaluates definition) meaning.each);
+        evaluates = subst (AllByRecursion (EachEvaluates d)) (sym means.is) (each_joined (EachEvaluates d) items means.own before.evaluates means.each);
         uncaused = each_joined _ done (which ∷ []) before.uncaused ((λ _. uncaused), tt);
       }
 
@@ -111,7 +100,7 @@ module _ (done : List Trait) (which : Trait) (d : DeriveInput) (noted : List Not
 
   -- the trait is listed, and its handler answered this
   pub listed_answered : {A : Type 0} (r : Result A Stop) (after : List Noted) (new : List Item) → is_listed (listed d) which ≡ true → OnOk r (AddsBlock which d items new)
-      → (IsDefinition d.tokens d → OnOk r (AddsMeaning d items new)) → OnOk r (AreNoted d (done ++ which ∷ []) after) → OnOk r (NoCause (OfHandler (handling d) which))
+      → OnOk r (AddsMeaning d items new) → OnOk r (AreNoted d (done ++ which ∷ []) after) → OnOk r (NoCause (OfHandler (handling d) which))
       → OnOk r (AreHandled (done ++ which ∷ []) d after new)
   listed_answered (Ok x) after new lists adds means notes uncaused = listed_more after new lists adds means notes uncaused
   listed_answered (Err s) after new lists adds means notes uncaused = tt
@@ -123,7 +112,7 @@ pub none_handled : (d : DeriveInput) (noted : List Noted) (items : List Item) �
 none_handled d noted items unnoted empty = record {
   noted_are = subst (AreNoted d []) (sym unnoted) tt;
   blocks = empty;
-  evaluates = λ _. subst (AllByRecursion (EachEvaluates d)) (sym empty) tt;
+  evaluates = subst (AllByRecursion (EachEvaluates d)) (sym empty) tt;
   uncaused = tt;
 }
 
@@ -132,22 +121,24 @@ some_stands : (traits : List Trait) → traits ≢ [] → (which : Trait) × Con
 some_stands [] some_listed = absurd (some_listed refl)
 some_stands (which ∷ more) some_listed = (which, (0, omega arith, refl))
 
-module _ (d : DeriveInput) (noted : List Noted) (items : List Item) (built : IsTrue (are_built (listed d))) (all : AreHandled built_traits d noted items) where
+module _ (d : DeriveInput) (noted : List Noted) (items : List Item) (built : IsBuilt d) (all : AreHandled built_traits d noted items) where
   -- each listed trait has its block, and there is nothing else
   pub one_each : OneEach d items
   one_each = subst (λ ts. Blocks ts d items) (built_in_order d built) all.blocks
 
-  -- and no cause of the last phase stands
+  -- no cause of a listed trait stands
+  trait_uncaused : (which : Trait) → is_listed (listed d) which ≡ true → NoCause (OfHandler (handling d) which)
+  trait_uncaused which lists =
+      let Uncaused : Trait → Type 0 = λ own. is_listed (listed d) own ≡ true → NoCause (OfHandler (handling d) own) in
+      All-contains Uncaused built_traits which (All-from_recursion Uncaused built_traits all.uncaused)
+      (listed_stands built_traits which (listed_built (listed d) which (built_listed d built) lists)) lists
+
+  -- and none of the last phase
   pub last_uncaused : IsListing d.attrs (listed d) → NoCause (IsListedCause d)
   last_uncaused listing =
-      let Uncaused : Trait → Type 0 = λ which. is_listed (listed d) which ≡ true → NoCause (OfHandler (handling d) which) in
       let some = some_stands (listed d) listing.some_listed in
-      all_handled (handling d) (listed d) some.0 some.1 (λ which found.
-      All-contains Uncaused built_traits which (All-from_recursion Uncaused built_traits all.uncaused) (listed_stands built_traits which (standing_built (listed d) which built found))
-      (standing_listed (listed d) which found))
+      all_handled (handling d) (listed d) some.0 some.1 (λ which found. trait_uncaused which (standing_listed (listed d) which found))
 
-  -- and the settings of each listed comparison are what the attributes say
+  -- and the settings of each listed trait are what the attributes say
   pub all_said : AreAllSaid d
-  all_said PartialEq lists = lawful_comparisons.said PartialEq d (all.uncaused.0 lists)
-  all_said PartialOrd lists = lawful_comparisons.said PartialOrd d (all.uncaused.1.0 lists)
-  all_said Ord lists = lawful_comparisons.said Ord d (all.uncaused.1.1.0 lists)
+  all_said which lists = lawful_traits.said which d built lists (trait_uncaused which lists)

@@ -1,15 +1,14 @@
 -- The causes of the handler have messages, and start at boundaries of tokens.
-use Rattle.std.proofs.Common.{ℕ, List, [], ◌∷◌, ◌++◌, map, Option, Some, None, Bool, true, false, inl, inr, refl, sym, subst}
-use Rattle.std.specs.Prelude.{◌+◌, IfSome, unwrap_or, if◌then◌else◌}
+use Rattle.std.proofs.Common.{ℕ, List, [], ◌∷◌, ◌++◌, Option, Some, None, Bool, true, false, inl, inr, refl, sym, subst}
+use Rattle.std.specs.Prelude.{◌+◌, IfSome, is_none, unwrap_or, if◌then◌else◌}
 use Rattle.std.specs.List.{AllByRecursion}
 use Rattle.std.proofs.lemmas.List.Elements.{All-contains, All-from_recursion}
 use Rattle.educe_tokens.specs.declared.error.EduceError.{EduceError}
 use Rattle.educe_tokens.specs.declared.span.Span.{Span}
 use Rattle.educe_tokens.specs.declared.token.Token.{Token}
 use Rattle.educe_tokens.specs.Message.{HasWords}
-use Rattle.educe_syntax.specs.Attribute.{Attribute}
 use Rattle.educe_syntax.specs.DeriveInput.{DeriveInput}
-use Rattle.educe_syntax.specs.Few.{shape_fields, variants_of, all_fields}
+use Rattle.educe_syntax.specs.Few.{shape_fields, shape_variants, variants_of, all_fields}
 use Rattle.educe_syntax.specs.Field.{Field}
 use Rattle.educe_syntax.specs.Parsed.{end_of}
 use Rattle.educe_syntax.specs.Placed.{AreAttributesPlaced, IsFieldPlaced, AreFieldsPlaced, IsVariantPlaced, IsDefinitionPlaced}
@@ -21,34 +20,34 @@ use Rattle.educe_bound.specs.declared.traits.Trait.TheVariants as trait
 use Rattle.educe_attrs.specs.Among.{IsAmong}
 use Rattle.educe_attrs.specs.Compared.{place_of}
 use Rattle.educe_attrs.specs.Rank.{Rank}
-use Rattle.educe_body.specs.declared.comparison.Comparison.{Comparison}
-use Rattle.educe_body.specs.declared.comparison.Comparison.TheVariants.{PartialEq, PartialOrd, Ord}
 use Rattle.educe_laws.specs.Cases.{fields_in, shape_cases, cases_of, variant_attributes, field_attributes}
-use Rattle.educe_laws.specs.Comparisons.{trait_of, type_row, variant_row, field_row}
-use Rattle.educe_laws.specs.Handled.{places, IsReuse, IsComparisonCause, IsTraitCause, IsListsCause, IsListedCause}
+use Rattle.educe_laws.specs.Defaults.{mark_row, value_row, IsCase, IsDefaultCause, AreMarkedTwice, IsNoneMarked}
+use Rattle.educe_laws.specs.Handled.{places, IsReuse, IsFieldwiseCause, IsTraitCause, IsListsCause, IsListedCause}
 use Rattle.educe_core.specs.Headline.{IsHandlerCause}
 use Rattle.educe_laws.specs.Listed.{listed, IsListingCause}
+use Rattle.educe_laws.specs.Rows.{type_row, variant_row, field_row}
 use Rattle.educe_laws.specs.Settings.{settings_of, rank_span_of, Kept, is_kept, kept_at, kept_from, kept_fields}
 use Rattle.educe_attrs.specs.Laws.{lawful_reports}
 use Rattle.educe_attrs.specs.Messages.{HasMessage, IsBoundary}
 use Rattle.educe_laws.proofs.Elements.{each_joined, each_mapped, each_weaker, each_apart}
 
--- what holds of the causes of lists, and of those of each comparison, holds of those of the listed traits
+-- what holds of the causes of lists, of those of each trait that is read field by field, and of those of `Default` holds of those of the
+-- listed traits
 each_listed : (d : DeriveInput) (Q : EduceError → Type 0) → ((e : EduceError) → IsListsCause d e → Q e)
-    → ((which : Comparison) (e : EduceError) → IsComparisonCause which d e → Q e) → (e : EduceError) → IsListedCause d e → Q e
-each_listed d Q lists compares e (inl cause) = lists e cause
-each_listed d Q lists compares e (inr cause) = own cause.0 cause.2
+    → ((which : Trait) (e : EduceError) → IsFieldwiseCause which d e → Q e) → ((e : EduceError) → IsDefaultCause d e → Q e) → (e : EduceError) → IsListedCause d e → Q e
+each_listed d Q lists fieldwise defaults e (inl cause) = lists e cause
+each_listed d Q lists fieldwise defaults e (inr cause) = own cause.0 cause.2
   where
     own : (which : Trait) → IsTraitCause d which e → Q e
-    own trait.PartialEq cause = compares PartialEq e cause
-    own trait.PartialOrd cause = compares PartialOrd e cause
-    own trait.Ord cause = compares Ord e cause
+    own trait.PartialEq cause = fieldwise trait.PartialEq e cause
+    own trait.Eq cause = fieldwise trait.Eq e cause
+    own trait.PartialOrd cause = fieldwise trait.PartialOrd e cause
+    own trait.Ord cause = fieldwise trait.Ord e cause
+    own trait.Hash cause = fieldwise trait.Hash e cause
+    own trait.Default cause = defaults e cause
     own trait.Debug cause = absurd cause
     own trait.Clone cause = absurd cause
     own trait.Copy cause = absurd cause
-    own trait.Eq cause = absurd cause
-    own trait.Hash cause = absurd cause
-    own trait.Default cause = absurd cause
 
 -- ---- messages
 
@@ -56,14 +55,24 @@ module _ (d : DeriveInput) where
   pub listing_message : (e : EduceError) → IsListingCause d e → HasMessage e
   listing_message e cause = lawful_reports.listing_message d.attrs (end_of d.tokens) e cause
 
-  comparison_message : (which : Comparison) (e : EduceError) → IsComparisonCause which d e → HasMessage e
-  comparison_message which e (IsComparisonCause.by_type cause) = lawful_reports.said_message (trait_of which) type_row d.attrs e cause
-  comparison_message which e (IsComparisonCause.by_field field among cause) = lawful_reports.field_message (trait_of which) (field_row which) (listed d) field.attrs e cause
-  comparison_message which e (IsComparisonCause.by_variant variant among cause) = lawful_reports.said_message (trait_of which) variant_row variant.attrs e cause
-  comparison_message which e (IsComparisonCause.by_rank fields among cause) = subst HasMessage (sym cause.reuse.is) (record { kind = λ same. cc; words = refl })
+  fieldwise_message : (which : Trait) (e : EduceError) → IsFieldwiseCause which d e → HasMessage e
+  fieldwise_message which e (IsFieldwiseCause.by_type cause) = lawful_reports.said_message which (type_row which) d.attrs e cause
+  fieldwise_message which e (IsFieldwiseCause.by_variant variant among cause) = lawful_reports.said_message which (variant_row which) variant.attrs e cause
+  fieldwise_message which e (IsFieldwiseCause.by_field field among cause) = lawful_reports.field_message which (field_row which) (listed d) field.attrs e cause
+  fieldwise_message which e (IsFieldwiseCause.by_rank fields among cause) = subst HasMessage (sym cause.reuse.is) (record { kind = λ same. cc; words = refl })
+
+  default_message : (e : EduceError) → IsDefaultCause d e → HasMessage e
+  default_message e (IsDefaultCause.by_type cause) = lawful_reports.said_message trait.Default (type_row trait.Default) d.attrs e cause
+  default_message e (IsDefaultCause.by_variant own variant settings among cause) =
+      lawful_reports.said_message trait.Default (mark_row (is_none own.expression)) variant.attrs e cause
+  default_message e (IsDefaultCause.by_field fields written field case among cause) =
+      lawful_reports.field_message trait.Default (value_row written) (listed d) field.attrs e cause
+  default_message _ (IsDefaultCause.by_marks place twice) = record { kind = λ same. cc; words = refl }
+  default_message _ (IsDefaultCause.by_no_mark place none) = record { kind = λ same. cc; words = refl }
 
   pub listed_message : (e : EduceError) → IsListedCause d e → HasMessage e
-  listed_message e cause = each_listed d HasMessage (λ e lists. lawful_reports.place_message (listed d) lists.attributes e lists.cause) comparison_message e cause
+  listed_message e cause =
+      each_listed d HasMessage (λ e lists. lawful_reports.place_message (listed d) lists.attributes e lists.cause) fieldwise_message default_message e cause
 
   pub handler_words : (e : EduceError) → IsHandlerCause d e → HasWords e.kind e.words
   handler_words e (IsHandlerCause.listing cause) = (listing_message e cause).words
@@ -113,13 +122,13 @@ module _ (tokens : List Token) (d : DeriveInput) (placed : IsDefinitionPlaced to
   or_other None other has fallback = fallback
   or_other (Some rank) other has fallback = has
 
-  rank_starts : (which : Comparison) (f : Field) → IsFieldPlaced tokens f → Starts (rank_span_of which d f)
+  rank_starts : (which : Trait) (f : Field) → IsFieldPlaced tokens f → Starts (rank_span_of which d f)
   rank_starts which f is =
-      or_other (settings_of which d f).values.rank f.span (lawful_reports.rank_placed tokens f.attrs is.attrs (trait_of which) (field_row which) (listed d))
+      or_other (settings_of which d f).values.rank f.span (lawful_reports.rank_placed tokens f.attrs is.attrs which (field_row which) (listed d))
       (subst Starts (sym is.span.is) (IsBoundary.start is.span.first is.span.first_stands))
 
   -- the ranks of the fields that take part
-  kept_start : (which : Comparison) (place : ℕ) (fs : List Field) → AreFieldsPlaced tokens fs → AllByRecursion (λ (k : Kept). Starts k.rank_span) (kept_from which d place fs)
+  kept_start : (which : Trait) (place : ℕ) (fs : List Field) → AreFieldsPlaced tokens fs → AllByRecursion (λ (k : Kept). Starts k.rank_span) (kept_from which d place fs)
   kept_start which place [] each = tt
   kept_start which place (f ∷ fs) each = step (is_kept which d f) (kept_start which (place + 1) fs each.1)
     where
@@ -128,7 +137,7 @@ module _ (tokens : List Token) (d : DeriveInput) (placed : IsDefinitionPlaced to
       step true more = (rank_starts which f each.0, more)
       step false more = more
 
-  rank_placed : (which : Comparison) (fields : List Field) → IsAmong fields (cases_of d) → (e : EduceError) → IsReuse (kept_fields which d fields) e → Starts e.span
+  rank_placed : (which : Trait) (fields : List Field) → IsAmong fields (cases_of d) → (e : EduceError) → IsReuse (kept_fields which d fields) e → Starts e.span
   rank_placed which fields among e cause =
       let own = one_among (AreFieldsPlaced tokens) (cases_of d) fields (of_cases tokens d.shape placed.fields) among in
       let kept = kept_fields which d fields in
@@ -136,19 +145,51 @@ module _ (tokens : List Token) (d : DeriveInput) (placed : IsDefinitionPlaced to
       let later = All-contains (λ (k : Kept). Starts k.rank_span) kept cause.reuses.later each cause.reuses.later_kept in
       subst (λ (e : EduceError). Starts e.span) (sym cause.is) (subst Starts (sym cause.reuses.place_is) later)
 
-  comparison_placed : (which : Comparison) (e : EduceError) → IsComparisonCause which d e → Starts e.span
-  comparison_placed which e (IsComparisonCause.by_type cause) = lawful_reports.said_placed tokens d.attrs placed.attrs (trait_of which) type_row e cause
-  comparison_placed which e (IsComparisonCause.by_variant variant among cause) =
+  fieldwise_placed : (which : Trait) (e : EduceError) → IsFieldwiseCause which d e → Starts e.span
+  fieldwise_placed which e (IsFieldwiseCause.by_type cause) = lawful_reports.said_placed tokens d.attrs placed.attrs which (type_row which) e cause
+  fieldwise_placed which e (IsFieldwiseCause.by_variant variant among cause) =
       let here = one_among (IsVariantPlaced tokens) (variants_of d) variant placed.variants among in
-      lawful_reports.said_placed tokens variant.attrs here.attrs (trait_of which) variant_row e cause
-  comparison_placed which e (IsComparisonCause.by_field field among cause) =
+      lawful_reports.said_placed tokens variant.attrs here.attrs which (variant_row which) e cause
+  fieldwise_placed which e (IsFieldwiseCause.by_field field among cause) =
       let here = one_among (IsFieldPlaced tokens) (all_fields d) field placed.fields among in
-      lawful_reports.field_placed tokens field.attrs here.attrs (trait_of which) (field_row which) (listed d) e cause
-  comparison_placed which e (IsComparisonCause.by_rank fields among cause) = rank_placed which fields among e cause.reuse
+      lawful_reports.field_placed tokens field.attrs here.attrs which (field_row which) (listed d) e cause
+  fieldwise_placed which e (IsFieldwiseCause.by_rank fields among cause) = rank_placed which fields among e cause.reuse
+
+  -- the fields of a case whose attributes `Default` reads stand among the tokens
+  case_placed : (fields : List Field) (written : Bool) → IsCase d fields written → AreFieldsPlaced tokens fields
+  case_placed _ _ (IsCase.of_struct own shape settings is) = subst (λ (s : Shape). AreFieldsPlaced tokens (shape_fields s)) is placed.fields
+  case_placed _ _ (IsCase.of_variant own mark variants variant settings is among marked) =
+      let all = subst (λ (s : Shape). AreFieldsPlaced tokens (shape_fields s)) is placed.fields in
+      one_among (λ (v : Variant). AreFieldsPlaced tokens (fields_in v)) variants variant (each_apart (IsFieldPlaced tokens) fields_in variants all) among
+
+  -- so does the later of two marks
+  twice_placed : (place : Span) → AreMarkedTwice d place → Starts place
+  twice_placed place twice =
+      let all = subst (λ (s : Shape). AllByRecursion (IsVariantPlaced tokens) (shape_variants s)) twice.chooses.is placed.variants in
+      let later = among_all (IsVariantPlaced tokens) (twice.front ++ twice.first ∷ twice.between) twice.back twice.later (subst (AllByRecursion (IsVariantPlaced tokens)) twice.are all) in
+      let mark = twice.later_marked.mark in
+      subst Starts (sym twice.later_marked.place_is)
+      (lawful_reports.span_placed tokens twice.later.attrs later.attrs trait.Default (mark_row (is_none twice.own.expression)) mark twice.later_marked.settings.said)
+
+  -- and the attribute of a type of which no variant is marked
+  none_placed : (place : Span) → IsNoneMarked d place → Starts place
+  none_placed place none =
+      subst Starts (sym none.place_is) (lawful_reports.span_placed tokens d.attrs placed.attrs trait.Default (type_row trait.Default) none.own none.chooses.settings.said)
+
+  default_placed : (e : EduceError) → IsDefaultCause d e → Starts e.span
+  default_placed e (IsDefaultCause.by_type cause) = lawful_reports.said_placed tokens d.attrs placed.attrs trait.Default (type_row trait.Default) e cause
+  default_placed e (IsDefaultCause.by_variant own variant settings among cause) =
+      let here = one_among (IsVariantPlaced tokens) (variants_of d) variant placed.variants among in
+      lawful_reports.said_placed tokens variant.attrs here.attrs trait.Default (mark_row (is_none own.expression)) e cause
+  default_placed e (IsDefaultCause.by_field fields written field case among cause) =
+      let here = one_among (IsFieldPlaced tokens) fields field (case_placed fields written case) among in
+      lawful_reports.field_placed tokens field.attrs here.attrs trait.Default (value_row written) (listed d) e cause
+  default_placed _ (IsDefaultCause.by_marks place twice) = twice_placed place twice
+  default_placed _ (IsDefaultCause.by_no_mark place none) = none_placed place none
 
   -- each cause of the handler starts at one
   pub handler_placed : (e : EduceError) → IsHandlerCause d e → IsBoundary tokens e.span.start
   handler_placed e (IsHandlerCause.listing cause) = lawful_reports.listing_placed tokens d.attrs placed.attrs (end_of d.tokens) e cause
   handler_placed e (IsHandlerCause.unbuilt none never) = IsBoundary.beginning
-  handler_placed e (IsHandlerCause.handled none built cause) = each_listed d (λ e. Starts e.span) lists_placed comparison_placed e cause
+  handler_placed e (IsHandlerCause.handled none built cause) = each_listed d (λ e. Starts e.span) lists_placed fieldwise_placed default_placed e cause
   handler_placed e IsHandlerCause.memory = IsBoundary.beginning

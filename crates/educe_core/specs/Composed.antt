@@ -1,16 +1,11 @@
 -- What the handlers of several traits, one behind the other, come to.
-use Rattle.std.specs.Prelude.{◌≡◌, true, List}
+use Rattle.std.specs.Prelude.{List}
 use Rattle.std.specs.List.{AllByRecursion}
 use Rattle.educe_syntax.specs.DeriveInput.{DeriveInput}
-use Rattle.educe_syntax.specs.Refusal.{IsDefinition}
 use Rattle.educe_bound.specs.declared.traits.Trait.{Trait}
-use Rattle.educe_bound.specs.Traits.{is_listed}
-use Rattle.educe_attrs.specs.Causes.{NoCause}
-use Rattle.educe_attrs.specs.Phases.{OfHandler}
 use Rattle.educe_body.specs.declared.body.Item.{Item}
 use Rattle.educe_laws.specs.Blocks.{Blocks, EachEvaluates}
-use Rattle.educe_laws.specs.Handled.{handling}
-use Rattle.educe_laws.specs.Handlers.{Noted, AreNoted, handled_of}
+use Rattle.educe_laws.specs.Handlers.{Noted, AreNoted, AreUncaused, handled_of}
 use Rattle.educe_laws.specs.Listed.{listed}
 
 -- each of these traits that is listed was handled, and no other trait: the context holds what their handlers noted; the items are
@@ -18,5 +13,5 @@ use Rattle.educe_laws.specs.Listed.{listed}
 pub record AreHandled (done : List Trait) (definition : DeriveInput) (noted : List Noted) (items : List Item) : Type 0 where
   pub noted_are : AreNoted definition done noted
   pub blocks : Blocks (handled_of (listed definition) done) definition items
-  pub evaluates : IsDefinition definition.tokens definition → AllByRecursion (EachEvaluates definition) items
-  pub uncaused : AllByRecursion (λ which. is_listed (listed definition) which ≡ true → NoCause (OfHandler (handling definition) which)) done
+  pub evaluates : AllByRecursion (EachEvaluates definition) items
+  pub uncaused : AreUncaused definition done

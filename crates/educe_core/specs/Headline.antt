@@ -21,7 +21,7 @@ use Rattle.educe_laws.specs.Blocks.{OneEach, EachEvaluates, HasTightBounds}
 use Rattle.educe_laws.specs.Built.{IsBuilt}
 use Rattle.educe_laws.specs.Handled.{IsListedCause}
 use Rattle.educe_laws.specs.Listed.{listed, IsListingCause}
-use Rattle.educe_laws.specs.Settings.{AreAllSaid}
+use Rattle.educe_laws.specs.Said.{AreAllSaid}
 
 -- the definition that a text is, within the limits, whose names are apart
 pub record Defines (text : List ℕ) (definition : DeriveInput) : Type 0 where
@@ -65,10 +65,10 @@ abbrev pub IsAlone : List ℕ → EduceError → Type 0
 IsAlone source e = (other : EduceError) → other.kind ≢ Alloc → IsCause source other → other ≡ e
 
 -- A source is expanded to these items, written as these bytes: the bytes are the spelling of the items, which lexes to their
--- tokens; no cause of a listed trait stands, and the settings of each field are what its attributes say; the items hold one block
--- for each listed trait of the definition, and nothing else; over each table and any two values that it covers, their functions
--- evaluate to what the traits mean; and where the bound of a trait is the automatic one, its own predicates suffice, and none of
--- them can be dropped.
+-- tokens; no cause of a listed trait stands, and the settings of the type, of its variants and of its fields are what their
+-- attributes say; the items hold one block for each listed trait of the definition, and nothing else; over each table, and the
+-- values that it covers, their functions evaluate to what the traits mean; and where the bound of a trait is the automatic one, its
+-- own predicates suffice, and none of them can be dropped.
 pub record IsExpansion (source : List ℕ) (items : List Item) (written : List ℕ) : Type 0 where
   pub definition : DeriveInput
   pub defines : Defines (chars source) definition

@@ -5,13 +5,16 @@ pub mod Run
 pub mod Laws
 -- what clauses say of the handlers and of their items
 pub use Rattle.educe_laws.specs.Comparisons
+pub use Rattle.educe_laws.specs.Rows
 pub use Rattle.educe_laws.specs.Listed
 pub use Rattle.educe_laws.specs.Ranks
 pub use Rattle.educe_laws.specs.Settings
+pub use Rattle.educe_laws.specs.Said
 pub use Rattle.educe_laws.specs.Cases
 pub use Rattle.educe_laws.specs.Discriminants
 pub use Rattle.educe_laws.specs.Comparing
 pub use Rattle.educe_laws.specs.Steps
+pub use Rattle.educe_laws.specs.Types
 pub use Rattle.educe_laws.specs.Arms
 pub use Rattle.educe_laws.specs.Blocks
 pub use Rattle.educe_laws.specs.Built

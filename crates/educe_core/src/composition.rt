@@ -10,14 +10,14 @@ ghost use Rattle.educe_laws.specs.Built.{IsBuilt};
 ghost use Rattle.educe_laws.specs.Handled.{IsListedCause};
 ghost use Rattle.educe_laws.specs.Handlers.{traits_before, traits_through};
 ghost use Rattle.educe_laws.specs.Listed as listing;
-ghost use Rattle.educe_laws.specs.Settings.{AreAllSaid};
+ghost use Rattle.educe_laws.specs.Said.{AreAllSaid};
 
 use educe_attrs::Stop;
 use educe_body::Items;
 use educe_bound::{Trait, is_listed};
-use educe_cmp::{
-    OrdHandler, PartialEqHandler, PartialOrdHandler, TraitHandler, TraitHandlerContext,
-};
+use educe_cmp::{EqHandler, OrdHandler, PartialEqHandler, PartialOrdHandler};
+use educe_handlers::{TraitHandler, TraitHandlerContext};
+use educe_make::{DefaultHandler, HashHandler};
 use educe_syntax::DeriveInput;
 use educe_tokens::Seq;
 use std::alloc::Global;
@@ -30,6 +30,7 @@ fn handle<H: TraitHandler>(
     items: &mut Items,
     listed: &[Trait],
 ) -> Result<(), Stop>
+    requires is_read { IsDefinition ast.now.tokens ast.now }
     requires listed { listed.now ≡ listing.listed ast.now }
     requires built { IsBuilt ast.now }
     requires takes { IsTrue (H.takes ast.now.shape) }
@@ -46,20 +47,24 @@ fn handle<H: TraitHandler>(
 
 /// The blocks of the listed traits, in the fixed order, of a definition that is built.
 pub fn blocks(alloc: Global, ast: &DeriveInput, listed: &[Trait]) -> Result<Items, Stop>
+    requires is_read { IsDefinition ast.now.tokens ast.now }
     requires listed { listed.now ≡ listing.listed ast.now }
     requires lists { IsListing ast.now.attrs (listing.listed ast.now) }
     requires built { IsBuilt ast.now }
     ensures one_each { IfOk result (OneEach ast.now) }
     ensures said { IfOk result (λ _. AreAllSaid ast.now) }
-    ensures evaluates { IsDefinition ast.now.tokens ast.now → IfOk result (AllByRecursion (EachEvaluates ast.now)) }
-    ensures bounded { IsDefinition ast.now.tokens ast.now → IfOk result (AllByRecursion (HasTightBounds ast.now)) }
+    ensures evaluates { IfOk result (AllByRecursion (EachEvaluates ast.now)) }
+    ensures bounded { IfOk result (AllByRecursion (HasTightBounds ast.now)) }
     ensures uncaused { IfOk result (λ _. NoCause (IsListedCause ast.now)) }
     ensures err { IfErr result (λ s. OfStop (IsListedCause ast.now) s) }
 {
     let mut ctx = TraitHandlerContext::new(alloc);
     let mut items = Seq::new(alloc);
     handle::<PartialEqHandler>(alloc, ast, &mut ctx, &mut items, listed)?;
+    handle::<EqHandler>(alloc, ast, &mut ctx, &mut items, listed)?;
     handle::<PartialOrdHandler>(alloc, ast, &mut ctx, &mut items, listed)?;
     handle::<OrdHandler>(alloc, ast, &mut ctx, &mut items, listed)?;
+    handle::<HashHandler>(alloc, ast, &mut ctx, &mut items, listed)?;
+    handle::<DefaultHandler>(alloc, ast, &mut ctx, &mut items, listed)?;
     Ok(items)
 }

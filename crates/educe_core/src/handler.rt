@@ -11,13 +11,13 @@ ghost use Rattle.educe_laws.specs.Blocks.{OneEach, EachEvaluates, HasTightBounds
 ghost use Rattle.educe_laws.specs.Built.{IsBuilt};
 ghost use Rattle.educe_laws.specs.Handled.{IsListedCause};
 ghost use Rattle.educe_laws.specs.Listed as listing;
-ghost use Rattle.educe_laws.specs.Settings.{AreAllSaid};
+ghost use Rattle.educe_laws.specs.Said.{AreAllSaid};
 
 use crate::composition::blocks;
 use educe_attrs::{Stop, error_of, type_listing};
 use educe_body::Items;
 use educe_bound::Traits;
-use educe_cmp::is_built;
+use educe_handlers::is_built;
 use educe_syntax::DeriveInput;
 use educe_tokens::{EduceError, Kind, Span, Token};
 use std::alloc::Global;
@@ -45,10 +45,11 @@ fn listed_traits(alloc: Global, ast: &DeriveInput) -> Result<Traits, Stop>
 
 /// The items of a definition, by phases: what it lists, its form, and the handlers of what it lists.
 fn items_of(alloc: Global, ast: &DeriveInput) -> Result<Items, Stop>
+    requires { IsDefinition ast.now.tokens ast.now }
     ensures one_each { IfOk result (OneEach ast.now) }
     ensures said { IfOk result (λ _. AreAllSaid ast.now) }
-    ensures evaluates { IsDefinition ast.now.tokens ast.now → IfOk result (AllByRecursion (EachEvaluates ast.now)) }
-    ensures bounded { IsDefinition ast.now.tokens ast.now → IfOk result (AllByRecursion (HasTightBounds ast.now)) }
+    ensures evaluates { IfOk result (AllByRecursion (EachEvaluates ast.now)) }
+    ensures bounded { IfOk result (AllByRecursion (HasTightBounds ast.now)) }
     ensures lists { IfOk result (λ _. IsListing ast.now.attrs (listing.listed ast.now)) }
     ensures listing { IfOk result (λ _. NoCause (listing.IsListingCause ast.now)) }
     ensures built { IfOk result (λ _. IsBuilt ast.now) }
@@ -56,7 +57,7 @@ fn items_of(alloc: Global, ast: &DeriveInput) -> Result<Items, Stop>
     ensures err { IfErr result (λ s. OfStop (IsHandlerCause ast.now) s) }
 {
     let listed = listed_traits(alloc, ast)?;
-    if !is_built(listed.as_slice()) {
+    if !is_built(ast, listed.as_slice()) {
         return Err(Stop::Refused(EduceError::new(alloc, Kind::NotBuilt, Span::NONE)));
     }
     blocks(alloc, ast, listed.as_slice())
@@ -66,11 +67,13 @@ fn items_of(alloc: Global, ast: &DeriveInput) -> Result<Items, Stop>
 /// refused where what it lists is, then where it is not of the form that is built so far, and then
 /// where a handler of a listed trait refuses it (documentation of `educe`, Traits).
 pub fn derive_input_handler(alloc: Global, ast: &DeriveInput) -> Result<Items, EduceError>
+    // The definition is the value of its tokens, as those that are read from a text.
+    requires { IsDefinition ast.now.tokens ast.now }
     ensures one_each { IfOk result (OneEach ast.now) }
     // The settings of each field, by which its items are made, are what its attributes say.
     ensures said { IfOk result (λ _. AreAllSaid ast.now) }
-    ensures evaluates { IsDefinition ast.now.tokens ast.now → IfOk result (AllByRecursion (EachEvaluates ast.now)) }
-    ensures bounded { IsDefinition ast.now.tokens ast.now → IfOk result (AllByRecursion (HasTightBounds ast.now)) }
+    ensures evaluates { IfOk result (AllByRecursion (EachEvaluates ast.now)) }
+    ensures bounded { IfOk result (AllByRecursion (HasTightBounds ast.now)) }
     ensures lists { IfOk result (λ _. IsListing ast.now.attrs (listing.listed ast.now)) }
     // No cause stands in any phase.
     ensures listing { IfOk result (λ _. NoCause (listing.IsListingCause ast.now)) }

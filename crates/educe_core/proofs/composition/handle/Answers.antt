@@ -1,7 +1,5 @@
-use Rattle.std.proofs.Common.{◌≡◌, ◌∙◌, true, false, List, ap, sym, subst}
-use Rattle.std.specs.Prelude.{OnOk}
+use Rattle.std.proofs.Common.{◌≡◌, ◌∙◌, true, false, ap, sym}
 use Rattle.educe_attrs.specs.Phases.{OfHandler}
-use Rattle.educe_bound.specs.declared.traits.Trait.{Trait}
 use Rattle.educe_bound.specs.Traits.{is_listed}
 use Rattle.educe_laws.specs.Handled.{handling, IsListedCause}
 use Rattle.educe_laws.specs.Handlers.{traits_before}
@@ -12,9 +10,11 @@ use Rattle.educe_core.proofs.composition.handle.Goals as goal
 
 pub trait_meta_handler-requires-clause-ready : goal.trait_meta_handler-requires-clause-ready
 trait_meta_handler-requires-clause-ready g c = record {
+  is_read = c.requires.is_read;
   traits_are = c.requires.listed;
   lists = ap (is_listed c.args.listed.now) (sym c.TRAIT.ensures) ∙ sym c.is_listed.ensures ∙ c.if-is_listed.true;
   built = c.requires.built;
+  uncaused = c.requires.before.uncaused;
   noted_are = c.requires.before.noted_are;
 }
 
@@ -24,7 +24,7 @@ returns-then-is_listed-clause-through g c =
     let d = c.args.ast.now in
     let lists : is_listed (listed d) which ≡ true = rw (← c.requires.listed, ← c.TRAIT.ensures) (sym c.is_listed.ensures ∙ c.if-is_listed.true) in
     let ran = c.trait_meta_handler in
-    listed_answered (traits_before which) which d c.args.ctx.now c.args.items.now c.requires.before ran.result ran.new.ctx ran.new.items lists ran.ensures.adds ran.ensures.means ran.ensures.notes
+    listed_answered (traits_before which) which d c.args.ctx.now c.args.items.now c.requires.before ran.result ran.new.ctx ran.new.items lists ran.ensures.adds (ran.ensures.means c.requires.is_read) ran.ensures.notes
     ran.ensures.uncaused
 
 pub returns-then-is_listed-clause-err : goal.returns-then-is_listed-clause-err

@@ -3,6 +3,9 @@ use Rattle.educe_core.specs.Headline.{IsValid, handled}
 use Rattle.educe_core.proofs.Causes.{memory_cause, uncaused_if_valid, valid_handler}
 use Rattle.educe_core.proofs.expansion.expanded.Goals as goal
 
+pub derive_input_handler-requires : goal.derive_input_handler-requires
+derive_input_handler-requires c = record { whole = c.in-Ok.ensures.defines.whole; apart = c.in-Ok.ensures.defines.names_apart }
+
 pub returns-in-Err-clause-valid : goal.returns-in-Err-clause-valid
 returns-in-Err-clause-valid c = λ valid. c.in-Err.ensures.only valid.definition valid.defines
 
@@ -25,10 +28,8 @@ returns-in-Ok-spell-clause-done c = record {
   uncaused = c.in-Ok-derive_input_handler.ensures.uncaused;
   said = c.in-Ok-derive_input_handler.ensures.said;
   one_each = c.in-Ok-derive_input_handler.ensures.one_each;
-  evaluates = c.in-Ok-derive_input_handler.ensures.evaluates
-      (record { whole = c.in-Ok.ensures.defines.whole; apart = c.in-Ok.ensures.defines.names_apart });
-  bounded = c.in-Ok-derive_input_handler.ensures.bounded
-      (record { whole = c.in-Ok.ensures.defines.whole; apart = c.in-Ok.ensures.defines.names_apart });
+  evaluates = c.in-Ok-derive_input_handler.ensures.evaluates;
+  bounded = c.in-Ok-derive_input_handler.ensures.bounded;
   bytes = c.in-Ok-spell.ensures.spelled;
   lexes = c.in-Ok-spell.ensures.lexes;
 }

@@ -1,9 +1,9 @@
-use Rattle.std.proofs.Common.{◌≡◌, ◌∙◌, ap, sym}
+use Rattle.std.proofs.Common.{◌∙◌, sym}
 use Rattle.std.proofs.lemmas.Bool.{true≢false}
 use Rattle.educe_laws.specs.Handled.{IsListedCause}
 use Rattle.educe_core.specs.Headline.{IsHandlerCause}
-use Rattle.educe_laws.specs.Built.{IsBuilt, are_built}
-use Rattle.educe_laws.specs.Listed.{listed, IsListingCause}
+use Rattle.educe_laws.specs.Built.{IsBuilt}
+use Rattle.educe_laws.specs.Listed.{IsListingCause}
 use Rattle.educe_laws.proofs.Stops.{stop_passed, stop_returned}
 use Rattle.educe_core.proofs.Phased.{form_refused}
 use Rattle.educe_core.proofs.handler.items_of.Goals as goal
@@ -15,13 +15,11 @@ returns-in_err-listed-clause-err c =
 
 pub returns-then-not-is_built-clause-err : goal.returns-then-not-is_built-clause-err
 returns-then-not-is_built-clause-err c =
-    let same : c.as_slice.result.now ≡ listed c.args.ast.now = c.as_slice.ensures ∙ c.in_ok-listed.ensures.listed in
     form_refused c.args.ast.now c.new.result c.new.ensures c.in_ok-listed.ensures.uncaused
-    (λ built. true≢false (sym built ∙ ap are_built (sym same) ∙ sym c.is_built.ensures ∙ c.if-not-is_built.true))
+    (λ built. true≢false (sym built ∙ sym c.is_built.ensures ∙ c.if-not-is_built.true))
 
 pub returns-clause-err : goal.returns-clause-err
 returns-clause-err c =
-    let same : c.as_slice.result.now ≡ listed c.args.ast.now = c.as_slice.ensures ∙ c.in_ok-listed.ensures.listed in
-    let built : IsBuilt c.args.ast.now = ap are_built (sym same) ∙ sym c.is_built.ensures ∙ c.if-not-is_built.false in
+    let built : IsBuilt c.args.ast.now = sym c.is_built.ensures ∙ c.if-not-is_built.false in
     stop_returned (IsListedCause c.args.ast.now) (IsHandlerCause c.args.ast.now) (λ e cause. IsHandlerCause.handled c.in_ok-listed.ensures.uncaused built cause) c.blocks-2.result
     c.blocks-2.ensures.err
