@@ -180,7 +180,19 @@ shapes = [
     ("where_clause", numbered(EACH + "struct S<T> where ", lambda n: f"T:A{n}<T>,", "{ a: T }")),
     ("listed_bounds", numbered("#[educe(PartialEq(bound(", lambda n: f"T:A{n}<T>,", ")),PartialOrd,Ord)] struct S<T> { a: T }")),
     ("mentioned_params", paired(EACH + "struct S<", lambda n: f"T{n},", "> { a: (u8, S<", lambda n: f"T{n},", ">) }")),
+    ("mentioning_fields", paired(EACH + "struct S<", lambda n: f"T{n},", "> {", lambda n: f"f{n}:W<S<T{n}>>,", "}")),
     ("packed_fields", paired(EACH + "#[repr(packed)] struct S<const N:usize,", lambda n: f"T{n},", "> {", lambda n: f"f{n}:{type_of(n)},", "}")),
+    ("hash_fields", lambda size: filled(size, "Hash", lambda n: f"f{n}:u8,")),
+    ("hash_data", numbered("#[educe(Hash)] enum E {", lambda n: f"V{n}(u8,u8),", "}")),
+    ("default_fields", lambda size: filled(size, "Default", lambda n: f"f{n}:u8,")),
+    ("default_values", lambda size: filled(size, "Default", lambda n: f"#[educe(Default={n})]f{n}:u8,")),
+    ("default_data", numbered("#[educe(Default)] enum E {#[educe(Default)]A(u8),", lambda n: f"V{n}(u8,u8),", "}")),
+    ("default_variant", numbered("#[educe(Default)] enum E {A,#[educe(Default)]B{", lambda n: f"f{n}:u8,", "}}")),
+    ("eq_fields", lambda size: filled(size, "PartialEq,Eq", lambda n: f"f{n}:u8,")),
+    ("eq_data", numbered("#[educe(PartialEq,Eq)] enum E {", lambda n: f"V{n}(u8,u8),", "}")),
+    ("eq_generic", numbered("#[educe(PartialEq,Eq)] struct S<T> {", lambda n: f"f{n}:W<T>,", "}")),
+    ("eq_selves", numbered("#[educe(PartialEq,Eq)] struct S<T> {", lambda n: f"f{n}:Box<Self>,", "}")),
+    ("all_six", lambda size: filled(size, "PartialEq,Eq,PartialOrd,Ord,Hash,Default", lambda n: f"f{n}:u8,")),
 ]
 for name, make in shapes:
     for kib in (16, 32, 64, 128):
@@ -194,7 +206,7 @@ ratio() {
 }
 
 printf '%-18s %7s %8s %7s %10s %7s %9s\n' shape bytes seconds ratio 'Minstr' ratio 'peak MB'
-[ $# -gt 0 ] || set -- fields variants units unit_discriminants data data_discriminants one_discriminant long_discriminant variant_fields variant_ranks variant_settings prefixed prefixes deep_type generics predicates chains attributes own ord partial_ord all fallbacks settings equal_ranks lints lists field_lists repr type_list type_path params other_param value zeros digits last_word last_fault long_names blanks small_tokens comment nested string raw_string brackets script methods method_path underscored underscores words param_fields one_generic nested_types where_clause listed_bounds mentioned_params packed_fields
+[ $# -gt 0 ] || set -- fields variants units unit_discriminants data data_discriminants one_discriminant long_discriminant variant_fields variant_ranks variant_settings prefixed prefixes deep_type generics predicates chains attributes own ord partial_ord all fallbacks settings equal_ranks lints lists field_lists repr type_list type_path params other_param value zeros digits last_word last_fault long_names blanks small_tokens comment nested string raw_string brackets script methods method_path underscored underscores words param_fields one_generic nested_types where_clause listed_bounds mentioned_params mentioning_fields packed_fields hash_fields hash_data default_fields default_values default_data default_variant eq_fields eq_data eq_generic eq_selves all_six
 for name in "$@"; do
   seconds_before=0
   count_before=0

@@ -16,7 +16,7 @@ from definitions import FUNCTIONS, added, cases, compiled, discriminant_type, ex
 
 TOKEN = re.compile(r'\s+|//[^\n]*|("(?:\\.|[^"\\])*"|\d+|\w+(?:::\w+)*|.)', re.S)
 ESCAPE = re.compile(r'\\(?:u\{(\w+)\}|x(\w\w)|(.))', re.S)
-CALLS = ("Answer::Called", "Answer::Pairs")
+CALLS = ("Answer::Called", "Answer::Pairs", "Answer::Hashes", "Answer::Made")
 PLAIN = {"n": "\n", "t": "\t", "r": "\r", "0": "\0"}
 
 
@@ -82,12 +82,22 @@ class Table:
 
 
 class Row:
-    """A call of a trait's function: what the definition's methods and constants answer, values, and the outcome."""
+    """A call of a trait's function: what the definition's methods and constants answer, the values, and the outcome."""
 
-    def __init__(self, name, definition, which, calls, constants, this, other, outcome):
+    def __init__(self, name, definition, trait, calls, constants, values, outcome):
         self.name, self.definition, self.calls, self.constants = name, definition, calls, constants
-        self.trait = which[0].split("::")[-1]
-        self.this, self.other, self.outcome = this, other, outcome
+        self.trait, self.values, self.outcome = trait, values, outcome
+
+    def asserted(self):
+        """What holds of the call, as an expression of Rust; nothing where the call has no outcome."""
+        kind, arguments = self.outcome
+        if self.trait == "Hash":
+            return f"fed(&{made(self.definition, *self.values[0])}) == {list(arguments)}"
+        if self.trait == "Default":
+            return is_made(self.definition, *arguments) if kind == "Outcome::Made" else None
+        answer = rust(self.outcome)
+        given = ", ".join("&" + made(self.definition, *value) for value in self.values)
+        return answer and f"::core::cmp::{self.trait}::{FUNCTIONS[self.trait]}({given}) == {answer}"
 
 
 def rows_of(example):
@@ -95,13 +105,37 @@ def rows_of(example):
     name, definition, (kind, given) = example
     if kind == "Answer::Called":
         which, calls, this, other, outcome = given
-        return [Row(name, definition, which, calls, [], (0, this), (0, other), outcome)]
+        return [Row(name, definition, trait_of(which), compared(calls), [], [(0, this), (0, other)], outcome)]
     if kind == "Answer::Pairs":
         which, (told, content), pairs = given
-        calls = content[0] if told == "Told::Calls" else []
+        calls = compared(content[0]) if told == "Told::Calls" else []
         numbers = content[0] if told == "Told::Numbers" else []
-        return [Row(name, definition, which, calls, numbers, *pair) for pair in pairs]
+        return [Row(name, definition, trait_of(which), calls, numbers, [this, other], outcome) for this, other, outcome in pairs]
+    if kind == "Answer::Hashes":
+        (told, content), values = given
+        calls = [(path, (number,), ("Part", [part])) for path, number, part in content[0]] if told == "Told::Parts" else []
+        return [Row(name, definition, "Hash", calls, [], [value], ("Parts", parts)) for value, parts in values]
+    if kind == "Answer::Made":
+        _, outcome = given
+        return [Row(name, definition, "Default", [], [], [], outcome)]
     return []
+
+
+def trait_of(which):
+    """The name of a trait that compares."""
+    return which[0].split("::")[-1]
+
+
+def compared(calls):
+    """The calls of methods that compare two values."""
+    return [(path, (first, second), answer) for path, first, second, answer in calls]
+
+
+def is_made(definition, case, numbers):
+    """Whether the default value is this one."""
+    shown = [f"N({number})" if "N<" in definition else number for number in numbers]
+    name = cases(definition)[0][0].split("::")[0]
+    return f"::core::matches!(<{name} as ::core::default::Default>::default(), {made(definition, case, shown)})"
 
 
 def is_example(value):
@@ -140,11 +174,36 @@ TYPES = {
     "PartialOrder": "::core::option::Option<::core::cmp::Ordering>",
 }
 
+# What a hasher is fed, and a type with a default value.
+DECLARED = """struct Recorder(::std::vec::Vec<i128>);
+impl ::core::hash::Hasher for Recorder {
+    fn finish(&self) -> u64 { 0 }
+    fn write(&mut self, _: &[u8]) { ::core::panic!("bytes") }
+    fn write_u8(&mut self, x: u8) { self.0.push(x as i128) }
+    fn write_u16(&mut self, x: u16) { self.0.push(x as i128) }
+    fn write_u32(&mut self, x: u32) { self.0.push(x as i128) }
+    fn write_i128(&mut self, x: i128) { self.0.push(x) }
+    fn write_usize(&mut self, x: usize) { self.0.push(x as i128) }
+}
+fn fed<T: ::core::hash::Hash>(value: &T) -> ::std::vec::Vec<i128> {
+    let mut recorder = Recorder(::std::vec::Vec::new());
+    value.hash(&mut recorder);
+    recorder.0
+}
+pub struct N<const D: i128>(pub i128);
+impl<const D: i128> ::core::default::Default for N<D> { fn default() -> Self { N(D) } }
+pub const X: u8 = 7;"""
+
 # ---- the compiled code
 
 FUNCTION = """pub fn {name}<T: ::core::marker::Copy + ::core::convert::Into<i128>>(first: &T, second: &T) -> {type} {{
     let numbers: (i128, i128) = ((*first).into(), (*second).into());
     match numbers {{ {arms} _ => ::core::panic!("{name} is called on {{numbers:?}}") }}
+}}"""
+
+FEEDING = """pub fn {name}<T: ::core::marker::Copy + ::core::convert::Into<i128>, H: ::core::hash::Hasher>(value: &T, state: &mut H) {{
+    let number: i128 = (*value).into();
+    state.write_i128(match number {{ {arms} _ => ::core::panic!("{name} is called on {{number}}") }})
 }}"""
 
 def names_of(path):
@@ -165,6 +224,9 @@ def method(path, answers):
     It has the type of its first answer: an answer of another type has no outcome."""
     names = names_of(path)
     kind = next(iter(answers.values()))[0]
+    if kind == "Part":
+        arms = "".join(f"{number} => {part}, " for (number,), (_, (part,)) in answers.items())
+        return in_modules(names, FEEDING.format(name=names[-1], arms=arms))
     arms = "".join(f"({a}, {b}) => {rust(answer)}, " for (a, b), answer in answers.items() if answer[0] == kind)
     return in_modules(names, FUNCTION.format(name=names[-1], type=TYPES[kind.split("::")[-1]], arms=arms))
 
@@ -173,8 +235,8 @@ def methods(own):
     """The functions that the rows of a definition call."""
     answers = {}
     for row in own:
-        for path, first, second, answer in row.calls:
-            if answers.setdefault(path, {}).setdefault((first, second), answer) != answer:
+        for path, arguments, answer in row.calls:
+            if answers.setdefault(path, {}).setdefault(arguments, answer) != answer:
                 sys.exit(f"{path} answers one call in two ways")
     return [method(path, table) for path, table in answers.items()]
 
@@ -188,11 +250,15 @@ def constants(own):
 
 def program_of(definition, impls, own):
     """The program that asserts the outcome of each row of a definition."""
-    lines = [plain(definition), impls, *methods(own), *constants(own), *added(impls), "fn main() {"]
+    lines = [plain(definition), impls, *methods(own), *constants(own), *declared(own), *added(impls), "fn main() {"]
     for row in own:
-        call = f"::core::cmp::{row.trait}::{FUNCTIONS[row.trait]}(&{made(definition, *row.this)}, &{made(definition, *row.other)})"
-        lines.append(f'    ::core::assert_eq!({call}, {rust(row.outcome)}, "{{}}", {json.dumps(row.name, ensure_ascii=False)});')
+        lines.append(f'    ::core::assert!({row.asserted()}, "{{}}", {json.dumps(row.name, ensure_ascii=False)});')
     return "\n".join([*lines, "}", ""])
+
+
+def declared(own):
+    """What rows of other traits than comparisons rest on."""
+    return [DECLARED] if own[0].trait in ("Hash", "Default") else []
 
 
 def tried(program, folder, own):
@@ -201,7 +267,7 @@ def tried(program, folder, own):
     impls = expanded(program, definition)
     if impls is None:
         return "refused"
-    if compiled(folder, "\n".join([plain(definition), *constants(own), "fn main() {}"]), quietly=True) is None:
+    if compiled(folder, "\n".join([plain(definition), *constants(own), *declared(own), "fn main() {}"]), quietly=True) is None:
         return LEFT_OUT
     run = compiled(folder, program_of(definition, impls, own))
     if run is None:
@@ -215,9 +281,7 @@ LEFT_OUT = "left out: rustc does not take the definition"
 def is_possible(row):
     """Whether the row has an outcome, and its values are some of the definition."""
     held = cases(row.definition)
-    return rust(row.outcome) is not None and all(
-        case < len(held) and len(fields) == len(held[case][2]) for case, fields in (row.this, row.other)
-    )
+    return all(case < len(held) and len(fields) == len(held[case][2]) for case, fields in row.values) and row.asserted() is not None
 
 
 def main(program, folder, *tables):

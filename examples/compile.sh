@@ -4,9 +4,8 @@
 # Usage: examples/compile.sh PROGRAM
 #
 # For each examples/*.rs: the definition without its `educe` attribute lines, and behind it what the built
-# program prints for the definition, are compiled as a library into a temporary folder. `Ord` asks for an
-# `Eq`, which is not built yet, so one is added where an `Ord` was printed. Where rustc is missing, nothing
-# is done.
+# program prints for the definition, are compiled as a library into a temporary folder. Where rustc is
+# missing, nothing is done.
 set -eu
 program=${1:?usage: examples/compile.sh PROGRAM}
 case $program in
@@ -32,7 +31,6 @@ for example in *.rs; do
   {
     grep -v '^ *#\[educe(.*)\] *$' "$example" || true
     cat "$folder/impls"
-    sed -n 's/.* impl \(.*\):: core :: cmp :: Ord for \(.*\) { fn cmp .*/impl \1 Eq for \2 {}/p' "$folder/impls"
   } > "$folder/$name.rs"
   if rustc --edition 2021 --crate-type lib -A dead_code --crate-name "$name" --out-dir "$folder" "$folder/$name.rs"; then
     echo "$name: compiled"

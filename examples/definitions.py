@@ -140,10 +140,10 @@ ADDED = {
     "PartialOrd": "impl {0}::core::cmp::PartialOrd for {1} {{ fn partial_cmp(&self, _: &Self) -> ::core::option::Option<::core::cmp::Ordering> {{ ::core::unreachable!() }} }}",
     "Eq": "impl {0}::core::cmp::Eq for {1} {{}}",
 }
-NEEDED = {"PartialEq": [], "PartialOrd": ["PartialEq"], "Ord": ["PartialEq", "PartialOrd", "Eq"]}
+NEEDED = {"PartialEq": [], "Eq": ["PartialEq"], "PartialOrd": ["PartialEq"], "Ord": ["PartialEq", "PartialOrd", "Eq"]}
 
 # The head of an impl: its parameters, the trait, and what the trait is implemented for, with a where clause.
-HEAD = re.compile(r"^.*? impl (.*?):: core :: cmp :: (\w+) for (.*?) \{ fn (?:eq|partial_cmp|cmp) \(", re.M)
+HEAD = re.compile(r"^.*? impl (.*?):: core :: cmp :: (\w+) for (.*?) \{ (?:fn (?:eq|partial_cmp|cmp) \(|\}$)", re.M)
 
 
 def heads_of(impls):
@@ -152,8 +152,8 @@ def heads_of(impls):
 
 
 def traits_of(impls):
-    """The traits of the impls that are printed, and the name of the type."""
-    return {trait: rest.split(" ")[0] for trait, (_, rest) in heads_of(impls).items()}
+    """The traits that compare of the impls that are printed, and the name of the type."""
+    return {trait: rest.split(" ")[0] for trait, (_, rest) in heads_of(impls).items() if trait in FUNCTIONS}
 
 
 def added(impls):

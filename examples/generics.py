@@ -46,7 +46,8 @@ impl<T> PartialOrd for dyn Shape<T> { fn partial_cmp(&self, other: &Self) -> Opt
     "Forest": "#[derive(PartialEq)] struct Forest<T>(Vec<Grove<T>>);",
 }
 
-EACH = "#[educe(PartialEq, PartialOrd, Ord)] "
+EACH = "#[educe(PartialEq, Eq, PartialOrd, Ord)] "
+UNCHECKED = "#[educe(PartialEq, PartialOrd, Ord)] "
 PARTLY = "#[educe(PartialEq, PartialOrd)] "
 EQUAL = "#[educe(PartialEq)] "
 
@@ -79,11 +80,11 @@ DEFINITIONS = [
     ("a map", EQUAL + "struct S<K, V>(HashMap<K, V>);", "S<u8, u8>", ["S([].into())", "S([(1, 1)].into())"]),
     ("a map with a hasher", EQUAL + "struct S<K, H>(HashSet<K, H>);", "S<u8, std::collections::hash_map::RandomState>", ["S([].into())", "S([1].into())"]),
     ("a function in a wrapper", EACH + "struct S<T>(Wrapper<fn(T) -> u8>, T);", "S<u8>", ["S(Wrapper(u8::reverse_bits), 1)", "S(Wrapper(u8::reverse_bits), 2)"]),
-    ("references", EACH + "struct S<'a, T: ?Sized>(&'a T, u8);", "S<'static, str>", ['S("a", 2)', 'S("b", 1)']),
+    ("references", UNCHECKED + "struct S<'a, T: ?Sized>(&'a T, u8);", "S<'static, str>", ['S("a", 2)', 'S("b", 1)']),
     ("references to mutable values", EACH + "struct S<'a, T: 'a>(&'a mut T, &'a [T]);", "S<'static, u8>", ["S(Box::leak(Box::new(1)), &[])", "S(Box::leak(Box::new(1)), &[1])"]),
     # Headers.
     ("constants", EACH + "struct S<T, const N: usize> { a: [T; N], b: Length<N>, c: Length<{ 1 + 1 }> }", "S<u8, 1>", ["S { a: [1], b: Length([1]), c: Length([1, 1]) }", "S { a: [1], b: Length([2]), c: Length([1, 1]) }"]),
-    ("an enum with a lifetime, a type and a constant", EACH + "enum E<'a, T, const N: usize> { A(&'a T), B { x: [T; N] }, C(Vec<E<'a, T, N>>) }", "E<'static, u8, 2>", ["E::A(&1)", "E::A(&2)", "E::B { x: [1, 1] }", "E::C(vec![])", "E::C(vec![E::A(&1)])"]),
+    ("an enum with a lifetime, a type and a constant", UNCHECKED + "enum E<'a, T, const N: usize> { A(&'a T), B { x: [T; N] }, C(Vec<E<'a, T, N>>) }", "E<'static, u8, 2>", ["E::A(&1)", "E::A(&2)", "E::B { x: [1, 1] }", "E::C(vec![])", "E::C(vec![E::A(&1)])"]),
     ("defaults", EACH + "struct S<T: Clone = u8, const N: usize = 2, U = ()>(T, [u8; N], Option<U>);", "S", ["S(1, [1, 2], None)", "S(1, [1, 2], Some(()))"]),
     ("a where clause", EACH + "struct S<'a, T> where T: Clone + 'a, [T; 1]: Sized, for<'b> &'b T: Copy, Self: Sized, { a: Vec<T>, b: &'a u8 }", "S<'static, u8>", ["S { a: vec![], b: &1 }", "S { a: vec![1], b: &0 }"]),
     ("a predicate that is declared already", EACH + "struct S<T: PartialEq>(T) where T: ::core::cmp::PartialEq;", "S<u8>", ["S(1)", "S(2)"]),
@@ -100,7 +101,7 @@ DEFINITIONS = [
     ("ranks", EACH + "struct S<T, U> { #[educe(Ord(rank = 2))] a: Vec<T>, #[educe(Ord(rank = 1))] b: Wrapper<U> }", "S<u8, u8>", ["S { a: vec![1], b: Wrapper(1) }", "S { a: vec![], b: Wrapper(2) }"]),
     # Packed structs.
     ("a packed struct", EACH + "#[repr(packed)] struct S<T>(u8, T, [T; 2]);", "S<u32>", ["S(1, 1, [1, 2])", "S(1, 2, [1, 1])"]),
-    ("packed by two", EACH + "#[repr(C, packed(2))] struct S<'a, T, U>(u8, Option<T>, &'a U, *const U);", "S<'static, u64, u8>", ["S(1, None, &1, null())", "S(1, Some(1), &0, null())", "S(1, Some(1), &1, null())"]),
+    ("packed by two", UNCHECKED + "#[repr(C, packed(2))] struct S<'a, T, U>(u8, Option<T>, &'a U, *const U);", "S<'static, u64, u8>", ["S(1, None, &1, null())", "S(1, Some(1), &0, null())", "S(1, Some(1), &1, null())"]),
     ("a packed struct under a bound for each parameter", "#[educe(PartialEq(bound(*)), PartialOrd(bound(*)), Ord(bound(*)))] #[repr(packed)] struct S<T>(u8, Wrapper<T>);", "S<u32>", ["S(1, Wrapper(1))", "S(1, Wrapper(2))"]),
     ("a packed struct under listed predicates", "#[educe(PartialEq(bound(T: Copy + Ord)), PartialOrd, Ord)] #[repr(packed)] struct S<T>(u8, T);", "S<u32>", ["S(1, 1)", "S(1, 2)"]),
     ("a packed struct with a method", EACH + "#[repr(packed)] struct S<T, U>(#[educe(PartialEq(method = same), Ord(method = level))] T, #[educe(Ord(rank = -1))] U);", "S<Opaque, u32>", ["S(Opaque, 1)", "S(Opaque, 2)"]),
@@ -120,6 +121,9 @@ REJECTED = [
     ("no bound where one is needed", "#[educe(PartialEq(bound = false))] struct S<T>(T);", "", "", "E0277"),
     ("a bound for each parameter that is too little", "#[educe(PartialEq(bound(*)))] struct S<T>(HashMap<T, u8>);", "", "", "E0277"),
     ("an order whose bound is too little", "#[educe(PartialEq, PartialOrd(bound(T: A)))] struct S<T>(T);", "trait A {}", "", "E0277"),
+    ("a reference to a parameter, under a check", "#[educe(PartialEq, Eq)] struct S<'a, T> { a: &'a T }", "", "", "E0309"),
+    ("a box of a slice as a default value", "#[educe(Default)] struct S<T>(Box<[T]>);", "", "", "E0283"),
+    ("a default value of another type", "#[educe(Default)] struct S(#[educe(Default = X)] u8);", "const X: u16 = 1;", "", "E0308"),
     ("a packed struct whose bound does not say `Copy`", "#[educe(PartialEq(bound(T: PartialEq)))] #[repr(packed)] struct S<T>(T);", "", "", "E0507"),
     ("a packed struct with a field that cannot be copied", EQUAL + "#[repr(packed)] struct S(String);", "", "", "E0507"),
 ]

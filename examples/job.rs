@@ -1,7 +1,7 @@
 /// How far a job is. Jobs that run come before those that wait, and those that wait are ordered by
 /// their priority.
 #[derive(Debug)]
-#[educe(PartialEq, PartialOrd, Ord)]
+#[educe(PartialEq, Eq, PartialOrd, Ord, Hash, Default)]
 #[repr(u8)]
 pub enum Job {
     Waiting {
@@ -12,9 +12,10 @@ pub enum Job {
     } = 10,
     Running(
         u64,
-        #[educe(PartialEq(ignore), Ord(ignore))]
+        #[educe(PartialEq(ignore), Ord(ignore), Hash(ignore))]
         Option<Box<str>>,
     ) = 1,
+    #[educe(Default)]
     Done,
     Failed(String) = 0xFF,
 }

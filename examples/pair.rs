@@ -1,7 +1,7 @@
 /// A name and how often it was seen.
 #[derive(Debug)]
-#[educe(PartialEq, Ord)]
-#[educe(PartialOrd)]
+#[educe(PartialEq, Eq, Ord)]
+#[educe(PartialOrd, Hash)]
 pub struct Seen(
     pub String,
     #[educe(Ord(rank = -1))]

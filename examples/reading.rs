@@ -1,6 +1,6 @@
-/// What a sensor sends. The fields are not aligned, so they are copied before they are compared.
+/// What a sensor sends. The fields are not aligned, so they are copied before they are compared or hashed.
 #[derive(Clone, Copy)]
-#[educe(PartialEq, PartialOrd, Ord)]
+#[educe(PartialEq, Eq, PartialOrd, Ord, Hash, Default)]
 #[repr(C, packed)]
 pub struct Reading<T> {
     channel: u8,

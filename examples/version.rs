@@ -1,6 +1,6 @@
-#[educe(PartialEq, PartialOrd, Ord)]
+#[educe(PartialEq, Eq, PartialOrd, Ord, Hash, Default(new))]
 struct Version {
-    #[educe(PartialEq(ignore), Ord(ignore))]
+    #[educe(PartialEq(ignore), Ord(ignore), Hash(ignore), Default = "unnamed")]
     label: String,
     #[educe(Ord(rank = 2))]
     minor: u32,

@@ -2,7 +2,7 @@
 
 use crate::examples::checks::check_all;
 use crate::program::ONE_FIELD;
-use educe_body::{Comparison, Outcome};
+use educe_body::Comparison;
 use educe_tokens::Kind;
 use std::cmp::Ordering;
 use std::test::Fail;
@@ -10,20 +10,35 @@ use std::test::Fail;
 mod bounds;
 mod builders;
 mod checks;
+mod defaults;
 mod devices;
 mod enum_orders;
 mod enums;
+mod equalities;
 mod fields;
 mod generics;
+mod hashes;
 mod impls;
 mod listings;
 mod methods;
 mod names;
+mod outcomes;
 mod packed;
 mod phases;
 
+pub(crate) use outcomes::Outcome;
+
 /// What a method answers where it is called on fields of two numbers, under the text of its path.
 pub(crate) type Called = (&'static str, i128, i128, educe_body::Answer);
+
+/// What makes a value.
+#[derive(Clone, Copy)]
+pub(crate) enum Maker {
+    /// `Default::default` of the type at this place.
+    Type(u32),
+    /// The expression of this text.
+    Text(&'static str),
+}
 
 /// What a table is told.
 #[derive(Clone, Copy)]
@@ -33,6 +48,10 @@ pub(crate) enum Told {
     Calls(&'static [Called]),
     /// The numbers of expressions, under their texts.
     Numbers(&'static [(&'static str, i128)]),
+    /// What methods feed to a hasher for a field of a number, under the text of their path.
+    Parts(&'static [(&'static str, i128, i128)]),
+    /// The numbers of values that are made.
+    Makers(&'static [(Maker, i128)]),
 }
 
 /// The place of a variant, and the numbers of its fields.
@@ -61,6 +80,11 @@ pub(crate) enum Answer {
     /// The function of this trait evaluates so over each of these pairs of values, where a table is
     /// told this, and fields without a method compare as their numbers do.
     Pairs(Comparison, Told, &'static [Pair]),
+    /// The function of `Hash` feeds a hasher these parts for each of these values, where a table is
+    /// told this, and fields without a method feed their numbers.
+    Hashes(Told, &'static [(Held, &'static [i128])]),
+    /// The function of `Default` evaluates so, where a table is told this.
+    Made(Told, Outcome),
     /// `expand` refuses with this line.
     Line(&'static str),
     /// `expand` refuses with one of these lines.

@@ -1,9 +1,11 @@
 //! How an example is tried.
 
-use crate::examples::{Answer, Called, Example};
-use crate::program::bodies::{check_pairs, evaluated_by, evaluated_first};
+use crate::examples::{Answer, Called, Example, Outcome};
+use crate::program::bodies::{
+    check_hashes, check_made, check_pairs, evaluated_by, evaluated_first,
+};
 use crate::program::{Case, check_holds, check_holds_each, check_notes, check_one_of};
-use educe_body::{Comparison, Outcome};
+use educe_body::Comparison;
 use educe_tokens::{EduceError, Kind, Token, int_value, string_value};
 use educe_vectors_checks::{check_at, lex_answer, lexed, printed_source};
 use std::alloc::Global;
@@ -48,7 +50,8 @@ fn check_value(
     numbers: (&[i128], &[i128]),
     expected: Outcome,
 ) -> Result<(), Fail> {
-    check_at(source, evaluated_first(alloc, source, numbers)?, expected)
+    let found = evaluated_first(alloc, source, numbers)?;
+    check_at(source, expected.is(&found), true)
 }
 
 /// The function of a trait evaluates so, where methods answer as these calls say.
@@ -60,11 +63,8 @@ fn check_called(
     numbers: (&[i128], &[i128]),
     expected: Outcome,
 ) -> Result<(), Fail> {
-    check_at(
-        source,
-        evaluated_by(alloc, source, which, calls, numbers)?,
-        expected,
-    )
+    let found = evaluated_by(alloc, source, which, calls, numbers)?;
+    check_at(source, expected.is(&found), true)
 }
 
 /// The example is answered as its row says.
@@ -80,6 +80,8 @@ fn check(alloc: Global, example: &Example) -> Result<(), Fail> {
             check_called(alloc, source, *which, calls, (this, other), *outcome)
         }
         Answer::Pairs(which, told, pairs) => check_pairs(alloc, source, *which, told, pairs),
+        Answer::Hashes(told, values) => check_hashes(alloc, source, told, values),
+        Answer::Made(told, outcome) => check_made(alloc, source, told, *outcome),
         Answer::Line(line) => Case::of(source.as_bytes(), 1, "", line).check(alloc),
         Answer::OneOf(lines) => check_one_of(alloc, source, lines),
         Answer::Printed(text) => check_at(*source, printed_source(alloc, source)?.as_str(), *text),

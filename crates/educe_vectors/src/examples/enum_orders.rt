@@ -2,11 +2,11 @@
 //! and then the fields of one variant (documentation of `educe`, PartialEq; PartialOrd; Ord; Rust
 //! Reference, Enumerations).
 
-use super::{Answer, Example, Pair, Told};
+use super::{Answer, Example, Outcome, Pair, Told};
 use crate::examples::checks::check_all;
 use crate::program::bodies::check_pairs;
 use crate::program::check_holds;
-use educe_body::{Answer as Said, Comparison, Outcome};
+use educe_body::{Answer as Said, Comparison};
 use std::alloc::{AllocError, Global};
 use std::cmp::Ordering;
 use std::test::Fail;

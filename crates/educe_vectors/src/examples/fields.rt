@@ -1,9 +1,8 @@
 //! Worked examples of what is said of a comparison at its type and at a field (documentation of
 //! `educe`, PartialEq; PartialOrd; Ord).
 
-use super::{Answer, Example};
+use super::{Answer, Example, Outcome};
 use crate::examples::checks::check_all;
-use educe_body::Outcome;
 use std::cmp::Ordering;
 use std::test::Fail;
 

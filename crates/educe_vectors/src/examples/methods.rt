@@ -1,9 +1,9 @@
 //! Worked examples of what comparisons by user-written functions evaluate to (documentation of `educe`,
 //! PartialEq; PartialOrd; Ord). `examples/answers.sh` has compiled code answer these rows too.
 
-use super::{Answer, Example};
+use super::{Answer, Example, Outcome};
 use crate::examples::checks::check_all;
-use educe_body::{Answer as Said, Comparison, Outcome};
+use educe_body::{Answer as Said, Comparison};
 use std::cmp::Ordering;
 use std::test::Fail;
 

@@ -1,9 +1,9 @@
 //! Worked examples of packed structs, and of values with type parameters (documentation of `educe`, Trait Bounds).
 //! `examples/answers.sh` has compiled code answer the rows with values too.
 
-use super::{Answer, Example, Told};
+use super::{Answer, Example, Outcome, Told};
 use crate::examples::checks::check_all;
-use educe_body::{Answer as Said, Comparison, Outcome};
+use educe_body::{Answer as Said, Comparison};
 use std::cmp::Ordering;
 use std::test::Fail;
 

@@ -1,10 +1,10 @@
 //! What the functions of items evaluate to.
 
-use crate::examples::{Called, Pair, Told};
+use crate::examples::{Called, Held, Maker, Outcome, Pair, Told};
 use educe_body::{
-    Answer, Answers, Body, Callee, Comparison, FieldValue, ImplItem, Item, Items, Outcome, Row,
-    eval,
+    Answer, Answers, Body, Callee, Comparison, FieldValue, ImplItem, Item, Items, Row, Scope, eval,
 };
+use educe_bound::Trait;
 use educe_core::{Expansion, expand};
 use educe_syntax::DeriveInput;
 use educe_tokens::{SOURCE_LIMIT, Seq, Spelling};
@@ -34,12 +34,12 @@ fn only_body(item: &ImplItem) -> Option<&Body> {
 fn body_of(items: &Items, index: usize) -> Option<&Body> {
     match items.get(index) {
         Some(Item::Impl(item)) => only_body(item),
-        None => None,
+        _ => None,
     }
 }
 
 /// The body of the function of the impl of a trait.
-fn body_for(items: &Items, which: Comparison) -> Option<&Body> {
+fn body_for(items: &Items, which: Trait) -> Option<&Body> {
     for item in items.as_slice() {
         match item {
             Item::Impl(item) => {
@@ -47,22 +47,32 @@ fn body_for(items: &Items, which: Comparison) -> Option<&Body> {
                     return only_body(item);
                 }
             }
+            _ => {}
         }
     }
     None
 }
 
+/// The trait of a comparison.
+fn trait_of(which: Comparison) -> Trait {
+    match which {
+        Comparison::PartialEq => Trait::PartialEq,
+        Comparison::PartialOrd => Trait::PartialOrd,
+        Comparison::Ord => Trait::Ord,
+    }
+}
+
 /// The place of a variant, and the numbers of its fields.
-type Held<'a> = (u32, &'a [i128]);
+type Given<'a> = (u32, &'a [i128]);
 
 /// What a body evaluates to over these values.
 fn evaluated(
     alloc: Global,
     ast: &DeriveInput,
     body: &Body,
-    values: (Held, Held),
+    values: (Given, Given),
     answers: &Answers,
-) -> Result<Outcome, Fail> {
+) -> Result<educe_body::Outcome, Fail> {
     let (this, other) = values;
     let this = variant_value(alloc, this.0, this.1)?;
     let other = variant_value(alloc, other.0, other.1)?;
@@ -129,7 +139,55 @@ fn told_answers(alloc: Global, told: &Told) -> Result<Answers, AllocError> {
         Told::Nothing => answers_of(alloc, &[]),
         Told::Calls(calls) => answers_of(alloc, calls),
         Told::Numbers(numbers) => numbered(alloc, numbers),
+        Told::Parts(parts) => feeding(alloc, parts),
+        Told::Makers(makers) => making(alloc, makers),
     }
+}
+
+/// The table by which methods feed a hasher these parts, and fields their numbers.
+fn feeding(alloc: Global, parts: &[(&str, i128, i128)]) -> Result<Answers, AllocError> {
+    let mut rows = Seq::new(alloc);
+    for (path, number, part) in parts {
+        rows.push(Row {
+            callee: Callee::Written(Spelling::from_str(alloc, path)?),
+            first: field(*number),
+            second: None,
+            answer: Answer::Part(*part),
+        })?;
+    }
+    Ok(Answers {
+        rows,
+        by_number: true,
+    })
+}
+
+/// What is called to make a value, and the place of the value's type; a text makes one of the first type.
+fn maker(alloc: Global, maker: &Maker) -> Result<(Callee, u32), AllocError> {
+    match maker {
+        Maker::Type(place) => Ok((Callee::Default(*place), *place)),
+        Maker::Text(text) => Ok((Callee::Written(Spelling::from_str(alloc, text)?), 0)),
+    }
+}
+
+/// The table by which values of these numbers are made.
+fn making(alloc: Global, makers: &[(Maker, i128)]) -> Result<Answers, AllocError> {
+    let mut rows = Seq::new(alloc);
+    for (made_by, number) in makers {
+        let (callee, ty) = maker(alloc, made_by)?;
+        rows.push(Row {
+            callee,
+            first: None,
+            second: None,
+            answer: Answer::Made(FieldValue {
+                ty,
+                number: *number,
+            }),
+        })?;
+    }
+    Ok(Answers {
+        rows,
+        by_number: false,
+    })
 }
 
 /// What a body evaluates to over each of the pairs of values.
@@ -142,7 +200,7 @@ fn check_each_pair(
 ) -> Result<(), Fail> {
     for (this, other, expected) in pairs {
         let found = evaluated(alloc, ast, body, (*this, *other), answers)?;
-        check_at((*this, *other), found, *expected)?;
+        check_at((*this, *other), expected.is(&found), true)?;
     }
     Ok(())
 }
@@ -158,8 +216,47 @@ pub(crate) fn check_pairs(
 ) -> Result<(), Fail> {
     let ast = definition(alloc, source)?;
     let expansion = expansion(alloc, source)?;
-    let body = body_for(expansion.items(), which).ok_or("no function")?;
+    let body = body_for(expansion.items(), trait_of(which)).ok_or("no function")?;
     check_each_pair(alloc, &ast, body, &told_answers(alloc, told)?, pairs)
+}
+
+/// The function of `Hash` in the expansion of a text feeds a hasher these parts for each of the values,
+/// where a table is told this.
+pub(crate) fn check_hashes(
+    alloc: Global,
+    source: &str,
+    told: &Told,
+    values: &[(Held, &'static [i128])],
+) -> Result<(), Fail> {
+    let ast = definition(alloc, source)?;
+    let expansion = expansion(alloc, source)?;
+    let body = body_for(expansion.items(), Trait::Hash).ok_or("no function")?;
+    let answers = told_answers(alloc, told)?;
+    for (held, parts) in values {
+        let this = variant_value(alloc, held.0, held.1)?;
+        let found = eval(alloc, body, &scope(&ast, &this, None), &answers)?;
+        check_at(*held, Outcome::Parts(parts).is(&found), true)?;
+    }
+    Ok(())
+}
+
+/// The function of `Default` in the expansion of a text evaluates so, where a table is told this.
+pub(crate) fn check_made(
+    alloc: Global,
+    source: &str,
+    told: &Told,
+    expected: Outcome,
+) -> Result<(), Fail> {
+    let ast = definition(alloc, source)?;
+    let expansion = expansion(alloc, source)?;
+    let body = body_for(expansion.items(), Trait::Default).ok_or("no function")?;
+    let nothing = Scope {
+        ast: &ast,
+        this: None,
+        other: None,
+    };
+    let found = eval(alloc, body, &nothing, &told_answers(alloc, told)?)?;
+    check_at(source, expected.is(&found), true)
 }
 
 /// What the function of a trait evaluates to in the expansion of a text, over values of these
@@ -170,10 +267,10 @@ pub(crate) fn evaluated_by(
     which: Comparison,
     calls: &[Called],
     numbers: (&[i128], &[i128]),
-) -> Result<Outcome, Fail> {
+) -> Result<educe_body::Outcome, Fail> {
     let ast = definition(alloc, source)?;
     let expansion = expansion(alloc, source)?;
-    let body = body_for(expansion.items(), which).ok_or("no function")?;
+    let body = body_for(expansion.items(), trait_of(which)).ok_or("no function")?;
     let values = ((0, numbers.0), (0, numbers.1));
     evaluated(alloc, &ast, body, values, &answers_of(alloc, calls)?)
 }
@@ -184,7 +281,7 @@ pub(crate) fn evaluated_first(
     alloc: Global,
     source: &str,
     numbers: (&[i128], &[i128]),
-) -> Result<Outcome, Fail> {
+) -> Result<educe_body::Outcome, Fail> {
     let case = (source, 0, numbers.0, numbers.1, Outcome::Stuck);
     outcome_of(alloc, &definition(alloc, source)?, &case, &[])
 }
@@ -200,7 +297,7 @@ fn outcome_in(
     expansion: &Expansion,
     case: &Case,
     rows: &[Row],
-) -> Result<Outcome, Fail> {
+) -> Result<educe_body::Outcome, Fail> {
     let (_, index, this, other, _) = case;
     let body = body_of(expansion.items(), *index).ok_or("no function")?;
     evaluated(
@@ -218,7 +315,7 @@ fn outcome_of(
     ast: &DeriveInput,
     case: &Case,
     rows: &[Row],
-) -> Result<Outcome, Fail> {
+) -> Result<educe_body::Outcome, Fail> {
     outcome_in(alloc, ast, &expansion(alloc, case.0)?, case, rows)
 }
 
@@ -226,7 +323,7 @@ fn outcome_of(
 fn check(alloc: Global, rows: &[Row], cases: &[Case]) -> Result<(), Fail> {
     for case in cases {
         let found = outcome_of(alloc, &definition(alloc, case.0)?, case, rows)?;
-        check_at(case.0, found, case.4)?;
+        check_at(case.0, case.4.is(&found), true)?;
     }
     Ok(())
 }
