@@ -31,14 +31,14 @@ fn said_once(
     alloc: Global,
     row: &Row,
     meta: &Meta,
-    before: Option<Values>,
+    before: &Option<Values>,
 ) -> Result<Option<Values>, Stop>
     requires { IsNamed meta.now }
-    ensures { Gives Stop.Memory (spec.said_once row.now meta.now before) result }
+    ensures { Gives Stop.Memory (spec.said_once row.now meta.now before.now) result }
 {
-    if before.is_none() {
+    let Some(_) = before else {
         return Ok(Some(read_form(alloc, row, meta)?));
-    }
+    };
     match path_of(meta) {
         Some(path) => Err(Stop::Refused(at_name(alloc, Kind::ReuseATrait, path)?)),
         None => Err(Stop::Memory),
@@ -56,7 +56,7 @@ fn next_said(
     ensures { Gives Stop.Memory (spec.next_said which row.now meta.now before) result }
 {
     if is_of(which, meta) {
-        said_once(alloc, row, meta, before)
+        said_once(alloc, row, meta, &before)
     } else {
         Ok(before)
     }

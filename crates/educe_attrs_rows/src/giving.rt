@@ -1,6 +1,6 @@
 //! The value of a parameter, beside those that are read already.
 ghost use Rattle.std.specs.Prelude.{◌≡◌};
-ghost use Rattle.educe_attrs_values.specs.Chains.{Gives};
+ghost use Rattle.educe_attrs_values.specs.Chains.{Gives, map_ok};
 ghost use Rattle.educe_attrs_rows.specs.Settings as spec;
 
 use crate::param::Param;
@@ -38,104 +38,96 @@ fn read_rank(alloc: Global, path: &MetaPath, meta: &Meta) -> Result<Rank, Stop>
     Ok(Rank { number, span })
 }
 
-/// The values with that of `name`.
+/// Writes the value of `name`.
 fn with_name(
     alloc: Global,
     row: &Row,
     path: &MetaPath,
     meta: &Meta,
-    values: Values,
-) -> Result<Values, Stop>
-    ensures { Gives Stop.Memory (spec.with_name row.now.name path.now meta.now values) result }
+    values: &mut Values,
+) -> Result<(), Stop>
+    ensures { Gives Stop.Memory (spec.with_name row.now.name path.now meta.now values.old) (map_ok (λ _. values.exit.now) result) }
 {
-    let mut values = values;
     values.name = Some(read_name_by(alloc, row.name, path, meta)?);
-    Ok(values)
+    Ok(())
 }
 
-/// The values with that of `named_field`.
+/// Writes the value of `named_field`.
 fn with_named_field(
     alloc: Global,
     path: &MetaPath,
     meta: &Meta,
-    values: Values,
-) -> Result<Values, Stop>
-    ensures { Gives Stop.Memory (spec.with_named_field path.now meta.now values) result }
+    values: &mut Values,
+) -> Result<(), Stop>
+    ensures { Gives Stop.Memory (spec.with_named_field path.now meta.now values.old) (map_ok (λ _. values.exit.now) result) }
 {
-    let mut values = values;
     values.named_field = Some(read_truth(alloc, path, meta)?);
-    Ok(values)
+    Ok(())
 }
 
-/// The values with that of `new`.
-fn with_new(alloc: Global, path: &MetaPath, meta: &Meta, values: Values) -> Result<Values, Stop>
-    ensures { Gives Stop.Memory (spec.with_new path.now meta.now values) result }
+/// Writes the value of `new`.
+fn with_new(alloc: Global, path: &MetaPath, meta: &Meta, values: &mut Values) -> Result<(), Stop>
+    ensures { Gives Stop.Memory (spec.with_new path.now meta.now values.old) (map_ok (λ _. values.exit.now) result) }
 {
-    let mut values = values;
     values.new = Some(read_flag(alloc, path, meta)?);
-    Ok(values)
+    Ok(())
 }
 
-/// The values with that of `expression`.
+/// Writes the value of `expression`.
 fn with_expression(
     alloc: Global,
     path: &MetaPath,
     meta: &Meta,
-    values: Values,
-) -> Result<Values, Stop>
-    ensures { Gives Stop.Memory (spec.with_expression path.now meta.now values) result }
+    values: &mut Values,
+) -> Result<(), Stop>
+    ensures { Gives Stop.Memory (spec.with_expression path.now meta.now values.old) (map_ok (λ _. values.exit.now) result) }
 {
-    let mut values = values;
     values.expression = Some(read_expr(alloc, path, meta)?);
-    Ok(values)
+    Ok(())
 }
 
-/// The values with that of `ignore`.
-fn with_ignore(alloc: Global, path: &MetaPath, meta: &Meta, values: Values) -> Result<Values, Stop>
-    ensures { Gives Stop.Memory (spec.with_ignore path.now meta.now values) result }
+/// Writes the value of `ignore`.
+fn with_ignore(alloc: Global, path: &MetaPath, meta: &Meta, values: &mut Values) -> Result<(), Stop>
+    ensures { Gives Stop.Memory (spec.with_ignore path.now meta.now values.old) (map_ok (λ _. values.exit.now) result) }
 {
-    let mut values = values;
     values.ignore = Some(read_flag(alloc, path, meta)?);
-    Ok(values)
+    Ok(())
 }
 
-/// The values with that of `method`.
-fn with_method(alloc: Global, path: &MetaPath, meta: &Meta, values: Values) -> Result<Values, Stop>
-    ensures { Gives Stop.Memory (spec.with_method path.now meta.now values) result }
+/// Writes the value of `method`.
+fn with_method(alloc: Global, path: &MetaPath, meta: &Meta, values: &mut Values) -> Result<(), Stop>
+    ensures { Gives Stop.Memory (spec.with_method path.now meta.now values.old) (map_ok (λ _. values.exit.now) result) }
 {
-    let mut values = values;
     values.method = Some(read_path(alloc, path, meta)?);
-    Ok(values)
+    Ok(())
 }
 
-/// The values with that of `rank`.
-fn with_rank(alloc: Global, path: &MetaPath, meta: &Meta, values: Values) -> Result<Values, Stop>
-    ensures { Gives Stop.Memory (spec.with_rank path.now meta.now values) result }
+/// Writes the value of `rank`.
+fn with_rank(alloc: Global, path: &MetaPath, meta: &Meta, values: &mut Values) -> Result<(), Stop>
+    ensures { Gives Stop.Memory (spec.with_rank path.now meta.now values.old) (map_ok (λ _. values.exit.now) result) }
 {
-    let mut values = values;
     values.rank = Some(read_rank(alloc, path, meta)?);
-    Ok(values)
+    Ok(())
 }
 
-/// The values with that of `bound`.
-fn with_bound(alloc: Global, path: &MetaPath, meta: &Meta, values: Values) -> Result<Values, Stop>
-    ensures { Gives Stop.Memory (spec.with_bound path.now meta.now values) result }
+/// Writes the value of `bound`.
+fn with_bound(alloc: Global, path: &MetaPath, meta: &Meta, values: &mut Values) -> Result<(), Stop>
+    ensures { Gives Stop.Memory (spec.with_bound path.now meta.now values.old) (map_ok (λ _. values.exit.now) result) }
 {
-    let mut values = values;
     values.bound = Some(read_bound(alloc, path, meta)?);
-    Ok(values)
+    Ok(())
 }
 
-/// The values with that of one more parameter.
+/// Writes the value of one more parameter.
 pub fn with_param(
     alloc: Global,
     row: &Row,
     param: Param,
     path: &MetaPath,
     meta: &Meta,
-    values: Values,
-) -> Result<Values, Stop>
-    ensures { Gives Stop.Memory (spec.with_param row.now param path.now meta.now values) result }
+    values: &mut Values,
+) -> Result<(), Stop>
+    ensures { Gives Stop.Memory (spec.with_param row.now param path.now meta.now values.old) (map_ok (λ _. values.exit.now) result) }
 {
     match param {
         Param::Name => with_name(alloc, row, path, meta, values),

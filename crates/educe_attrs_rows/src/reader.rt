@@ -2,7 +2,7 @@
 ghost use Rattle.std.specs.Prelude.{◌≡◌, IfOk, IfErr};
 ghost use Rattle.std.specs.List.{AllByRecursion};
 ghost use Rattle.educe_tokens.specs.Message.{HasWords};
-ghost use Rattle.educe_attrs_values.specs.Chains.{Gives};
+ghost use Rattle.educe_attrs_values.specs.Chains.{Gives, map_ok};
 ghost use Rattle.educe_attrs_values.specs.Metas.{IsNamed};
 ghost use Rattle.educe_attrs_rows.specs.Causes.{Says, IsCause, HasNoCause};
 ghost use Rattle.educe_attrs_rows.specs.Metas as metas;
@@ -41,15 +41,15 @@ pub fn metas_in_pair(alloc: Global, tokens: &TokenSlice) -> Result<Metas, Stop>
     whole_metas(alloc, &inside)
 }
 
-/// The values with what one more meta of the list says.
+/// Writes what one more meta of the list says.
 fn next_param(
     alloc: Global,
     row: &Row,
     name: &MetaPath,
     meta: &Meta,
-    values: Values,
-) -> Result<Values, Stop>
-    ensures { Gives Stop.Memory (spec.next_param row.now name.now meta.now values) result }
+    values: &mut Values,
+) -> Result<(), Stop>
+    ensures { Gives Stop.Memory (spec.next_param row.now name.now meta.now values.old) (map_ok (λ _. values.exit.now) result) }
 {
     let Some(path) = path_of(meta) else {
         return Err(Stop::Refused(incorrect_format(alloc, row, name)?));
@@ -75,7 +75,7 @@ fn read_params(
 {
     let mut values = Values::at(place);
     for meta in metas {
-        values = next_param(alloc, row, name, meta, values)?;
+        next_param(alloc, row, name, meta, &mut values)?;
     }
     Ok(values)
 }

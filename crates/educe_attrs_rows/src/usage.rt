@@ -92,11 +92,18 @@ fn with_names(alloc: Global, lines: Texts, name: &str, row: &Row) -> Result<Text
     )
 }
 
+/// Whether a truth value may stand behind `=`.
+fn takes_truth(equals: Equals) -> bool
+    ensures { result ≡ spec.takes_truth equals }
+{
+    matches!(equals, Equals::Truth | Equals::Name)
+}
+
 /// The lines with a truth value behind `=`, and with the other parameters.
 fn with_params(alloc: Global, lines: Texts, name: &str, row: &Row) -> Result<Texts, AllocError>
     ensures { IfOk result (λ all. all ≡ spec.with_params lines name.now row.now) }
 {
-    let truth = matches!(row.equals, Equals::Truth | Equals::Name);
+    let truth = takes_truth(row.equals);
     let lines = with_line(alloc, lines, row.new, name, "(new)")?;
     let lines = with_line(alloc, lines, row.expression, name, "(expression = expr)")?;
     let lines = with_line(alloc, lines, truth, name, " = false")?;
