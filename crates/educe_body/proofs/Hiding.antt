@@ -18,7 +18,7 @@ use Rattle.educe_tree.specs.declared.expr.ExprPath.{ExprPath}
 use Rattle.educe_names.specs.Words.{HasWord}
 use Rattle.educe_body.specs.declared.answers.Answers.{Answers}
 use Rattle.educe_body.specs.declared.callee.BuiltIn.{BuiltIn}
-use Rattle.educe_body.specs.declared.callee.BuiltIn.TheVariants.{Ne, Cmp, PartialCmp, Hash}
+use Rattle.educe_body.specs.declared.callee.BuiltIn.TheVariants.{Ne, Cmp, PartialCmp, Hash, Clone, CloneFrom}
 use Rattle.educe_body.specs.declared.environment.Binding.{Binding}
 use Rattle.educe_body.specs.BuiltIn.{path_lexemes, IsBuiltIn}
 use Rattle.educe_body.specs.Callees.{built_in, built_in_named, as_callee, callee_or_text, callee_of, spellings}
@@ -76,6 +76,8 @@ path_named Ne = refl
 path_named Cmp = refl
 path_named PartialCmp = refl
 path_named Hash = refl
+path_named Clone = refl
+path_named CloneFrom = refl
 
 -- a path that is printed as generated code writes it calls its function in any scope
 pub callee_in-printed : (names : List Binding) (path : ExprPath) (which : BuiltIn) → written_lexemes path.written ≡ path_lexemes which → callee_in names path ≡ Some (as_callee which)

@@ -3,7 +3,7 @@ use Rattle.educe_body.specs.Laws.{KeyLaws, ScopeLaws, FormLaws}
 use Rattle.educe_body.proofs.Apart.{keys_apart, keys_of-differ}
 use Rattle.educe_body.proofs.Fields.{KeysGive-part_of}
 use Rattle.educe_body.proofs.Hiding.{callee_in-own, callee_in-built_in, callee_in-printed, callee_in-made, number_in-own}
-use Rattle.educe_body.proofs.Rows.{form_value-Call, form_value-two, form_value-Not, form_value-SomeOf, form_value-IfReturn, form_value-Return, form_value-MatchOrdering, form_value-MatchValue, form_value-IfLet, form_value-Block, form_value-HashPart, form_value-Construct}
+use Rattle.educe_body.proofs.Rows.{form_value-Call, form_value-two, form_value-Not, form_value-SomeOf, form_value-IfReturn, form_value-Return, form_value-MatchOrdering, form_value-MatchValue, form_value-IfLet, form_value-Block, form_value-HashPart, form_value-Construct, form_value-AssignField, form_value-AssignThrough}
 
 -- keys have them
 pub lawful_keys : KeyLaws
@@ -28,4 +28,6 @@ lawful_forms = record {
   block = form_value-Block;
   hashed = form_value-HashPart;
   construct = form_value-Construct;
+  assign_field = form_value-AssignField;
+  assign_through = form_value-AssignThrough;
 }

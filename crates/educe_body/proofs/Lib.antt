@@ -11,6 +11,7 @@ pub mod Fields
 pub mod Indices
 pub mod Prefixed
 pub mod Apart
+pub mod Assigned
 pub mod MadePaths
 pub mod Hiding
 pub mod Lawful

@@ -29,7 +29,7 @@ use Rattle.educe_grammar.specs.Terminals.{accepts, set_of, token_in, word_in, se
 use Rattle.educe_grammar.specs.Types.{segment_of, path_of, are_scope}
 use Rattle.educe_grammar.proofs.Steps.{IsTrue-prop}
 use Rattle.educe_body.specs.declared.callee.BuiltIn.{BuiltIn}
-use Rattle.educe_body.specs.declared.callee.BuiltIn.TheVariants.{Ne, Cmp, PartialCmp, Hash}
+use Rattle.educe_body.specs.declared.callee.BuiltIn.TheVariants.{Ne, Cmp, PartialCmp, Hash, Clone, CloneFrom}
 use Rattle.educe_body.specs.BuiltIn.{path_lexemes, said_by, name_alone, IsMade, IsBuiltIn}
 use Rattle.educe_body.specs.Callees.{path_names}
 
@@ -165,3 +165,5 @@ built_in_reads Ne path made = record { made = made; reads = made_reads _ _ path 
 built_in_reads Cmp path made = record { made = made; reads = made_reads _ _ path refl made }
 built_in_reads PartialCmp path made = record { made = made; reads = made_reads _ _ path refl made }
 built_in_reads Hash path made = record { made = made; reads = made_reads _ _ path refl made }
+built_in_reads Clone path made = record { made = made; reads = made_reads _ _ path refl made }
+built_in_reads CloneFrom path made = record { made = made; reads = made_reads _ _ path refl made }

@@ -1,24 +1,26 @@
 -- The tokens of forms that hold forms, as equations on the lists and the boxed forms that they were made of.
 use denote.Hole.Carrier.{hidden}
 use mathlib.Core.Former.{Count}
-use Rattle.std.proofs.Common.{◌≡◌, Bool, Option, Some, None, List, [], ◌++◌, refl, sym, ap, ◌∙◌, codes, append-nil}
+use Rattle.std.proofs.Common.{◌≡◌, Bool, Option, Some, None, List, [], ◌++◌, refl, sym, ap, ◌∙◌, codes}
 use Rattle.std.specs.List.{flat_map}
 use Rattle.std.specs.declared.cmp.Ordering.{Ordering}
 use Rattle.std.specs.declared.cmp.Ordering.TheVariants.{Equal}
+use Rattle.educe_tokens.specs.declared.word.Word.{Word}
+use Rattle.educe_tokens.specs.Lexes.{Lexeme}
 use Rattle.educe_tokens.specs.Quote.{quoted}
 use Rattle.educe_tokens.specs.WrittenLexemes.{written_lexemes}
 use Rattle.educe_tree.specs.declared.expr.ExprPath.{ExprPath}
 use Rattle.educe_tree.specs.declared.data.FieldForm.{FieldForm}
 use Rattle.educe_tree.specs.declared.data.FieldForm.TheVariants.{Named, Unnamed, Unit}
 use Rattle.educe_tree.specs.declared.ident.Ident.{Ident}
-use Rattle.educe_body.specs.declared.form.Form.{Form, Call, Call', Not, IfReturn, Return, SomeOf, MatchOrdering, MatchValue, MatchValue', IfLet, Block, Block', HashPart, Construct, Construct', Row_of-Form, end_of-Form, more_of-Form, Row_of-Arm, end_of-Arm, more_of-Arm, Row_of-Init, end_of-Init, more_of-Init, items-the_row-Form, items_hidden-the_row-Form-0, items_shown-the_row-Form-0, items-the_row-Arm, items_hidden-the_row-Arm-2, items-the_row-Init, items_hidden-the_row-Init-3}
+use Rattle.educe_body.specs.declared.form.Form.{Form, Call, Call', Not, IfReturn, Return, SomeOf, MatchOrdering, MatchValue, MatchValue', IfLet, Block, Block', HashPart, Construct, Construct', AssignField, AssignThrough, Row_of-Form, end_of-Form, more_of-Form, Row_of-Arm, end_of-Arm, more_of-Arm, Row_of-Init, end_of-Init, more_of-Init, items-the_row-Form, items_hidden-the_row-Form-0, items_shown-the_row-Form-0, items-the_row-Arm, items_hidden-the_row-Arm-2, items-the_row-Init, items_hidden-the_row-Init-3}
 use Rattle.educe_body.specs.declared.form.Arm.{Arm}
 use Rattle.educe_body.specs.declared.form.Init.{Init}
 use Rattle.educe_body.specs.declared.form.Form.TheBlock.{hidden-the_row-Form-1}
 use Rattle.educe_body.specs.declared.pattern.Pattern.{Pattern}
 use Rattle.educe_body.specs.Printing.{separated}
 use Rattle.educe_body.specs.Printouts.{Printout, name, each, in_round, in_curly}
-use Rattle.educe_body.specs.Tokens.{order_printout, in_some, step_arms, other_arms, block_arms, pattern_printout, if_let_head, if_let_printout, else_printout, in_form, keyed, self_printout, construct_printout, form_printout, form_lexemes, init_printout, in_a_row, arms_in_a_row, inits_in_a_row, arguments, behind_comma, arm_printout, match_value_printout}
+use Rattle.educe_body.specs.Tokens.{order_printout, in_some, other_arms, pattern_printout, if_let_head, if_let_printout, in_form, keyed, self_printout, construct_printout, field_assignment, through_assignment, form_printout, form_lexemes, init_printout, in_a_row, arms_in_a_row, inits_in_a_row, arguments, behind_comma, arms_with, else_with, arm_printout, match_value_printout}
 
 -- the forms that a call or a block holds
 abbrev row_of : Form → (n : Count) × Row_of-Form n
@@ -63,16 +65,12 @@ block-items forms =
 pub form_lexemes-Block : (forms : List Form) → form_lexemes (Block forms) ≡ (in_curly (each form_printout forms)).tokens
 form_lexemes-Block forms = ap (λ found. quoted (codes "{") ++ found ++ quoted (codes "}")) (block-items forms)
 
--- an `if let` with nothing behind its block, by its forms
-pub form_lexemes-IfLet-None : (pattern : Pattern) (value : Ident) (forms : List Form) → form_lexemes (IfLet pattern value forms None) ≡ (if_let_printout pattern value (in_curly (each form_printout forms))).tokens
-form_lexemes-IfLet-None pattern value forms =
+-- an `if let`, by its forms and the others
+pub form_lexemes-IfLet : (pattern : Pattern) (value : Ident) (forms : List Form) (others : Option (List Form)) → form_lexemes (IfLet pattern value forms others)
+    ≡ (if_let_printout pattern value (in_curly (each form_printout forms))).tokens ++ (else_with others).tokens
+form_lexemes-IfLet pattern value forms None =
     ap (λ found. (if_let_head pattern value).tokens ++ (quoted (codes "{") ++ found ++ quoted (codes "}")) ++ []) (block-items forms)
-    ∙ append-nil (if_let_printout pattern value (in_curly (each form_printout forms))).tokens
-
--- an `if let` with `else`, by its forms and the others
-pub form_lexemes-IfLet-Some : (pattern : Pattern) (value : Ident) (forms others : List Form) → form_lexemes (IfLet pattern value forms (Some others))
-    ≡ (if_let_printout pattern value (in_curly (each form_printout forms))).tokens ++ (else_printout (in_curly (each form_printout others))).tokens
-form_lexemes-IfLet-Some pattern value forms others =
+form_lexemes-IfLet pattern value forms (Some others) =
     λ i. (if_let_head pattern value).tokens ++ (quoted (codes "{") ++ block-items forms i ++ quoted (codes "}"))
     ++ (quoted (codes "else") ++ (quoted (codes "{") ++ block-items others i ++ quoted (codes "}")))
 
@@ -135,15 +133,24 @@ pub form_lexemes-HashPart : (inner : Form) → form_lexemes (HashPart inner) ≡
 unfolding hidden-the_row-Form-1 hidden
 form_lexemes-HashPart inner = refl
 
--- a step, by what is matched
-pub form_lexemes-MatchOrdering-None : (matched : Form) (partial : Bool) (greater less : Ordering) → form_lexemes (MatchOrdering matched partial None greater less)
-    ≡ quoted (codes "match") ++ form_lexemes matched ++ (in_curly (step_arms partial greater less)).tokens
+-- a match on an order, by what is matched and the arms
+pub form_lexemes-MatchOrdering : (matched : Form) (partial : Bool) (held : Option (List Form)) (greater less : Ordering) → form_lexemes (MatchOrdering matched partial held greater less)
+    ≡ quoted (codes "match") ++ form_lexemes matched ++ (arms_with partial held greater less).tokens
 unfolding hidden-the_row-Form-1 hidden
-form_lexemes-MatchOrdering-None matched partial above below = refl
+form_lexemes-MatchOrdering matched partial None above below = refl
+form_lexemes-MatchOrdering matched partial (Some block) above below =
+    let equal = λ (found : List Lexeme). (order_printout Equal).tokens ++ quoted (codes "=>") ++ (quoted (codes "{") ++ found ++ quoted (codes "}")) ++ quoted (codes ",") in
+    ap (λ found. quoted (codes "match") ++ form_lexemes matched ++ (quoted (codes "{") ++ (equal found ++ (other_arms partial above below).tokens) ++ quoted (codes "}")))
+    (block-items block)
 
--- a match on an order with a block, by what is matched and the forms of the block
-pub form_lexemes-MatchOrdering-Some : (matched : Form) (partial : Bool) (block : List Form) (greater less : Ordering) → form_lexemes (MatchOrdering matched partial (Some block) greater less)
-    ≡ quoted (codes "match") ++ form_lexemes matched ++ (in_curly (block_arms partial (in_curly (each form_printout block)) greater less)).tokens
+-- an assignment to a field, by what is assigned
+pub form_lexemes-AssignField : (key : Word) (path : ExprPath) (value : Form) (handed : Bool) → form_lexemes (AssignField key path value handed)
+    ≡ (field_assignment handed key path.written (form_printout value)).tokens
 unfolding hidden-the_row-Form-1 hidden
-form_lexemes-MatchOrdering-Some matched partial block above below =
-    ap (λ found. quoted (codes "match") ++ form_lexemes matched ++ (quoted (codes "{") ++ ((order_printout Equal).tokens ++ quoted (codes "=>") ++ (quoted (codes "{") ++ found ++ quoted (codes "}")) ++ quoted (codes ",") ++ (other_arms partial above below).tokens) ++ quoted (codes "}"))) (block-items block)
+form_lexemes-AssignField key path value handed = refl
+
+-- an assignment through a name, by what is assigned
+pub form_lexemes-AssignThrough : (target : Ident) (path : ExprPath) (value : Form) (handed : Bool) → form_lexemes (AssignThrough target path value handed)
+    ≡ (through_assignment handed target path.written (form_printout value)).tokens
+unfolding hidden-the_row-Form-1 hidden
+form_lexemes-AssignThrough target path value handed = refl

@@ -3,14 +3,18 @@ use denote.Hole.Carrier.{hidden}
 use mathlib.Core.Former.{Count}
 use Rattle.std.proofs.Common.{◌≡◌, ℕ, ◌+◌, ◌<◌, ◌≤◌, Bool, true, false, List, [], ◌∷◌, ◌++◌, Option, Some, None, length, drop, get_or, length-drop, refl, sym, ap, ◌∙◌, append_assoc, append-nil, arith}
 use Rattle.std.specs.Prelude.{if◌then◌else◌}
+use Rattle.std.specs.Option.{option_map, option_and_then}
 use Rattle.std.proofs.lemmas.List.{drop_more, drop_all}
 use Rattle.std.proofs.lemmas.List.Elements.{filter-append}
+use Rattle.std.proofs.lemmas.Option.{none-some, same_Some}
 use Rattle.std.specs.declared.cmp.Ordering.{Ordering}
+use Rattle.educe_tokens.specs.declared.word.Word.{Word}
 use Rattle.educe_tree.specs.declared.data.Field.{Field}
 use Rattle.educe_tree.specs.declared.data.FieldForm.{FieldForm}
+use Rattle.educe_tree.specs.declared.data.Variant.{Variant}
 use Rattle.educe_tree.specs.declared.expr.ExprPath.{ExprPath}
 use Rattle.educe_tree.specs.declared.ident.Ident.{Ident}
-use Rattle.educe_body.specs.declared.form.Form.{Form, Call, Call', Not, IfReturn, Return, SomeOf, MatchOrdering, MatchValue, MatchValue', IfLet, Block, Block', HashPart, Construct, Construct', Row_of-Form, end_of-Form, more_of-Form, Row_of-Arm, end_of-Arm, more_of-Arm, Row_of-Init, end_of-Init, more_of-Init, back-Form-MatchOrdering-2, items-the_row-Form, items_hidden-the_row-Form-0, items_shown-the_row-Form-0, items-the_row-Arm, items_hidden-the_row-Arm-2, items-the_row-Init, items_hidden-the_row-Init-3}
+use Rattle.educe_body.specs.declared.form.Form.{Form, Call, Call', Not, IfReturn, Return, SomeOf, MatchOrdering, MatchValue, MatchValue', IfLet, Block, Block', HashPart, Construct, Construct', AssignField, AssignThrough, Row_of-Form, end_of-Form, more_of-Form, Row_of-Arm, end_of-Arm, more_of-Arm, Row_of-Init, end_of-Init, more_of-Init, back-Form-MatchOrdering-2, items-the_row-Form, items_hidden-the_row-Form-0, items_shown-the_row-Form-0, items-the_row-Arm, items_hidden-the_row-Arm-2, items-the_row-Init, items_hidden-the_row-Init-3}
 use Rattle.educe_body.specs.declared.form.Arm.{Arm}
 use Rattle.educe_body.specs.declared.form.Init.{Init}
 use Rattle.educe_body.specs.declared.form.Form.TheBlock.{hidden-the_row-Form-1}
@@ -20,13 +24,14 @@ use Rattle.educe_body.specs.declared.value.Value.{Value}
 use Rattle.educe_body.specs.declared.answers.Answers.{Answers}
 use Rattle.educe_body.specs.declared.callee.Callee.{Callee}
 use Rattle.educe_body.specs.declared.environment.Env.{Env}
+use Rattle.educe_body.specs.declared.environment.Referent.{Referent}
 use Rattle.educe_body.specs.declared.flow.Thing.{Thing}
 use Rattle.educe_body.specs.declared.flow.Thing.TheVariants.{Nothing}
 use Rattle.educe_body.specs.declared.flow.Flow.{Flow}
 use Rattle.educe_body.specs.declared.flow.Flow.TheVariants.{Gives, Returns, Stuck}
 use Rattle.educe_body.specs.Cases.{case_named}
-use Rattle.educe_body.specs.Matching.{has_key, fits, bindings_of}
-use Rattle.educe_body.specs.Meaning.{Scene, form_value, row_value, args_value, args_list, list_value, held_value, held_list, arms_value, arms_list, if_let_value, value_named, look_up, with_value, within, or_nothing, call_value, go_on, leave, opposite, some_of, unless_true, hash_part, order_match, block_arm, taken, inits_value, inits_list, built, built_value, with_case, if_made, made_value, with_made, for_field, counts, counted, call_named, call_answer}
+use Rattle.educe_body.specs.Matching.{has_key, fits, variant_of, bound_of, bindings_of}
+use Rattle.educe_body.specs.Meaning.{Scene, form_value, row_value, args_value, args_list, list_value, held_value, held_list, arms_value, arms_list, if_let_value, value_named, fields_named, bound_named, look_up, with_value, with_named, within, field_named, assign, or_nothing, call_value, go_on, leave, opposite, some_of, unless_true, hash_part, order_match, block_arm, taken, inits_value, inits_list, built, built_value, with_case, if_made, made_value, with_made, for_field, counts, counted, call_named, call_answer}
 
 -- flows that go on alike have one end
 pub go_on-alike : (flow : Flow) (next other : Env → Thing → Flow) → ((env : Env) (thing : Thing) → next env thing ≡ other env thing) → go_on flow next ≡ go_on flow other
@@ -78,6 +83,12 @@ inits_list-first : (scene : Scene) (env : Env) (init : Init) (rest : List Init) 
     ≡ (if b then go_on (form_value (for_field scene field) env init.value) (if_made (λ env value. inits_list scene env rest fields (λ env values. next env (value ∷ values)))) else Stuck)
 inits_list-first scene env init rest field fields next b test =
     ap (λ (b : Bool). if b then go_on (form_value (for_field scene field) env init.value) (if_made (λ env value. inits_list scene env rest fields (λ env values. next env (value ∷ values)))) else Stuck) test
+
+-- a call by one more argument behind those that are gathered, which count
+pub call_named-gathered : (table : Answers) (callee : Option Callee) (env : Env) (before things : List Thing) (thing : Thing) → things ≡ before ++ counted (thing ∷ [])
+    → call_named table callee env things ≡ call_named table callee env (before ++ thing ∷ [])
+call_named-gathered table callee env before things thing is =
+    call_named-alike table callee env things (before ++ thing ∷ []) (ap counted (sym (append-nil things)) ∙ counted-gathered before things thing [] is)
 
 module _ (scene : Scene) where
   -- the arguments of a call, one after the other
@@ -134,6 +145,18 @@ module _ (scene : Scene) where
   unfolding hidden-the_row-Form-1 hidden
   form_value-HashPart env held = refl
 
+  -- an assignment to a field of `self`, by the value that is assigned
+  pub form_value-AssignField : (env : Env) (key : Word) (path : ExprPath) (held : Form) (handed : Bool)
+      → form_value scene env (AssignField key path held handed) ≡ go_on (form_value scene env held) (assign scene path handed (field_named scene key.text))
+  unfolding hidden-the_row-Form-1 hidden
+  form_value-AssignField env key path held handed = refl
+
+  -- an assignment to what a name stands for, by the value that is assigned
+  pub form_value-AssignThrough : (env : Env) (name : Ident) (path : ExprPath) (held : Form) (handed : Bool)
+      → form_value scene env (AssignThrough name path held handed) ≡ go_on (form_value scene env held) (assign scene path handed (look_up env.names name.text))
+  unfolding hidden-the_row-Form-1 hidden
+  form_value-AssignThrough env name path held handed = refl
+
   -- the forms of a block in order
   block_value-items : (env : Env) (forms : List Form) → row_value scene env (row_of (Block forms)).1 Nothing ≡ list_value scene env Nothing forms
   block_value-items env forms =
@@ -152,26 +175,28 @@ module _ (scene : Scene) where
   form_value-MatchOrdering env matched partial held above below = ap (λ block. go_on (form_value scene env matched) (order_match partial above below block)) (held_value-items held)
 
   -- the arms of a match in order
-  arms_value-items : (env : Env) (n : _) (row : Row_of-Arm n) (value : Value) → arms_value scene env row value ≡ arms_list scene env (items-the_row-Arm n row) value
-  arms_value-items env n end_of-Arm value = refl
-  arms_value-items env n (more_of-Arm pattern shape row rest) value =
+  arms_value-items : (env : Env) (n : _) (row : Row_of-Arm n) (value : Value) (referents : List Referent)
+      → arms_value scene env row value referents ≡ arms_list scene env (items-the_row-Arm n row) value referents
+  arms_value-items env n end_of-Arm value referents = refl
+  arms_value-items env n (more_of-Arm pattern shape row rest) value referents =
       let forms = λ (inner : Env). row_value-items inner _ row Nothing ∙ ap (list_value scene inner Nothing) (sym (items_shown-the_row-Form-0 shape row)) in
-      let others = arms_value-items env _ rest value in
-      λ i. if fits scene.definition pattern value then within env (bindings_of scene.definition pattern value) (λ inner. forms inner i) else others i
+      let others = arms_value-items env _ rest value referents in
+      λ i. if fits scene.definition pattern value then within env (bindings_of scene.definition pattern value referents) (λ inner. forms inner i) else others i
 
   -- a match on a value, by the first arm whose pattern fits
   pub form_value-MatchValue : (env : Env) (name : Ident) (arms : List Arm)
-      → form_value scene env (MatchValue name arms) ≡ with_value (value_named scene (look_up env.names name.text)) (arms_list scene env arms)
+      → form_value scene env (MatchValue name arms) ≡ with_named scene env (look_up env.names name.text) (arms_list scene env arms)
   form_value-MatchValue env name arms =
       let row = arms_of (MatchValue name arms) in
-      λ i. with_value (value_named scene (look_up env.names name.text)) (λ value. (arms_value-items env row.0 row.1 value ∙ ap (λ (arms : List Arm). arms_list scene env arms value) (items_hidden-the_row-Arm-2 arms)) i)
+      λ i. with_named scene env (look_up env.names name.text) (λ value referents.
+      (arms_value-items env row.0 row.1 value referents ∙ ap (λ (arms : List Arm). arms_list scene env arms value referents) (items_hidden-the_row-Arm-2 arms)) i)
 
   -- an `if let`, by the forms behind its pattern or the others
   pub form_value-IfLet : (env : Env) (pattern : Pattern) (name : Ident) (forms : List Form) (others : Option (List Form))
-      → form_value scene env (IfLet pattern name forms others) ≡ with_value (value_named scene (look_up env.names name.text)) (if_let_value scene env pattern forms others)
+      → form_value scene env (IfLet pattern name forms others) ≡ with_named scene env (look_up env.names name.text) (if_let_value scene env pattern forms others)
   form_value-IfLet env pattern name forms others =
-      λ i. with_value (value_named scene (look_up env.names name.text)) (λ value.
-      if fits scene.definition pattern value then within env (bindings_of scene.definition pattern value) (λ inner. block_value-items inner forms i)
+      λ i. with_named scene env (look_up env.names name.text) (λ value referents.
+      if fits scene.definition pattern value then within env (bindings_of scene.definition pattern value referents) (λ inner. block_value-items inner forms i)
       else or_nothing env (held_value-items others i))
 
   -- a block, by the values of its forms in order
@@ -197,6 +222,30 @@ module _ (scene : Scene) where
       λ i. with_case (case_named scene.definition name) (λ variant fields.
       (inits_value-items env row.0 row.1 fields (built variant) ∙ ap (λ (inits : List Init). inits_list scene env inits fields (built variant)) (items_hidden-the_row-Init-3 inits)) i)
 
+  -- what is bound of the value of a name, by its variant
+  pub bound_named-known : (env : Env) (found : Option Referent) (pattern : Pattern) (value : Value) (variant : Option Variant)
+      → value_named scene env found ≡ Some value → variant_of scene.definition value ≡ variant → bound_named scene env pattern found ≡ bound_of variant pattern (fields_named found value)
+  bound_named-known env found pattern value variant is of =
+      ap (option_and_then (λ value. bindings_of scene.definition pattern value (fields_named found value))) is
+      ∙ ap (λ (variant : Option Variant). bound_of variant pattern (fields_named found value)) of
+
+  if_let_fits : (env : Env) (pattern : Pattern) (forms : List Form) (others : Option (List Form)) (referents : Value → List Referent) (named : Option Value) (b : Bool)
+      → option_map (fits scene.definition pattern) named ≡ Some b
+      → with_value named (λ value. if_let_value scene env pattern forms others value (referents value))
+      ≡ (if b then with_value named (λ value. taken scene env pattern forms value (referents value)) else or_nothing env (held_list scene others))
+  if_let_fits env pattern forms others referents None b test = absurd (none-some b test)
+  if_let_fits env pattern forms others referents (Some value) b test =
+      ap (λ (b : Bool). if b then taken scene env pattern forms value (referents value) else or_nothing env (held_list scene others)) (same_Some _ b test)
+
+  -- an `if let`, by whether the pattern fits the value that its name stands for
+  pub if_let_known : (env : Env) (form : Form) (pattern : Pattern) (name : Ident) (forms : List Form) (others : Option (List Form)) (found : Option Referent) (b : Bool)
+      → form ≡ IfLet pattern name forms others → found ≡ look_up env.names name.text → option_map (fits scene.definition pattern) (value_named scene env found) ≡ Some b
+      → form_value scene env form ≡ (if b then with_named scene env found (taken scene env pattern forms) else or_nothing env (held_list scene others))
+  if_let_known env form pattern name forms others found b is of test =
+      ap (form_value scene env) is ∙ form_value-IfLet env pattern name forms others
+      ∙ ap (λ (found : Option Referent). with_named scene env found (if_let_value scene env pattern forms others)) (sym of)
+      ∙ if_let_fits env pattern forms others (fields_named found) (value_named scene env found) b test
+
   -- a match on an order with a block, by how what is matched ends
   pub match_held : (env : Env) (form matched : Form) (partial : Bool) (held : Option (List Form)) (block : List Form) (greater less : Ordering) (flow : Flow)
       → form ≡ MatchOrdering matched partial held greater less → held ≡ Some block → flow ≡ form_value scene env matched
@@ -204,14 +253,6 @@ module _ (scene : Scene) where
   match_held env form matched partial held block greater less flow is some gives =
       ap (form_value scene env) is ∙ form_value-MatchOrdering env matched partial held greater less
       ∙ (λ i. go_on (sym gives i) (order_match partial greater less (held_list scene (some i))))
-
-  -- an `if let`, by the value that its name stands for and whether the pattern fits it
-  pub if_let_known : (env : Env) (form : Form) (pattern : Pattern) (name : Ident) (forms : List Form) (others : Option (List Form)) (value : Value) (b : Bool)
-      → form ≡ IfLet pattern name forms others → value_named scene (look_up env.names name.text) ≡ Some value → fits scene.definition pattern value ≡ b
-      → form_value scene env form ≡ (if b then taken scene env pattern value forms else or_nothing env (held_list scene others))
-  if_let_known env form pattern name forms others value b is named test =
-      ap (form_value scene env) is ∙ form_value-IfLet env pattern name forms others ∙ ap (λ found. with_value found (if_let_value scene env pattern forms others)) named
-      ∙ ap (λ (b : Bool). if b then taken scene env pattern value forms else or_nothing env (held_list scene others)) test
 
   -- the next argument, by how it ends, and then the others
   pub args_list-step : (env : Env) (forms : List Form) (i : ℕ) (x : Form) (flow end : Flow) (next : Env → List Thing → Flow) → i < length forms → x ≡ get_or forms i x → flow ≡ form_value scene env x → flow ≡ end

@@ -1,7 +1,8 @@
 -- The steps of the evaluator's loops.
-use Rattle.std.proofs.Common.{Bor, chars, ◌≡◌, ℕ, zero, suc, ◌+◌, ◌<◌, ◌≤◌, ◌&&◌, Bool, true, false, List, [], ◌∷◌, ◌++◌, None, map, drop, get_or, length, refl, ap, arith, sym, ◌∙◌}
-use Rattle.std.specs.Prelude.{codes}
+use Rattle.std.proofs.Common.{Bor, chars, ◌≡◌, ℕ, zero, suc, ◌+◌, ◌<◌, ◌≤◌, ◌&&◌, Bool, true, false, List, [], ◌∷◌, ◌++◌, Option, Some, None, map, drop, get_or, length, refl, ap, arith, sym, ◌∙◌}
+use Rattle.std.specs.Prelude.{codes, if◌then◌else◌}
 use Rattle.std.specs.Cmp.Lexicographic.{pointwise}
+use Rattle.std.specs.Option.{option_map}
 use Rattle.std.specs.Str.{bytes_eq}
 use Rattle.std.proofs.lemmas.List.{drop_more}
 use Rattle.educe_tree.specs.TokenLaws.{ascii_chars}
@@ -14,7 +15,7 @@ use Rattle.educe_body.specs.declared.environment.Referent.TheVariants.{This}
 use Rattle.educe_body.specs.declared.environment.Binding.{Binding}
 use Rattle.educe_body.specs.Callees.{path_of, spellings, segment_is}
 use Rattle.educe_body.specs.Keys.{key_of, keys_from}
-use Rattle.educe_body.specs.Meaning.{part_of, first_bindings, all_bound, param_referent}
+use Rattle.educe_body.specs.Meaning.{part_of, place_named, first_bindings, all_bound, param_referent}
 
 and-false : (b : Bool) → (b && false) ≡ false
 and-false true = refl
@@ -80,6 +81,27 @@ part_of-drop (f ∷ fields) [] key start (suc i) at more field here next inside 
     part_of-nil (keys_from more (drop (suc i) fields)) key ∙ sym (part_of-nil (keys_from at (drop i fields)) key)
 part_of-drop (f ∷ fields) (x ∷ values) key start (suc i) at more field here next inside differs =
     part_of-drop fields values key (start + 1) i at more field (omega arith) next (omega arith) differs
+
+-- a place in what is left of a list, counted from where that begins
+abbrev pub counted_from : ℕ → Option ℕ → Option ℕ
+counted_from start found = option_map (λ place. start + place) found
+
+-- from the beginning it is the place itself
+pub counted_from-zero : (found : Option ℕ) → counted_from 0 found ≡ found
+counted_from-zero None = refl
+counted_from-zero (Some place) = ap Some (omega arith)
+
+-- from one item further on
+pub counted_from-next : (start : ℕ) (found : Option ℕ) → counted_from (start + 1) found ≡ counted_from start (option_map (λ place. place + 1) found)
+counted_from-next start None = refl
+counted_from-next start (Some place) = ap Some (omega arith)
+
+-- the place of a key in what is left of the fields, by whether the next one has it
+pub place_named-step : (fields : List Field) (i : ℕ) (field : Field) (key : List ℕ) (b : Bool) → i < length fields → field ≡ get_or fields i field → bytes_eq (key_of i field) key ≡ b
+    → place_named (keys_from i (drop i fields)) key ≡ (if b then Some 0 else option_map (λ place. place + 1) (place_named (keys_from (i + 1) (drop (i + 1) fields)) key))
+place_named-step fields i field key b inside is test =
+    ap (λ (fields : List Field). place_named (keys_from i fields) key) (drop_more fields i field inside ∙ ap (λ (f : Field). f ∷ drop (i + 1) fields) (sym is))
+    ∙ ap (λ (b : Bool). if b then Some 0 else option_map (λ place. place + 1) (place_named (keys_from (i + 1) (drop (i + 1) fields)) key)) test
 
 abbrev bound_to : List ℕ → Referent → Binding
 bound_to name referent = record { name = name; referent = referent }

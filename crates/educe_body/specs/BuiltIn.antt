@@ -13,7 +13,7 @@ use Rattle.educe_tree.specs.declared.path.Segment.{Segment, out-Segment}
 use Rattle.educe_grammar.specs.Expressions.{expr_path}
 use Rattle.educe_grammar.specs.Parsed.{IsWhole}
 use Rattle.educe_body.specs.declared.callee.BuiltIn.{BuiltIn}
-use Rattle.educe_body.specs.declared.callee.BuiltIn.TheVariants.{Ne, Cmp, PartialCmp, Hash}
+use Rattle.educe_body.specs.declared.callee.BuiltIn.TheVariants.{Ne, Cmp, PartialCmp, Hash, Clone, CloneFrom}
 use Rattle.educe_body.specs.Callees.{path_names}
 
 -- the tokens of the path
@@ -22,6 +22,8 @@ path_lexemes Ne = quoted (codes ":: core :: cmp :: PartialEq :: ne")
 path_lexemes Cmp = quoted (codes ":: core :: cmp :: Ord :: cmp")
 path_lexemes PartialCmp = quoted (codes ":: core :: cmp :: PartialOrd :: partial_cmp")
 path_lexemes Hash = quoted (codes ":: core :: hash :: Hash :: hash")
+path_lexemes Clone = quoted (codes ":: core :: clone :: Clone :: clone")
+path_lexemes CloneFrom = quoted (codes ":: core :: clone :: Clone :: clone_from")
 
 -- what a segment says: its name, where that lies, and its arguments
 abbrev pub said_by : Segment → List ℕ × Span × Args

@@ -10,9 +10,9 @@ use Rattle.educe_tokens.specs.Text.{text_of}
 use Rattle.educe_tokens.specs.WrittenLexemes.{written_lexemes}
 use Rattle.educe_tree.specs.declared.expr.ExprPath.{ExprPath}
 use Rattle.educe_body.specs.declared.callee.BuiltIn.{BuiltIn}
-use Rattle.educe_body.specs.declared.callee.BuiltIn.TheVariants.{Ne, Cmp, PartialCmp, Hash}
+use Rattle.educe_body.specs.declared.callee.BuiltIn.TheVariants.{Ne, Cmp, PartialCmp, Hash, Clone, CloneFrom}
 use Rattle.educe_body.specs.declared.callee.Callee.{Callee}
-use Rattle.educe_body.specs.declared.callee.Callee.TheVariants.{Ne as CalleeNe, Cmp as CalleeCmp, PartialCmp as CalleePartialCmp, Hash as CalleeHash, Written}
+use Rattle.educe_body.specs.declared.callee.Callee.TheVariants.{Ne as CalleeNe, Cmp as CalleeCmp, PartialCmp as CalleePartialCmp, Hash as CalleeHash, Clone as CalleeClone, CloneFrom as CalleeCloneFrom, Written}
 
 -- the spellings of tokens; where they agree the tokens are the same (`AreSameTokens`), since a spelling decides the kind
 abbrev pub spellings : List Token → List (List ℕ)
@@ -29,6 +29,8 @@ path_names Ne = codes "core" ∷ codes "cmp" ∷ codes "PartialEq" ∷ codes "ne
 path_names Cmp = codes "core" ∷ codes "cmp" ∷ codes "Ord" ∷ codes "cmp" ∷ []
 path_names PartialCmp = codes "core" ∷ codes "cmp" ∷ codes "PartialOrd" ∷ codes "partial_cmp" ∷ []
 path_names Hash = codes "core" ∷ codes "hash" ∷ codes "Hash" ∷ codes "hash" ∷ []
+path_names Clone = codes "core" ∷ codes "clone" ∷ codes "Clone" ∷ codes "clone" ∷ []
+path_names CloneFrom = codes "core" ∷ codes "clone" ∷ codes "Clone" ∷ codes "clone_from" ∷ []
 
 -- the first of these functions whose path has these spellings
 abbrev pub first_spelled : List BuiltIn → List (List ℕ) → Option BuiltIn
@@ -37,7 +39,7 @@ first_spelled (which ∷ more) path = if pointwise bytes_eq path (path_of (path_
 
 -- the function that a path of these spellings names, if it is built in
 unfoldable pub built_in_named : List (List ℕ) → Option BuiltIn
-built_in_named path = first_spelled (Ne ∷ Cmp ∷ PartialCmp ∷ Hash ∷ []) path
+built_in_named path = first_spelled (Ne ∷ Cmp ∷ PartialCmp ∷ Hash ∷ Clone ∷ CloneFrom ∷ []) path
 
 -- the function that a path names, if it is built in
 abbrev pub built_in : ExprPath → Option BuiltIn
@@ -49,6 +51,8 @@ as_callee Ne = CalleeNe
 as_callee Cmp = CalleeCmp
 as_callee PartialCmp = CalleePartialCmp
 as_callee Hash = CalleeHash
+as_callee Clone = CalleeClone
+as_callee CloneFrom = CalleeCloneFrom
 
 -- the text of a path
 abbrev pub text_of_path : ExprPath → List ℕ

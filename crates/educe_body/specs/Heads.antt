@@ -25,10 +25,15 @@ name_at (suc i) (own ∷ more) = name_at i more
 abbrev pub if_named : List ℕ → List ℕ → Head → Option Head
 if_named own text this = if bytes_eq own text then Some this else None
 
+-- this head, or where there is none the other
+abbrev pub first_head : Option Head → Option Head → Option Head
+first_head None other = other
+first_head (Some own) other = Some own
+
 -- the head of a trait's function of a name; of a name that the trait does not have there is none
 abbrev pub head_of : Trait → List ℕ → Option Head
 head_of trait.Debug own = None
-head_of trait.Clone own = None
+head_of trait.Clone own = first_head (if_named own (codes "clone") head.Clone) (if_named own (codes "clone_from") head.CloneFrom)
 head_of trait.Copy own = None
 head_of trait.PartialEq own = if_named own (codes "eq") head.Eq
 head_of trait.Eq own = None
@@ -69,6 +74,11 @@ hash_parameters params = says (codes "& self ,") refl beside name_at 0 params be
 abbrev pub hash_head : List Word → Printout
 hash_head params = says (codes "fn hash") refl beside hasher_printout params beside in_round (hash_parameters params)
 
+-- `fn clone_from ( & mut self , source : & Self )`
+abbrev pub clone_from_head : List Word → Printout
+clone_from_head params =
+    says (codes "fn clone_from") refl beside in_round (says (codes "& mut self ,") refl beside name_at 0 params beside says (codes ": & Self") refl)
+
 -- a head with the names of parameters
 abbrev pub own_head : Head → List Word → Printout
 own_head head.Eq params = eq_head params
@@ -76,6 +86,8 @@ own_head head.PartialCmp params = partial_cmp_head params
 own_head head.Cmp params = cmp_head params
 own_head head.Hash params = hash_head params
 own_head head.Default params = says (codes "fn default ( ) -> Self") refl
+own_head head.Clone params = says (codes "fn clone ( & self ) -> Self") refl
+own_head head.CloneFrom params = clone_from_head params
 
 -- a function of a name that the trait does not have has no parameters and no result
 abbrev pub other_head : Word → Printout

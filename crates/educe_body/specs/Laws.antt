@@ -3,6 +3,7 @@ use Rattle.std.specs.Prelude.{◌≡◌, ◌≤◌, ◌^◌, ℕ, Bool, List, []
 use Rattle.std.specs.List.{AllByRecursion}
 use Rattle.std.specs.declared.cmp.Ordering.{Ordering}
 use Rattle.educe_tokens.specs.declared.token.Token.{Token}
+use Rattle.educe_tokens.specs.declared.word.Word.{Word}
 use Rattle.educe_tokens.specs.WrittenLexemes.{written_lexemes}
 use Rattle.educe_tree.specs.declared.data.Field.{Field}
 use Rattle.educe_tree.specs.declared.data.FieldForm.{FieldForm}
@@ -12,7 +13,7 @@ use Rattle.educe_tree.specs.declared.expr.ExprPath.{ExprPath}
 use Rattle.educe_tree.specs.declared.ident.Ident.{Ident}
 use Rattle.educe_tree.specs.Names.{unraw}
 use Rattle.educe_grammar.specs.Naming.{field_names, AreApart, AreNamesApart}
-use Rattle.educe_body.specs.declared.form.Form.{Form, Call, Not, IfReturn, Return, SomeOf, MatchOrdering, MatchValue, IfLet, Block, HashPart, Construct}
+use Rattle.educe_body.specs.declared.form.Form.{Form, Call, Not, IfReturn, Return, SomeOf, MatchOrdering, MatchValue, IfLet, Block, HashPart, Construct, AssignField, AssignThrough}
 use Rattle.educe_body.specs.declared.form.Arm.{Arm}
 use Rattle.educe_body.specs.declared.form.Init.{Init}
 use Rattle.educe_body.specs.declared.pattern.Pattern.{Pattern}
@@ -30,7 +31,7 @@ use Rattle.educe_body.specs.Cases.{case_named}
 use Rattle.educe_body.specs.Constants.{number_of, number_in}
 use Rattle.educe_body.specs.Keys.{AreDifferent, fields_of, keys_from, keys_of}
 use Rattle.educe_body.specs.Scoping.{callee_in, IsApart, AreOwnNames}
-use Rattle.educe_body.specs.Meaning.{Scene, form_value, list_value, args_list, held_list, arms_list, if_let_value, part_of, call_value, value_named, with_value, look_up, go_on, leave, opposite, some_of, unless_true, hash_part, order_match, with_case, built_value}
+use Rattle.educe_body.specs.Meaning.{Scene, form_value, list_value, args_list, held_list, arms_list, if_let_value, part_of, call_value, with_named, field_named, look_up, go_on, leave, opposite, some_of, unless_true, hash_part, order_match, with_case, built_value, assign}
 
 -- by this look-up the keys give the values, one for each
 abbrev pub KeysGive : (List ℕ → Option FieldValue) → List (List ℕ) → List FieldValue → Type 0
@@ -83,10 +84,10 @@ pub record FormLaws : Type 0 where
       → form_value scene env (MatchOrdering matched partial held greater less) ≡ go_on (form_value scene env matched) (order_match partial greater less (held_list scene held))
   -- of a match on a value, by the arm that is taken
   pub match_value : (scene : Scene) (env : Env) (name : Ident) (arms : List Arm)
-      → form_value scene env (MatchValue name arms) ≡ with_value (value_named scene (look_up env.names name.text)) (arms_list scene env arms)
+      → form_value scene env (MatchValue name arms) ≡ with_named scene env (look_up env.names name.text) (arms_list scene env arms)
   -- of an `if let`, by the forms behind its pattern or the others
   pub if_let : (scene : Scene) (env : Env) (pattern : Pattern) (name : Ident) (forms : List Form) (others : Option (List Form))
-      → form_value scene env (IfLet pattern name forms others) ≡ with_value (value_named scene (look_up env.names name.text)) (if_let_value scene env pattern forms others)
+      → form_value scene env (IfLet pattern name forms others) ≡ with_named scene env (look_up env.names name.text) (if_let_value scene env pattern forms others)
   -- of a block, by the values of its forms in order
   pub block : (scene : Scene) (env : Env) (forms : List Form) → form_value scene env (Block forms) ≡ leave env.names (list_value scene env Nothing forms)
   -- of what is fed to a hasher
@@ -94,3 +95,9 @@ pub record FormLaws : Type 0 where
   -- of what is built, by the values of its initializers in order, however its fields are written
   pub construct : (scene : Scene) (env : Env) (name : Option Ident) (written : FieldForm) (inits : List Init)
       → form_value scene env (Construct name written inits) ≡ with_case (case_named scene.definition name) (built_value scene env inits)
+  -- of an assignment to a field of `self`, by the value that is assigned
+  pub assign_field : (scene : Scene) (env : Env) (key : Word) (path : ExprPath) (held : Form) (handed : Bool)
+      → form_value scene env (AssignField key path held handed) ≡ go_on (form_value scene env held) (assign scene path handed (field_named scene key.text))
+  -- of an assignment to what a name stands for, by the value that is assigned
+  pub assign_through : (scene : Scene) (env : Env) (name : Ident) (path : ExprPath) (held : Form) (handed : Bool)
+      → form_value scene env (AssignThrough name path held handed) ≡ go_on (form_value scene env held) (assign scene path handed (look_up env.names name.text))

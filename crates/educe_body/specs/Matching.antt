@@ -9,10 +9,9 @@ use Rattle.educe_tree.specs.declared.derive.DeriveInput.{DeriveInput}
 use Rattle.educe_tree.specs.declared.ident.Ident.{Ident}
 use Rattle.educe_grammar.specs.Few.{variants_of}
 use Rattle.educe_body.specs.declared.environment.Binding.{Binding}
-use Rattle.educe_body.specs.declared.environment.Referent.TheVariants.{Bound}
+use Rattle.educe_body.specs.declared.environment.Referent.{Referent}
 use Rattle.educe_body.specs.declared.pattern.Pattern.{Pattern}
 use Rattle.educe_body.specs.declared.pattern.PatternField.{PatternField}
-use Rattle.educe_body.specs.declared.value.FieldValue.{FieldValue}
 use Rattle.educe_body.specs.declared.value.Value.{Value}
 
 -- ---- variants
@@ -39,25 +38,26 @@ has_key None (Some ident) = false
 has_key (Some key) None = false
 has_key (Some key) (Some ident) = bytes_eq ident.text key.text
 
--- a field's value under the name that the pattern gives it, if it gives one, and then the others
-abbrev pub bound_to : Option Ident → FieldValue → List Binding → List Binding
-bound_to None x rest = rest
-bound_to (Some name) x rest = record { name = name.text; referent = Bound x } ∷ rest
+-- what a field stands for, under the name that the pattern gives it, if it gives one, and then the others
+abbrev pub bound_to : Option Ident → Referent → List Binding → List Binding
+bound_to None referent rest = rest
+bound_to (Some name) referent rest = record { name = name.text; referent = referent } ∷ rest
 
--- what the fields of a pattern bind: they are as many as the variant's fields, and as the values, and each has the key of its field
-abbrev pub fields_bound : List Field → List PatternField → List FieldValue → Option (List Binding)
+-- what the fields of a pattern bind: they are as many as the variant's fields, and as what these stand for, and each has the key of
+-- its field
+abbrev pub fields_bound : List Field → List PatternField → List Referent → Option (List Binding)
 fields_bound [] [] [] = Some []
-fields_bound [] [] (x ∷ xs) = None
-fields_bound [] (p ∷ ps) xs = None
-fields_bound (f ∷ fs) [] xs = None
+fields_bound [] [] (r ∷ rs) = None
+fields_bound [] (p ∷ ps) rs = None
+fields_bound (f ∷ fs) [] rs = None
 fields_bound (f ∷ fs) (p ∷ ps) [] = None
-fields_bound (f ∷ fs) (p ∷ ps) (x ∷ xs) = if has_key p.key f.ident then option_map (bound_to p.name x) (fields_bound fs ps xs) else None
+fields_bound (f ∷ fs) (p ∷ ps) (r ∷ rs) = if has_key p.key f.ident then option_map (bound_to p.name r) (fields_bound fs ps rs) else None
 
--- what a pattern binds of a value of this variant; with `..` nothing
-abbrev pub bound_of : Option Variant → Pattern → Value → Option (List Binding)
-bound_of None pattern value = None
-bound_of (Some variant) pattern value = if pattern.rest then Some [] else fields_bound variant.fields.fields pattern.fields value.fields
+-- what a pattern binds of a value of this variant, whose fields stand for these; with `..` nothing
+abbrev pub bound_of : Option Variant → Pattern → List Referent → Option (List Binding)
+bound_of None pattern referents = None
+bound_of (Some variant) pattern referents = if pattern.rest then Some [] else fields_bound variant.fields.fields pattern.fields referents
 
--- what a pattern binds of a value
-abbrev pub bindings_of : DeriveInput → Pattern → Value → Option (List Binding)
-bindings_of definition pattern value = bound_of (variant_of definition value) pattern value
+-- what a pattern binds of a value whose fields stand for these
+abbrev pub bindings_of : DeriveInput → Pattern → Value → List Referent → Option (List Binding)
+bindings_of definition pattern value referents = bound_of (variant_of definition value) pattern referents

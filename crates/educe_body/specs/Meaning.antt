@@ -1,7 +1,7 @@
 -- What a body evaluates to, over an environment from names to values: a value, a return, or nothing.
-use Rattle.std.specs.Prelude.{ℕ, ℤ, ◌-◌, ◌^◌, pos, length, take, map, Bool, true, false, not, List, [], ◌∷◌, ◌++◌, Option, Some, None, if◌then◌else◌, codes}
+use Rattle.std.specs.Prelude.{ℕ, zero, suc, ℤ, ◌+◌, ◌-◌, ◌^◌, pos, length, take, map, slice_get, Bool, true, false, not, List, [], ◌∷◌, ◌++◌, Option, Some, None, if◌then◌else◌, codes}
 use Rattle.std.specs.List.{filter}
-use Rattle.std.specs.Option.{option_copied}
+use Rattle.std.specs.Option.{option_copied, option_map, option_and_then}
 use Rattle.std.specs.Ordering.{int_cmp}
 use Rattle.std.specs.Str.{bytes_eq}
 use Rattle.std.specs.declared.cmp.Ordering.{Ordering}
@@ -21,7 +21,7 @@ use Rattle.educe_body.specs.declared.answers.Answer.TheVariants.{Truth as Answer
 use Rattle.educe_body.specs.declared.answers.Answers.{Answers}
 use Rattle.educe_body.specs.declared.form.Known.{Known}
 use Rattle.educe_body.specs.declared.form.Known.TheVariants.{Truth as KnownTruth, Order as KnownOrder, PartialOrder as KnownPartialOrder}
-use Rattle.educe_body.specs.declared.form.Form.{Form, Local, Reference, BracedCopy, Key, Call', Not', IfReturn', Return', SomeOf', MatchOrdering', MatchValue', IfLet', KeyFunction, Block', HashPart', Construct', Pasted, Row_of-Form, end_of-Form, more_of-Form, Row_of-Arm, end_of-Arm, more_of-Arm, Row_of-Init, end_of-Init, more_of-Init, Held-Form-MatchOrdering-2, None', Some'}
+use Rattle.educe_body.specs.declared.form.Form.{Form, Local, Reference, BracedCopy, Key, Call', Not', IfReturn', Return', SomeOf', MatchOrdering', MatchValue', IfLet', KeyFunction, Block', HashPart', Construct', Pasted, WholeCopy, Unreachable, Discard, AssignField', AssignThrough', Row_of-Form, end_of-Form, more_of-Form, Row_of-Arm, end_of-Arm, more_of-Arm, Row_of-Init, end_of-Init, more_of-Init, Held-Form-MatchOrdering-2, None', Some'}
 use Rattle.educe_body.specs.declared.form.Form as form
 use Rattle.educe_body.specs.declared.form.Arm.{Arm}
 use Rattle.educe_body.specs.declared.form.Init.{Init}
@@ -33,7 +33,9 @@ use Rattle.educe_body.specs.declared.evaluator.Outcome.TheVariants.{Truth as Out
 use Rattle.educe_body.specs.declared.environment.Scope.{Scope}
 use Rattle.educe_body.specs.declared.stage.Stage.{Stage}
 use Rattle.educe_body.specs.declared.environment.Referent.{Referent}
-use Rattle.educe_body.specs.declared.environment.Referent.TheVariants.{This, Other, Bound, Keys, Inert}
+use Rattle.educe_body.specs.declared.environment.Referent.TheVariants.{This, Other, OwnField, Bound, Keys, Inert}
+use Rattle.educe_body.specs.declared.environment.Own.{Own}
+use Rattle.educe_body.specs.declared.environment.Own.TheVariants as own
 use Rattle.educe_body.specs.declared.environment.Binding.{Binding}
 use Rattle.educe_body.specs.declared.environment.Env.{Env}
 use Rattle.educe_body.specs.declared.flow.Thing.{Thing}
@@ -48,7 +50,8 @@ use Rattle.educe_body.specs.Matching.{has_key, fits, bindings_of}
 use Rattle.educe_body.specs.Scoping.{callee_in}
 use Rattle.educe_body.specs.Types.{pasted_callee}
 
--- what forms are evaluated over: the definition, the values of `self` and of the parameter, the table, and in an initializer its field
+-- what forms are evaluated over: the definition, the value of `self` as the body begins and that of the parameter, the table, and in an
+-- initializer its field
 pub record Scene : Type 0 where
   pub definition : DeriveInput
   pub this : Option Value
@@ -86,6 +89,29 @@ abbrev pub look_up : List Binding → List ℕ → Option Referent
 look_up [] name = None
 look_up (b ∷ bs) name = innermost (if bytes_eq b.name name then Some b.referent else None) (look_up bs name)
 
+-- ---- `self`
+
+-- the value of `self`, as long as its fields are known
+abbrev pub own_value : Option Own → Option Value
+own_value None = None
+own_value (Some (own.Value value)) = Some value
+own_value (Some (own.Whole x)) = None
+
+-- the value of `self` as a body begins
+abbrev pub first_own : Option Value → Option Own
+first_own value = option_map own.Value value
+
+-- the value with another field at a place, where it has one there
+abbrev pub set_at : ℕ → FieldValue → List FieldValue → Option (List FieldValue)
+set_at place x [] = None
+set_at zero x (y ∷ ys) = Some (x ∷ ys)
+set_at (suc place) x (y ∷ ys) = option_map (λ more. y ∷ more) (set_at place x ys)
+
+-- `self` with another field at a place, where it has one there
+abbrev pub with_field : ℕ → FieldValue → Option Value → Option Own
+with_field place x None = None
+with_field place x (Some value) = option_map (λ xs. own.Value (record value { fields = xs })) (set_at place x value.fields)
+
 -- ---- fields
 
 -- the value at the place of the first field of that key
@@ -99,57 +125,67 @@ abbrev pub field_of : Scene → Option Value → List ℕ → Option FieldValue
 field_of scene None key = None
 field_of scene (Some value) key = part_of (keys_of scene.definition) value.fields key
 
+-- the whole value that a name stands for
+abbrev pub value_named : Scene → Env → Option Referent → Option Value
+value_named scene env (Some This) = own_value env.own
+value_named scene env (Some Other) = scene.other
+value_named scene env found = None
+
 -- the field of the value that the base stands for
-abbrev pub reference_value : Scene → Option Referent → List ℕ → Option FieldValue
-reference_value scene None key = None
-reference_value scene (Some This) key = field_of scene scene.this key
-reference_value scene (Some Other) key = field_of scene scene.other key
-reference_value scene (Some (Bound x)) key = None
-reference_value scene (Some (Keys a b)) key = None
-reference_value scene (Some Inert) key = None
+abbrev pub reference_value : Scene → Env → Option Referent → List ℕ → Option FieldValue
+reference_value scene env base key = field_of scene (value_named scene env base) key
 
 -- a whole value, as a table is shown it: its type place is the last number, its number the variant
 abbrev pub whole_value : Option Value → Option FieldValue
 whole_value None = None
 whole_value (Some value) = Some (record { ty = 2 ^ 32 - 1; number = pos value.variant })
 
--- the value that a name stands for, as a table is shown it
-abbrev pub local_value : Scene → Option Referent → Option FieldValue
-local_value scene None = None
-local_value scene (Some This) = whole_value scene.this
-local_value scene (Some Other) = whole_value scene.other
-local_value scene (Some (Bound x)) = Some x
-local_value scene (Some (Keys a b)) = None
-local_value scene (Some Inert) = None
+-- the field at a place of the value of `self`
+abbrev pub own_field : ℕ → Option Value → Option FieldValue
+own_field place None = None
+own_field place (Some value) = slice_get value.fields place
 
--- the whole value that a name stands for
-abbrev pub value_named : Scene → Option Referent → Option Value
-value_named scene None = None
-value_named scene (Some This) = scene.this
-value_named scene (Some Other) = scene.other
-value_named scene (Some (Bound x)) = None
-value_named scene (Some (Keys a b)) = None
-value_named scene (Some Inert) = None
+-- the value that a name stands for, as a table is shown it
+abbrev pub local_value : Scene → Env → Option Referent → Option FieldValue
+local_value scene env (Some This) = whole_value (own_value env.own)
+local_value scene env (Some Other) = whole_value scene.other
+local_value scene env (Some (OwnField place)) = own_field place (own_value env.own)
+local_value scene env (Some (Bound x)) = Some x
+local_value scene env found = None
+
+-- what the fields of `self` stand for where a pattern binds them: their places, the first of which is this
+abbrev pub own_fields : ℕ → List FieldValue → List Referent
+own_fields place [] = []
+own_fields place (x ∷ xs) = OwnField place ∷ own_fields (place + 1) xs
+
+-- what a field at a place stands for where a pattern binds it of the value of a name
+abbrev pub referent_at : Option Referent → ℕ → FieldValue → Referent
+referent_at (Some This) place x = OwnField place
+referent_at found place x = Bound x
+
+-- the same of fields, the first of which is at a place
+abbrev pub fields_from : Option Referent → ℕ → List FieldValue → List Referent
+fields_from found place [] = []
+fields_from found place (x ∷ xs) = referent_at found place x ∷ fields_from found (place + 1) xs
+
+-- what the fields of the value of a name stand for where a pattern binds them: those of `self`, which may change, their places, and
+-- those of the parameter themselves
+abbrev pub fields_named : Option Referent → Value → List Referent
+fields_named (Some This) value = own_fields 0 value.fields
+fields_named found value = map Bound value.fields
 
 -- ---- keys
 
 -- the number of the value, of those for the value of `self` and for that of the parameter
 abbrev pub number_for : Option ℤ → Option ℤ → Option Referent → Option ℤ
-number_for this other None = None
 number_for this other (Some This) = this
 number_for this other (Some Other) = other
-number_for this other (Some (Bound x)) = None
-number_for this other (Some (Keys a b)) = None
-number_for this other (Some Inert) = None
+number_for this other found = None
 
 -- the number that a key function gives for a value, each by what its name stands for
 abbrev pub key_of : Option Referent → Option Referent → Option ℤ
-key_of None value = None
-key_of (Some This) value = None
-key_of (Some Other) value = None
-key_of (Some (Bound x)) value = None
 key_of (Some (Keys this other)) value = number_for this other value
-key_of (Some Inert) value = None
+key_of found value = None
 
 -- ---- flows
 
@@ -161,11 +197,11 @@ part_flow env (Some x) = Gives env (Part x)
 -- what a name gives: a value, as a table is shown it, or what does not count
 abbrev pub local_flow : Scene → Env → Option Referent → Flow
 local_flow scene env (Some Inert) = Gives env InertThing
-local_flow scene env found = part_flow env (local_value scene found)
+local_flow scene env found = part_flow env (local_value scene env found)
 
 -- the value of the field of this key of the value that the base stands for, which is read in place or from a copy
 abbrev pub read_flow : Scene → Env → List ℕ → List ℕ → Flow
-read_flow scene env base key = part_flow env (reference_value scene (look_up env.names base) key)
+read_flow scene env base key = part_flow env (reference_value scene env (look_up env.names base) key)
 
 -- a number, where there is one
 abbrev pub number_flow : Env → Option ℤ → Flow
@@ -203,6 +239,14 @@ within env (Some more) next = leave env.names (next (enter env more))
 abbrev pub with_value : Option Value → (Value → Flow) → Flow
 with_value None next = Stuck
 with_value (Some value) next = next value
+
+-- what comes of the value of a name, where there is one, and of what its fields stand for
+abbrev pub with_named : Scene → Env → Option Referent → (Value → List Referent → Flow) → Flow
+with_named scene env found next = with_value (value_named scene env found) (λ value. next value (fields_named found value))
+
+-- what a pattern binds of the value of a name, where there is one
+abbrev pub bound_named : Scene → Env → Pattern → Option Referent → Option (List Binding)
+bound_named scene env pattern found = option_and_then (λ value. bindings_of scene.definition pattern value (fields_named found value)) (value_named scene env found)
 
 -- a block, if there is one
 abbrev pub or_nothing : Env → Option (Env → Flow) → Flow
@@ -364,7 +408,59 @@ key_for scene env this arms value = key_number scene.definition scene.answers en
 -- the names in scope, and a key function, with its numbers for the value of `self` and for that of the parameter
 abbrev pub with_keys : Scene → Env → Ident → Ident → List KeyArm → Env
 with_keys scene env name this arms =
-    enter env (record { name = name.text; referent = Keys (key_for scene env this arms scene.this) (key_for scene env this arms scene.other) } ∷ [])
+    enter env (record { name = name.text; referent = Keys (key_for scene env this arms (own_value env.own)) (key_for scene env this arms scene.other) } ∷ [])
+
+-- ---- `self` as it changes
+
+-- the value of `self`
+abbrev pub whole_thing : Own → Thing
+whole_thing (own.Value value) = Built value
+whole_thing (own.Whole x) = Made x
+
+-- `self` as a value, where there is one
+abbrev pub own_flow : Env → Option Own → Flow
+own_flow env None = Stuck
+own_flow env (Some self) = Gives env (whole_thing self)
+
+-- nothing is done with what a name stands for, where it stands for something
+abbrev pub discarded : Env → Option Referent → Flow
+discarded env None = Stuck
+discarded env (Some found) = Gives env Nothing
+
+-- the place of the first field of this key
+abbrev pub place_named : List (List ℕ) → List ℕ → Option ℕ
+place_named [] key = None
+place_named (k ∷ keys) key = if bytes_eq k key then Some 0 else option_map (λ place. place + 1) (place_named keys key)
+
+-- the field of `self` of this key, as what a name stands for; it is one of a struct
+abbrev pub field_named : Scene → List ℕ → Option Referent
+field_named scene key = option_map OwnField (place_named (keys_of scene.definition) key)
+
+-- `self` where this is assigned to what a name stands for: to `self`, of which the fields are no longer known, or to a field of it
+abbrev pub assigned : Option Referent → FieldValue → Option Own → Option Own
+assigned (Some This) x self = Some (own.Whole x)
+assigned (Some (OwnField place)) x self = with_field place x (own_value self)
+assigned found x self = None
+
+-- `self` is this from now on, where it is something
+abbrev pub with_own : Env → Option Own → Flow
+with_own env None = Stuck
+with_own env (Some self) = Gives (record env { own = Some self }) Nothing
+
+-- what stands before the value in the call by which it is assigned: with true what is to change
+abbrev pub with_target : Bool → Option FieldValue → (List Thing → Flow) → Flow
+with_target false target next = next []
+with_target true None next = Stuck
+with_target true (Some x) next = next (Part x ∷ [])
+
+-- this is assigned to what a name stands for
+abbrev pub stored : Option Referent → Env → FieldValue → Flow
+stored target env x = with_own env (assigned target x env.own)
+
+-- what a call makes of a value is assigned to what a name stands for; with true the call is handed that before the value
+abbrev pub assign : Scene → ExprPath → Bool → Option Referent → Env → Thing → Flow
+assign scene path handed target env thing =
+    with_target handed (local_value scene env target) (λ front. go_on (call_value scene env.names path env (front ++ thing ∷ [])) (if_made (stored target)))
 
 -- ---- values that are built
 
@@ -393,10 +489,10 @@ abbrev mutual
   form_value scene env (IfReturn' shape test) = go_on (inner_value scene env test) unless_true
   form_value scene env (Return' shape inner) = go_on (inner_value scene env inner) Returns
   form_value scene env (MatchOrdering' shape matched partial held above below) = go_on (inner_value scene env matched) (order_match partial above below (held_value scene held))
-  form_value scene env (MatchValue' name shape arms) = with_value (value_named scene (look_up env.names name.text)) (arms_value scene env arms)
+  form_value scene env (MatchValue' name shape arms) = with_named scene env (look_up env.names name.text) (arms_value scene env arms)
   form_value scene env (IfLet' pattern name shape row held) =
-      with_value (value_named scene (look_up env.names name.text)) (λ value.
-      if fits scene.definition pattern value then within env (bindings_of scene.definition pattern value) (λ inner. row_value scene inner row Nothing)
+      with_named scene env (look_up env.names name.text) (λ value referents.
+      if fits scene.definition pattern value then within env (bindings_of scene.definition pattern value referents) (λ inner. row_value scene inner row Nothing)
       else or_nothing env (held_value scene held))
   form_value scene env (KeyFunction name this ty arms) = Gives (with_keys scene env name this arms) Nothing
   form_value scene env (Block' shape forms) = leave env.names (row_value scene env forms Nothing)
@@ -406,6 +502,12 @@ abbrev mutual
   form_value scene env (Construct' name written shape inits) =
       with_case (case_named scene.definition name) (λ variant fields. inits_value scene env inits fields (built variant))
   form_value scene env (Pasted written) = pasted_flow scene env written
+  form_value scene env WholeCopy = own_flow env env.own
+  form_value scene env Unreachable = Stuck
+  form_value scene env (Discard name) = discarded env (look_up env.names name.text)
+  form_value scene env (AssignField' key path shape inner handed) = go_on (inner_value scene env inner) (assign scene path handed (field_named scene key.text))
+  form_value scene env (AssignThrough' name path shape inner handed) =
+      go_on (inner_value scene env inner) (assign scene path handed (look_up env.names name.text))
 
   -- the value of the one form that a box holds
   pub inner_value : Scene → Env → {m : _} → Row_of-Form m → Flow
@@ -427,12 +529,13 @@ abbrev mutual
   held_value scene None' = None
   held_value scene (Some' shape row) = Some (λ env. leave env.names (row_value scene env row Nothing))
 
-  -- the first arm whose pattern fits, with what the pattern binds
-  pub arms_value : Scene → Env → {m : _} → Row_of-Arm m → Value → Flow
-  arms_value scene env end_of-Arm value = Stuck
-  arms_value scene env (more_of-Arm pattern shape row rest) value =
-      if fits scene.definition pattern value then within env (bindings_of scene.definition pattern value) (λ inner. row_value scene inner row Nothing)
-      else arms_value scene env rest value
+  -- the first arm whose pattern fits, with what the pattern binds of a value whose fields stand for these
+  pub arms_value : Scene → Env → {m : _} → Row_of-Arm m → Value → List Referent → Flow
+  arms_value scene env end_of-Arm value referents = Stuck
+  arms_value scene env (more_of-Arm pattern shape row rest) value referents =
+      if fits scene.definition pattern value
+      then within env (bindings_of scene.definition pattern value referents) (λ inner. row_value scene inner row Nothing)
+      else arms_value scene env rest value referents
 
   -- the initializers of fields, each of which has the key of its field and is evaluated for it, and the values with which it goes on
   pub inits_value : Scene → Env → {m : _} → Row_of-Init m → List Field → (Env → List FieldValue → Flow) → Flow
@@ -473,35 +576,43 @@ abbrev pub held_list : Scene → Option (List Form) → Option (Env → Flow)
 held_list scene None = None
 held_list scene (Some forms) = Some (λ env. leave env.names (list_value scene env Nothing forms))
 
--- the forms of an arm, with what its pattern binds of a value
-abbrev pub taken : Scene → Env → Pattern → Value → List Form → Flow
-taken scene env pattern value forms = within env (bindings_of scene.definition pattern value) (λ inner. list_value scene inner Nothing forms)
+-- the forms of an arm, with what its pattern binds of a value whose fields stand for these
+abbrev pub taken : Scene → Env → Pattern → List Form → Value → List Referent → Flow
+taken scene env pattern forms value referents = within env (bindings_of scene.definition pattern value referents) (λ inner. list_value scene inner Nothing forms)
 
 -- the forms behind a pattern where it fits the value, and else the others, if there are any
-abbrev pub if_let_value : Scene → Env → Pattern → List Form → Option (List Form) → Value → Flow
-if_let_value scene env pattern forms others value =
-    if fits scene.definition pattern value then taken scene env pattern value forms else or_nothing env (held_list scene others)
+abbrev pub if_let_value : Scene → Env → Pattern → List Form → Option (List Form) → Value → List Referent → Flow
+if_let_value scene env pattern forms others value referents =
+    if fits scene.definition pattern value then taken scene env pattern forms value referents else or_nothing env (held_list scene others)
 
 -- the first arm of a list whose pattern fits
-abbrev pub arms_list : Scene → Env → List Arm → Value → Flow
-arms_list scene env [] value = Stuck
-arms_list scene env (arm ∷ arms) value = if fits scene.definition arm.pattern value then taken scene env arm.pattern value arm.block else arms_list scene env arms value
+abbrev pub arms_list : Scene → Env → List Arm → Value → List Referent → Flow
+arms_list scene env [] value referents = Stuck
+arms_list scene env (arm ∷ arms) value referents =
+    if fits scene.definition arm.pattern value then taken scene env arm.pattern arm.block value referents else arms_list scene env arms value referents
 
 -- ---- bodies
 
--- what a body may evaluate to
-abbrev pub outcome_of_thing : Thing → Outcome
-outcome_of_thing (Truth b) = OutcomeTruth b
-outcome_of_thing (Order o) = OutcomeOrder o
-outcome_of_thing (PartialOrder p) = OutcomePartialOrder p
-outcome_of_thing (Built value) = OutcomeMade value
-outcome_of_thing (Made x) = OutcomeWhole x
-outcome_of_thing thing = OutcomeStuck
+-- what `self` is when a body ends
+abbrev pub own_outcome : Option Own → Outcome
+own_outcome None = OutcomeStuck
+own_outcome (Some (own.Value value)) = OutcomeMade value
+own_outcome (Some (own.Whole x)) = OutcomeWhole x
+
+-- what a body may evaluate to; one that gives nothing is there for what it does to `self`
+abbrev pub outcome_of_thing : Option Own → Thing → Outcome
+outcome_of_thing self Nothing = own_outcome self
+outcome_of_thing self (Truth b) = OutcomeTruth b
+outcome_of_thing self (Order o) = OutcomeOrder o
+outcome_of_thing self (PartialOrder p) = OutcomePartialOrder p
+outcome_of_thing self (Built value) = OutcomeMade value
+outcome_of_thing self (Made x) = OutcomeWhole x
+outcome_of_thing self thing = OutcomeStuck
 
 -- the value that is given or returned
 abbrev pub outcome_of : Flow → Outcome
-outcome_of (Gives env thing) = outcome_of_thing thing
-outcome_of (Returns env thing) = outcome_of_thing thing
+outcome_of (Gives env thing) = outcome_of_thing env.own thing
+outcome_of (Returns env thing) = outcome_of_thing env.own thing
 outcome_of Stuck = OutcomeStuck
 
 -- what was fed to a hasher, whatever is given or returned
@@ -528,10 +639,10 @@ all_bound referent names = map (λ (name : Word). record { name = name.text; ref
 abbrev pub first_bindings : List Word → List Binding
 first_bindings params = record { name = codes "self"; referent = This } ∷ all_bound (param_referent params) params
 
--- the names that are in scope as a body begins, when nothing was fed
-abbrev pub start : List Word → Env
-start params = record { names = first_bindings params; parts = [] }
+-- the names that are in scope as a body begins, and the value of `self`; nothing was fed
+abbrev pub start : List Word → Option Value → Env
+start params this = record { names = first_bindings params; parts = []; own = first_own this }
 
 -- the value of a body
 abbrev pub value : Body → Scene → Outcome
-value body scene = ended body.params (list_value scene (start body.params) Nothing body.block)
+value body scene = ended body.params (list_value scene (start body.params scene.this) Nothing body.block)

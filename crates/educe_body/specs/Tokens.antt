@@ -5,6 +5,7 @@ use Rattle.std.specs.declared.cmp.Ordering.{Ordering}
 use Rattle.std.specs.declared.cmp.Ordering.TheVariants.{Less, Equal, Greater}
 use Rattle.std.proofs.Common.{refl}
 use Rattle.educe_tokens.specs.declared.word.Word.{Word}
+use Rattle.educe_tokens.specs.declared.written.Written.{Written}
 use Rattle.educe_tokens.specs.Lexes.{Lexeme}
 use Rattle.educe_tokens.specs.Text.{text_of}
 use Rattle.educe_tokens.proofs.Printable.{is_printable_template}
@@ -19,7 +20,7 @@ use Rattle.educe_bound.specs.Predicates.{trait_path}
 use Rattle.educe_discriminants.specs.declared.discriminant_type.DiscriminantType.{DiscriminantType}
 use Rattle.educe_body.specs.declared.form.Known.{Known}
 use Rattle.educe_body.specs.declared.form.Known.TheVariants.{Truth, Order, PartialOrder}
-use Rattle.educe_body.specs.declared.form.Form.{Form, Local, Reference, BracedCopy, Key, Call', Not', IfReturn', Return', SomeOf', MatchOrdering', MatchValue', IfLet', KeyFunction, Block', HashPart', Construct', Pasted, Row_of-Form, end_of-Form, more_of-Form, Row_of-Arm, end_of-Arm, more_of-Arm, Row_of-Init, end_of-Init, more_of-Init, Held-Form-MatchOrdering-2, None', Some'}
+use Rattle.educe_body.specs.declared.form.Form.{Form, Local, Reference, BracedCopy, Key, Call', Not', IfReturn', Return', SomeOf', MatchOrdering', MatchValue', IfLet', KeyFunction, Block', HashPart', Construct', Pasted, WholeCopy, Unreachable, Discard, AssignField', AssignThrough', Row_of-Form, end_of-Form, more_of-Form, Row_of-Arm, end_of-Arm, more_of-Arm, Row_of-Init, end_of-Init, more_of-Init, Held-Form-MatchOrdering-2, None', Some'}
 use Rattle.educe_body.specs.declared.form.Form as form
 use Rattle.educe_body.specs.declared.form.Arm.{Arm}
 use Rattle.educe_body.specs.declared.form.Init.{Init}
@@ -32,8 +33,9 @@ use Rattle.educe_body.specs.declared.position.Position.{Position}
 use Rattle.educe_body.specs.declared.body.Function.{Function}
 use Rattle.educe_body.specs.declared.body.ImplItem.{ImplItem}
 use Rattle.educe_body.specs.declared.body.CheckItem.{CheckItem}
+use Rattle.educe_body.specs.declared.body.MarkerItem.{MarkerItem}
 use Rattle.educe_body.specs.declared.body.Item.{Item}
-use Rattle.educe_body.specs.declared.body.Item.TheVariants.{Impl, New, FieldCheck}
+use Rattle.educe_body.specs.declared.body.Item.TheVariants.{Impl, New, FieldCheck, Marker}
 use Rattle.educe_body.specs.Headers.{in_angle, params_printout, arguments_printout, where_printout}
 use Rattle.educe_body.specs.Heads.{name_at, function_head}
 use Rattle.educe_body.specs.Printouts.{Printout, nothing, says, name, word, written, primitive, string, steps, place, ◌beside◌, each, in_round, in_square, in_curly}
@@ -212,6 +214,40 @@ self_printout (Some variant) = says (codes "Self ::") refl beside name variant
 abbrev pub construct_printout : Option Ident → FieldForm → Printout → Printout
 construct_printout variant form inside = self_printout variant beside in_form form inside
 
+-- `let _ = name ;`
+abbrev pub discard_printout : Ident → Printout
+discard_printout ident = says (codes "let _ =") refl beside name ident beside says (codes ";") refl
+
+-- `= path ( value ) ;`
+abbrev pub result_printout : Written → Printout → Printout
+result_printout path value = says (codes "=") refl beside written path beside in_round value beside says (codes ";") refl
+
+-- `( place , value )`
+abbrev pub place_and_value : Printout → Printout → Printout
+place_and_value place value = in_round (place beside says (codes ",") refl beside value)
+
+-- `path ( place , value ) ;`
+abbrev pub handed_printout : Printout → Written → Printout → Printout
+handed_printout place path value = written path beside place_and_value place value beside says (codes ";") refl
+
+-- `self . key`
+abbrev pub own_field_printout : Word → Printout
+own_field_printout key = says (codes "self .") refl beside word key
+
+-- `& mut self . key`
+abbrev pub lent_field_printout : Word → Printout
+lent_field_printout key = says (codes "& mut") refl beside own_field_printout key
+
+-- an assignment to a field of `self`: with true the call is handed the field
+abbrev pub field_assignment : Bool → Word → Written → Printout → Printout
+field_assignment false key path value = own_field_printout key beside result_printout path value
+field_assignment true key path value = handed_printout (lent_field_printout key) path value
+
+-- an assignment through a name: with true the call is handed the name
+abbrev pub through_assignment : Bool → Ident → Written → Printout → Printout
+through_assignment false target path value = says (codes "*") refl beside name target beside result_printout path value
+through_assignment true target path value = handed_printout (name target) path value
+
 -- ---- forms that hold forms
 
 abbrev mutual
@@ -236,6 +272,11 @@ abbrev mutual
   form_printout (form.Position position) = position_printout position
   form_printout (Construct' variant form shape inits) = construct_printout variant form (inits_in_a_row inits)
   form_printout (Pasted tokens) = written tokens
+  form_printout WholeCopy = says (codes "* self") refl
+  form_printout Unreachable = says (codes ":: core :: unreachable ! ( )") refl
+  form_printout (Discard ident) = discard_printout ident
+  form_printout (AssignField' key path shape inner handed) = field_assignment handed key path.written (boxed inner)
+  form_printout (AssignThrough' target path shape inner handed) = through_assignment handed target path.written (boxed inner)
 
   -- the one form that a box holds
   pub boxed : {m : _} → Row_of-Form m → Printout
@@ -276,6 +317,16 @@ abbrev mutual
   pub behind_comma : {m : _} → Row_of-Form m → Printout
   behind_comma end_of-Form = nothing
   behind_comma (more_of-Form x rest) = says (codes ",") refl beside form_printout x beside behind_comma rest
+
+-- the arms of a match on an order in curly brackets: those of a step, or with a block for Equal
+abbrev pub arms_with : Bool → Option (List Form) → Ordering → Ordering → Printout
+arms_with partial None greater less = in_curly (step_arms partial greater less)
+arms_with partial (Some block) greater less = in_curly (block_arms partial (in_curly (each form_printout block)) greater less)
+
+-- `else { forms }`, if there are any
+abbrev pub else_with : Option (List Form) → Printout
+else_with None = nothing
+else_with (Some forms) = else_printout (in_curly (each form_printout forms))
 
 -- one arm of a match on a value
 abbrev pub arm_printout : Arm → Printout
@@ -382,18 +433,43 @@ abbrev pub outer_function : CheckItem → Printout
 outer_function check = outer_head check beside in_curly (inner_function check.names beside each (check_call check.names) check.types)
 
 -- `const _ : ( ) =` behind the attributes
-abbrev pub check_start : CheckItem → Printout
-check_start check = written check.attributes beside says (codes "const _ : ( ) =") refl
+abbrev pub constant_start : Written → Printout
+constant_start attributes = written attributes beside says (codes "const _ : ( ) =") refl
 
 -- `const _ : ( ) = { fn OUTER G ( ) W { fn INNER .. calls } } ;` behind the attributes
 abbrev pub check_printout : CheckItem → Printout
-check_printout check = check_start check beside in_curly (outer_function check) beside says (codes ";") refl
+check_printout check = constant_start check.attributes beside in_curly (outer_function check) beside says (codes ";") refl
+
+-- `NAME : & Type ,`
+abbrev pub marker_parameter : MarkerItem → Printout
+marker_parameter marker = name_at 1 marker.names beside says (codes ": &") refl beside written marker.ty.written beside says (codes ",") refl
+
+-- `fn NAME G ( NAME : & Type , )`
+abbrev pub marker_start : MarkerItem → Printout
+marker_start marker = says (codes "fn") refl beside name_at 0 marker.names beside params_printout marker.generics.params beside in_round (marker_parameter marker)
+
+-- `fn NAME G ( NAME : & Type , ) -> Type W`
+abbrev pub marker_head : MarkerItem → Printout
+marker_head marker = marker_start marker beside says (codes "->") refl beside written marker.ty.written beside where_printout marker.generics.predicates
+
+-- `method ( NAME )`
+abbrev pub marker_call : MarkerItem → Printout
+marker_call marker = written marker.method.written beside in_round (name_at 1 marker.names)
+
+-- `fn NAME G ( NAME : & Type , ) -> Type W { method ( NAME ) }`
+abbrev pub marker_function : MarkerItem → Printout
+marker_function marker = marker_head marker beside in_curly (marker_call marker)
+
+-- `const _ : ( ) = { fn NAME G ( NAME : & Type , ) -> Type W { method ( NAME ) } } ;` behind the attributes
+abbrev pub marker_printout : MarkerItem → Printout
+marker_printout marker = constant_start marker.attributes beside in_curly (marker_function marker) beside says (codes ";") refl
 
 -- one item
 abbrev pub item_printout : Item → Printout
 item_printout (Impl item) = impl_printout item
 item_printout (New item) = inherent_printout item
 item_printout (FieldCheck check) = check_printout check
+item_printout (Marker marker) = marker_printout marker
 
 -- the tokens of one item
 abbrev pub item_lexemes : Item → List Lexeme

@@ -104,9 +104,7 @@ fn by_number(
                 Callee::Ne => Some(Answer::Truth(x.number != y.number)),
                 Callee::Cmp => Some(Answer::Order(x.number.cmp(&y.number))),
                 Callee::PartialCmp => Some(Answer::PartialOrder(Some(x.number.cmp(&y.number)))),
-                Callee::Hash => None,
-                Callee::Default(_) => None,
-                Callee::Written(_) => None,
+                _ => None,
             }
         }
         (Some(x), None) => match callee {

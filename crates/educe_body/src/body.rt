@@ -2,7 +2,7 @@
 use crate::form::Forms;
 use educe_bound::Trait;
 use educe_tokens::{Seq, Word, Written};
-use educe_tree::{Generics, Ident, Types};
+use educe_tree::{ExprPath, Generics, Ident, Ty, Types};
 
 /// Names in their order.
 pub type Names = Seq<Word>;
@@ -47,6 +47,19 @@ pub struct CheckItem {
     pub names: Names,
 }
 
+/// A function that is never called and calls the method of a field, behind its attributes, so that
+/// the method counts as used and has to fit the field's type. The names are those of the function
+/// and of its parameter.
+#[derive(Drop)]
+pub struct MarkerItem {
+    pub which: Trait,
+    pub attributes: Written,
+    pub generics: Generics,
+    pub ty: Ty,
+    pub method: ExprPath,
+    pub names: Names,
+}
+
 /// An item that is printed.
 #[derive(Drop)]
 pub enum Item {
@@ -54,6 +67,7 @@ pub enum Item {
     /// An impl with no trait, which holds the function `new`.
     New(ImplItem),
     FieldCheck(CheckItem),
+    Marker(MarkerItem),
 }
 
 /// Items in the order in which they are printed.

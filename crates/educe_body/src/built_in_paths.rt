@@ -100,5 +100,19 @@ pub fn built_in_path(alloc: Global, which: BuiltIn) -> Result<ExprPath, AllocErr
             "hash",
             ":: core :: hash :: Hash :: hash",
         ),
+        BuiltIn::Clone => trait_path(
+            alloc,
+            "clone",
+            "Clone",
+            "clone",
+            ":: core :: clone :: Clone :: clone",
+        ),
+        BuiltIn::CloneFrom => trait_path(
+            alloc,
+            "clone",
+            "Clone",
+            "clone_from",
+            ":: core :: clone :: Clone :: clone_from",
+        ),
     }
 }

@@ -23,6 +23,10 @@ pub enum BuiltIn {
     PartialCmp,
     /// `Hash::hash`
     Hash,
+    /// `Clone::clone`
+    Clone,
+    /// `Clone::clone_from`
+    CloneFrom,
 }
 
 /// What is called.
@@ -36,6 +40,10 @@ pub enum Callee {
     PartialCmp,
     /// `Hash::hash`
     Hash,
+    /// `Clone::clone`
+    Clone,
+    /// `Clone::clone_from`
+    CloneFrom,
     /// `Default::default` of the type at this place, counted over all fields of the definition.
     Default(u32),
     /// What a user's text names: the function of a path, or the number of an expression. The text is
@@ -45,7 +53,7 @@ pub enum Callee {
 }
 
 /// The built-in functions, each behind the words of its path, as in `::core::cmp::PartialEq::ne`.
-const BUILT_IN: [([&str; 4], BuiltIn); 4] = [
+const BUILT_IN: [([&str; 4], BuiltIn); 6] = [
     (["core", "cmp", "PartialEq", "ne"], BuiltIn::Ne),
     (["core", "cmp", "Ord", "cmp"], BuiltIn::Cmp),
     (
@@ -53,6 +61,8 @@ const BUILT_IN: [([&str; 4], BuiltIn); 4] = [
         BuiltIn::PartialCmp,
     ),
     (["core", "hash", "Hash", "hash"], BuiltIn::Hash),
+    (["core", "clone", "Clone", "clone"], BuiltIn::Clone),
+    (["core", "clone", "Clone", "clone_from"], BuiltIn::CloneFrom),
 ];
 
 impl BuiltIn {
@@ -65,6 +75,8 @@ impl BuiltIn {
             BuiltIn::Cmp => Callee::Cmp,
             BuiltIn::PartialCmp => Callee::PartialCmp,
             BuiltIn::Hash => Callee::Hash,
+            BuiltIn::Clone => Callee::Clone,
+            BuiltIn::CloneFrom => Callee::CloneFrom,
         }
     }
 }
@@ -79,6 +91,8 @@ impl Callee {
             Callee::Cmp => Ok(Callee::Cmp),
             Callee::PartialCmp => Ok(Callee::PartialCmp),
             Callee::Hash => Ok(Callee::Hash),
+            Callee::Clone => Ok(Callee::Clone),
+            Callee::CloneFrom => Ok(Callee::CloneFrom),
             Callee::Default(place) => Ok(Callee::Default(*place)),
             Callee::Written(text) => Ok(Callee::Written(text.duplicate(alloc)?)),
         }
@@ -93,6 +107,8 @@ impl Callee {
             (Callee::Cmp, Callee::Cmp) => true,
             (Callee::PartialCmp, Callee::PartialCmp) => true,
             (Callee::Hash, Callee::Hash) => true,
+            (Callee::Clone, Callee::Clone) => true,
+            (Callee::CloneFrom, Callee::CloneFrom) => true,
             (Callee::Default(own), Callee::Default(place)) => own == place,
             (Callee::Written(own), Callee::Written(text)) => is_text(own, text.as_str()),
             _ => false,

@@ -1,6 +1,7 @@
 //! What a body is evaluated over: values, and names that stand for them.
 ghost use Rattle.std.specs.Prelude.{◌≡◌, [], ◌∷◌, ◌++◌, length, take, OnOk, IfOk};
-ghost use Rattle.educe_body.specs.Meaning.{start, all_bound, param_referent};
+ghost use Rattle.std.specs.Option.{option_copied};
+ghost use Rattle.educe_body.specs.Meaning.{start, all_bound, param_referent, first_own, own_value};
 
 use crate::body::Names;
 use crate::value::{FieldValue, Parts, Value};
@@ -25,7 +26,9 @@ pub enum Referent {
     This,
     /// The value of the parameter.
     Other,
-    /// A field of a value, which a pattern binds.
+    /// The field at a place of the value of `self`, which a pattern binds.
+    OwnField(usize),
+    /// A field of the value of the parameter, which a pattern binds.
     Bound(FieldValue),
     /// A key function, by its numbers for the value of `self` and for that of the parameter.
     Keys(Option<Number>, Option<Number>),
@@ -95,18 +98,49 @@ impl Bindings {
     }
 }
 
-/// What changes as forms are evaluated: the names in scope, and what was fed to a hasher.
+/// What `self` is.
+#[derive(Drop)]
+pub enum Own {
+    /// A value whose fields are known.
+    Value(Value),
+    /// What a call made of a whole value.
+    Whole(FieldValue),
+}
+
+/// What `self` is as a body begins.
+fn first_own(alloc: Global, this: Option<&Value>) -> Result<Option<Own>, AllocError>
+    ensures { IfOk result (λ own. own ≡ first_own (option_copied this.entry)) }
+{
+    match this {
+        Some(value) => Ok(Some(Own::Value(value.duplicate(alloc)?))),
+        None => Ok(None),
+    }
+}
+
+/// The value of `self`, as long as its fields are known.
+pub(crate) fn own_value(own: &Option<Own>) -> Option<&Value>
+    ensures { option_copied result ≡ own_value own.now }
+{
+    match own {
+        Some(Own::Value(value)) => Some(value),
+        _ => None,
+    }
+}
+
+/// What changes as forms are evaluated: the names in scope, what was fed to a hasher, and what `self`
+/// is, where there is one.
 #[derive(Drop)]
 pub struct Env {
     pub names: Bindings,
     pub parts: Parts,
+    pub own: Option<Own>,
 }
 
 impl Env {
-    /// The names that are in scope as a body begins: `self`, and the parameters. A single parameter
-    /// stands for the other value; of several, none has a value of its own.
-    pub fn new(alloc: Global, params: &Names) -> Result<Env, AllocError>
-        ensures { IfOk result (λ env. env ≡ start params.now) }
+    /// The names that are in scope as a body begins: `self`, which has this value, and the parameters.
+    /// A single parameter stands for the other value; of several, none has a value of its own.
+    pub fn new(alloc: Global, params: &Names, this: Option<&Value>) -> Result<Env, AllocError>
+        ensures { IfOk result (λ env. env ≡ start params.now (option_copied this.entry)) }
     {
         let mut names = Bindings::new(alloc);
         names.push(Binding {
@@ -116,7 +150,8 @@ impl Env {
         let params = params.as_slice();
         let names = bind_all(alloc, names, param_referent(params), params)?;
         let parts = Seq::new(alloc);
-        Ok(Env { names, parts })
+        let own = first_own(alloc, this)?;
+        Ok(Env { names, parts, own })
     }
 }
 

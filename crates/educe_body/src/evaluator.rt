@@ -1,31 +1,32 @@
 //! The evaluator.
 ghost use Rattle.std.specs.Prelude.{◌≡◌, IfOk};
-ghost use Rattle.std.specs.Option.{option_copied};
 ghost use Rattle.educe_body.specs.declared.environment.Env.{Env};
+ghost use Rattle.educe_body.specs.Cases as spec;
 ghost use Rattle.educe_body.specs.Meaning as meaning;
-ghost use Rattle.educe_body.specs.Meaning.{scene, scene_at, look_up, read_flow, key_of, leave, value, parts_of, outcome_of, outcome_of_thing, list_value, taken, arms_list, with_value, go_on, block_arm, form_value, args_list, inits_list, built, call_named};
+ghost use Rattle.educe_body.specs.Meaning.{scene, scene_at, look_up, read_flow, key_of, leave, value, parts_of, outcome_of, own_outcome, outcome_of_thing, list_value, taken, arms_list, with_named, go_on, block_arm, form_value, args_list, inits_list, built, built_value, with_case, call_value, assign};
 
 use crate::answers::Answers;
+use crate::assigning::assign;
 use crate::body::{Body, Names};
-use crate::callee::Callee;
 use crate::calls::called;
 use crate::cases::case_named;
-use crate::environment::{Env, Scope};
+use crate::environment::{Env, Own, Referent, Scope};
 use crate::flow::{
     Flow, Thing, add_counted, end_if, hash_part, known_thing, leave, made_value, number_flow,
     opposite, order_thing, part_flow, returned, some_of, take_arm,
 };
-use crate::form::{Arm, Form, Forms, Init};
-use crate::matching::{bind_pattern, fits, has_key};
+use crate::form::{Arm, Form, Forms, Init, Inits};
+use crate::key_function::KeyArms;
+use crate::matching::{bind_pattern, fits, fits_named, has_key};
 use crate::numbers::bind_keys;
 use crate::pattern::Pattern;
-use crate::reading::{find, key, local, named, reference};
+use crate::reading::{field_named, find, key, local, named, reference};
 use crate::scoping::callee_in;
 use crate::stage::Stage;
 use crate::types::pasted_callee;
 use crate::value::{FieldValue, FieldValues, Parts, Value};
 use educe_tokens::{Seq, Spelling, Written};
-use educe_tree::Field;
+use educe_tree::{ExprPath, Field, Ident};
 use std::alloc::{AllocError, Global};
 use std::cmp::Ordering;
 
@@ -37,9 +38,9 @@ pub enum Outcome {
     PartialOrder(Option<Ordering>),
     /// What a hasher is fed, in order.
     Parts(Parts),
-    /// The value that is built.
+    /// The value that is built, or what `self` becomes.
     Made(Value),
-    /// What the default value of a whole type makes.
+    /// What a call makes of a whole type, or of a whole value, also where `self` becomes this.
     Whole(FieldValue),
     /// There is no value.
     Stuck,
@@ -47,11 +48,13 @@ pub enum Outcome {
 
 /// What a body evaluates to over a definition, two values and a table: what it returns, or the
 /// value of its last form; for a body with two parameters, a hasher and its type, what it feeds to the
-/// hasher. `Stuck` where a name stands for nothing, a value has no field of that key, no arm or no
-/// field of a pattern fits, a path that is not built in, an expression or a default value has a name
-/// in scope, more than two arguments of a call count, the table has no answer, a form takes another
-/// kind of value, no variant has the name of what is built, its fields have other keys or there are
-/// more or fewer, or the result is no truth, no order, no value that is built and none that is made.
+/// hasher; and for one that gives nothing, what `self` becomes. `Stuck` where a name stands for
+/// nothing, a value has no field of that key, no arm or no field of a pattern fits, a path that is not
+/// built in, an expression or a default value has a name in scope, more than two arguments of a call
+/// count, the table has no answer, a form takes another kind of value, no variant has the name of what
+/// is built, its fields have other keys or there are more or fewer, what is assigned to is not `self`
+/// and no field of it, the fields of `self` are read behind an assignment to the whole, or the result is
+/// no truth, no order, no value that is built and none that is made.
 /// What is built of a variant, and a default value by the type of its field, are also `Stuck` where
 /// the place of the variant or of the type is 2^32 or more.
 pub fn eval<'a>(
@@ -62,7 +65,7 @@ pub fn eval<'a>(
 ) -> Result<Outcome, AllocError>
     ensures { IfOk result (λ outcome. outcome ≡ value body.now (scene scope.now answers.now)) }
 {
-    let env = Env::new(alloc, &body.params)?;
+    let env = Env::new(alloc, &body.params, scope.this)?;
     let stage = Stage {
         scope,
         answers,
@@ -98,16 +101,28 @@ fn outcome_of(flow: Flow) -> Outcome
     ensures { result ≡ outcome_of flow }
 {
     match flow {
-        Flow::Gives(_, thing) => ended_with(thing),
-        Flow::Returns(_, thing) => ended_with(thing),
+        Flow::Gives(env, thing) => ended_with(env.own, thing),
+        Flow::Returns(env, thing) => ended_with(env.own, thing),
         Flow::Stuck => Outcome::Stuck,
     }
 }
 
-fn ended_with(thing: Thing) -> Outcome
-    ensures { result ≡ outcome_of_thing thing }
+/// What `self` is when a body ends.
+fn own_outcome(own: Option<Own>) -> Outcome
+    ensures { result ≡ own_outcome own }
+{
+    match own {
+        Some(Own::Value(value)) => Outcome::Made(value),
+        Some(Own::Whole(x)) => Outcome::Whole(x),
+        None => Outcome::Stuck,
+    }
+}
+
+fn ended_with(own: Option<Own>, thing: Thing) -> Outcome
+    ensures { result ≡ outcome_of_thing own thing }
 {
     match thing {
+        Thing::Nothing => own_outcome(own),
         Thing::Truth(b) => Outcome::Truth(b),
         Thing::Order(o) => Outcome::Order(o),
         Thing::PartialOrder(p) => Outcome::PartialOrder(p),
@@ -122,14 +137,15 @@ fn local_flow(stage: &Stage, env: Env, name: &Spelling) -> Flow
     ensures { result ≡ meaning.local_flow (scene_at stage.now) env (look_up env.names name.now) }
 {
     let found = find(env.names.as_slice(), name);
-    local(stage, env, found)
+    local(stage, env, &found)
 }
 
 /// What a field of a value gives, in place or as a copy.
 fn reference_flow(stage: &Stage, env: Env, base: &Spelling, key: &Spelling) -> Flow
     ensures { result ≡ read_flow (scene_at stage.now) env base.now key.now }
 {
-    let part = reference(stage, find(env.names.as_slice(), base), key);
+    let base = find(env.names.as_slice(), base);
+    let part = reference(stage, &env, base, key);
     part_flow(env, part)
 }
 
@@ -173,10 +189,7 @@ fn run_form(alloc: Global, form: &Form, env: Env, stage: &Stage) -> Result<Flow,
         Form::Reference(base, key) => Ok(reference_flow(stage, env, &base.text, &key.text)),
         Form::BracedCopy(base, key) => Ok(reference_flow(stage, env, &base.text, &key.text)),
         Form::Key(function, value) => Ok(key_flow(env, &function.text, &value.text)),
-        Form::Call(path, arguments) => {
-            let callee = callee_in(alloc, env.names.as_slice(), path.get())?;
-            run_call(alloc, &callee, arguments, env, stage)
-        }
+        Form::Call(path, arguments) => run_call(alloc, path.get(), arguments, env, stage),
         Form::Not(inner) => Ok(opposite(run_form(alloc, inner.get(), env, stage)?)),
         Form::SomeOf(inner) => Ok(some_of(run_form(alloc, inner.get(), env, stage)?)),
         Form::IfReturn(test) => Ok(end_if(run_form(alloc, test.get(), env, stage)?)),
@@ -190,43 +203,57 @@ fn run_form(alloc: Global, form: &Form, env: Env, stage: &Stage) -> Result<Flow,
                 }
             }
         }
-        Form::MatchValue(name, arms) => {
-            let value = named(stage, env.names.as_slice(), &name.text);
-            run_arms(alloc, arms.as_slice(), value, env, stage)
-        }
+        Form::MatchValue(name, arms) => run_arms(alloc, &name.text, arms.as_slice(), env, stage),
         Form::IfLet(pattern, name, forms, others) => {
-            let Some(value) = named(stage, env.names.as_slice(), &name.text) else {
-                return Ok(Flow::Stuck);
-            };
-            if fits(stage.scope.ast, pattern, value) {
-                return run_taken(alloc, pattern, value, forms, env, stage);
-            }
-            match others {
-                Some(forms) => run_inner(alloc, forms, env, stage),
-                None => Ok(Flow::Gives(env, Thing::Nothing)),
+            let found = find(env.names.as_slice(), &name.text);
+            match fits_named(alloc, stage, &env, pattern, &found)? {
+                Some(true) => run_taken(alloc, pattern, &found, forms, env, stage),
+                Some(false) => match others {
+                    Some(forms) => run_inner(alloc, forms, env, stage),
+                    None => Ok(Flow::Gives(env, Thing::Nothing)),
+                },
+                None => Ok(Flow::Stuck),
             }
         }
-        Form::KeyFunction(name, this, _, arms) => {
-            let env = bind_keys(alloc, stage, name, this, arms.as_slice(), env)?;
-            Ok(Flow::Gives(env, Thing::Nothing))
-        }
+        Form::KeyFunction(name, this, _, arms) => key_function(alloc, stage, name, this, arms, env),
         Form::Block(forms) => run_inner(alloc, forms, env, stage),
         Form::HashPart(inner) => hash_part(run_form(alloc, inner.get(), env, stage)?),
         Form::Position(position) => Ok(Flow::Gives(env, Thing::Position(position.place))),
-        Form::Construct(name, _, inits) => match case_named(stage.scope.ast, name) {
-            Some(case) => {
-                run_inits(
-                    alloc,
-                    case.variant,
-                    case.fields,
-                    inits.as_slice(),
-                    env,
-                    stage,
-                )
-            }
-            None => Ok(Flow::Stuck),
-        },
+        Form::Construct(name, _, inits) => run_construct(alloc, name, inits, env, stage),
         Form::Pasted(written) => pasted_flow(alloc, stage, env, written),
+        Form::WholeCopy => own_flow(alloc, env),
+        Form::Unreachable => Ok(Flow::Stuck),
+        Form::Discard(name) => Ok(discarded(env, &name.text)),
+        Form::AssignField(key, path, inner, handed) => {
+            let target = field_named(stage, &key.text);
+            run_assign(alloc, path.get(), inner.get(), *handed, &target, env, stage)
+        }
+        Form::AssignThrough(name, path, inner, handed) => {
+            let target = find(env.names.as_slice(), &name.text);
+            run_assign(alloc, path.get(), inner.get(), *handed, &target, env, stage)
+        }
+    }
+}
+
+/// What a call makes of a form is assigned to what a name stands for; where the truth value holds, the
+/// call is handed that before the form.
+#[cycle(run)]
+fn run_assign(
+    alloc: Global,
+    path: &ExprPath,
+    inner: &Form,
+    handed: bool,
+    target: &Option<Referent>,
+    env: Env,
+    stage: &Stage,
+) -> Result<Flow, AllocError>
+    ensures { let here = scene_at stage.now in
+        IfOk result (λ flow. flow ≡ go_on (form_value here env inner.now) (assign here path.now handed target.now)) }
+{
+    match run_form(alloc, inner, env, stage)? {
+        Flow::Gives(env, thing) => assign(alloc, path, handed, target, env, thing, stage),
+        Flow::Returns(env, thing) => Ok(Flow::Returns(env, thing)),
+        Flow::Stuck => Ok(Flow::Stuck),
     }
 }
 
@@ -268,21 +295,21 @@ fn run_inner(alloc: Global, forms: &Forms, env: Env, stage: &Stage) -> Result<Fl
     Ok(leave(count, flow))
 }
 
-/// The forms behind a pattern, with what it binds of a value.
+/// The forms behind a pattern, with what it binds of the value of a name.
 #[cycle(run)]
 fn run_taken(
     alloc: Global,
     pattern: &Pattern,
-    value: &Value,
+    found: &Option<Referent>,
     forms: &Forms,
     env: Env,
     stage: &Stage,
 ) -> Result<Flow, AllocError>
     ensures { let here = scene_at stage.now in
-        IfOk result (λ flow. flow ≡ taken here env pattern.now value.now forms.now) }
+        IfOk result (λ flow. flow ≡ with_named here env found.now (taken here env pattern.now forms.now)) }
 {
     let count = env.names.len();
-    match bind_pattern(alloc, stage.scope.ast, pattern, value, env)? {
+    match bind_pattern(alloc, stage, pattern, found, env)? {
         Some(inner) => {
             let flow = run_block(alloc, forms, inner, stage)?;
             Ok(leave(count, flow))
@@ -291,42 +318,45 @@ fn run_taken(
     }
 }
 
-/// The first arm whose pattern fits the value, if there is one.
+/// The first arm whose pattern fits the value of a name, if there is one.
 #[cycle(run)]
 fn run_arms(
     alloc: Global,
+    name: &Spelling,
     arms: &[Arm],
-    value: Option<&Value>,
     env: Env,
     stage: &Stage,
 ) -> Result<Flow, AllocError>
     ensures { let here = scene_at stage.now in
-        IfOk result (λ flow. flow ≡ with_value (option_copied value.entry) (arms_list here env arms.now)) }
+        let found = look_up env.names name.now in
+        IfOk result (λ flow. flow ≡ with_named here env found (arms_list here env arms.now)) }
 {
-    let Some(value) = value else {
+    let found = find(env.names.as_slice(), name);
+    let Some(value) = named(alloc, stage, &env, &found)? else {
         return Ok(Flow::Stuck);
     };
     for arm in arms {
-        if fits(stage.scope.ast, &arm.pattern, value) {
-            return run_taken(alloc, &arm.pattern, value, &arm.block, env, stage);
+        if fits(stage.scope.ast, &arm.pattern, &value) {
+            return run_taken(alloc, &arm.pattern, &found, &arm.block, env, stage);
         }
     }
     Ok(Flow::Stuck)
 }
 
-/// The arguments one after the other, and then the call.
+/// The arguments one after the other, and then the call of what the path names where it stands.
 #[cycle(run)]
 fn run_call(
     alloc: Global,
-    callee: &Option<Callee>,
+    path: &ExprPath,
     arguments: &Forms,
     env: Env,
     stage: &Stage,
 ) -> Result<Flow, AllocError>
-    ensures { let next = call_named stage.now.answers.now callee.now in
-        let here = scene_at stage.now in
+    ensures { let here = scene_at stage.now in
+        let next = call_value here env.names path.now in
         IfOk result (λ flow. flow ≡ args_list here env arguments.now next) }
 {
+    let callee = callee_in(alloc, env.names.as_slice(), path)?;
     let mut env = env;
     let mut things = Seq::new(alloc);
     for argument in arguments.as_slice() {
@@ -339,7 +369,29 @@ fn run_call(
             Flow::Stuck => return Ok(Flow::Stuck),
         }
     }
-    Ok(called(env, callee, things.as_slice(), stage.answers))
+    Ok(called(env, &callee, things.as_slice(), stage.answers))
+}
+
+/// The value that initializers build, where the definition has the case.
+#[cycle(run)]
+fn run_construct(
+    alloc: Global,
+    name: &Option<Ident>,
+    inits: &Inits,
+    env: Env,
+    stage: &Stage,
+) -> Result<Flow, AllocError>
+    ensures { let here = scene_at stage.now in
+        let found = spec.case_named here.definition name.now in
+        IfOk result (λ flow. flow ≡ with_case found (built_value here env inits.now)) }
+{
+    match case_named(stage.scope.ast, name) {
+        Some(case) => {
+            let inits = inits.as_slice();
+            run_inits(alloc, case.variant, case.fields, inits, env, stage)
+        }
+        None => Ok(Flow::Stuck),
+    }
 }
 
 /// The initializers of fields one after the other, and then the value that they build.
@@ -388,6 +440,55 @@ fn built(variant: u32, fields: FieldValues) -> Thing
     ensures { (env : _) → Flow.Gives env result ≡ built variant env fields }
 {
     Thing::Built(Value { variant, fields })
+}
+
+/// What `self` is, as what a form gives.
+fn whole_thing(alloc: Global, own: &Own) -> Result<Thing, AllocError>
+    ensures { IfOk result (λ thing. thing ≡ meaning.whole_thing own.now) }
+{
+    match own {
+        Own::Value(value) => Ok(Thing::Built(value.duplicate(alloc)?)),
+        Own::Whole(x) => Ok(Thing::Made(*x)),
+    }
+}
+
+/// `self` as a value.
+fn own_flow(alloc: Global, env: Env) -> Result<Flow, AllocError>
+    ensures { IfOk result (λ flow. flow ≡ meaning.own_flow env env.own) }
+{
+    match &env.own {
+        Some(own) => {
+            let thing = whole_thing(alloc, own)?;
+            Ok(Flow::Gives(env, thing))
+        }
+        None => Ok(Flow::Stuck),
+    }
+}
+
+/// A key function, which is in scope from now on.
+fn key_function(
+    alloc: Global,
+    stage: &Stage,
+    name: &Ident,
+    this: &Ident,
+    arms: &KeyArms,
+    env: Env,
+) -> Result<Flow, AllocError>
+    ensures { let after = meaning.with_keys (scene_at stage.now) env name.now this.now arms.now in
+        IfOk result (λ flow. flow ≡ Flow.Gives after Thing.Nothing) }
+{
+    let env = bind_keys(alloc, stage, name, this, arms.as_slice(), env)?;
+    Ok(Flow::Gives(env, Thing::Nothing))
+}
+
+/// Nothing is done with what a name stands for.
+fn discarded(env: Env, name: &Spelling) -> Flow
+    ensures { result ≡ meaning.discarded env (look_up env.names name.now) }
+{
+    match find(env.names.as_slice(), name) {
+        Some(_) => Flow::Gives(env, Thing::Nothing),
+        None => Flow::Stuck,
+    }
 }
 
 /// What tokens give, which are pasted as they were written.

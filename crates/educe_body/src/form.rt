@@ -65,6 +65,17 @@ pub enum Form {
     Construct(Option<Ident>, FieldForm, Inits),
     /// The tokens of a default value, as they were written.
     Pasted(Written),
+    /// `*self`
+    WholeCopy,
+    /// `::core::unreachable!()`
+    Unreachable,
+    /// `let _ = name;`
+    Discard(Ident),
+    /// `self.field = path(x);`, or where the truth value holds `path(&mut self.field, x);`
+    AssignField(Word, Shared<ExprPath>, Boxed<Form>, bool),
+    /// `*name = path(x);`, or where the truth value holds `path(name, x);`: the name is `self`, or a
+    /// variable that a pattern binds to a field of it.
+    AssignThrough(Ident, Shared<ExprPath>, Boxed<Form>, bool),
 }
 
 /// Forms in their order.

@@ -2,6 +2,7 @@
 #![tactic(auto)]
 
 mod answers;
+mod assigning;
 mod bindings;
 mod body;
 mod built_in_paths;
@@ -26,6 +27,7 @@ mod print_constructors;
 mod print_headers;
 mod print_heads;
 mod print_items;
+mod print_markers;
 mod print_orders;
 mod print_patterns;
 mod reading;
@@ -39,7 +41,7 @@ mod value;
 
 pub use answers::{Answer, Answers, Row, Rows};
 pub use bindings::{binding, index_binding, name_binding};
-pub use body::{Body, CheckItem, Function, Functions, ImplItem, Item, Items, Names};
+pub use body::{Body, CheckItem, Function, Functions, ImplItem, Item, Items, MarkerItem, Names};
 pub use built_in_paths::built_in_path;
 pub use callee::{BuiltIn, Callee, built_in};
 pub use comparison::Comparison;

@@ -1,11 +1,13 @@
 //! The variants of values, and what patterns bind (Rust Reference, Patterns).
-ghost use Rattle.std.specs.Prelude.{◌≡◌, [], IfOk};
+ghost use Rattle.std.specs.Prelude.{◌≡◌, [], Some, IfOk};
 ghost use Rattle.std.specs.Option.{option_copied, option_map};
 ghost use Rattle.educe_body.specs.Matching as spec;
-ghost use Rattle.educe_body.specs.Meaning.{enter};
+ghost use Rattle.educe_body.specs.Meaning.{enter, referent_at, fields_from, scene_at, value_named, bound_named};
 
 use crate::environment::{Binding, Env, Referent};
 use crate::pattern::{Pattern, PatternField};
+use crate::reading::named;
+use crate::stage::Stage;
 use crate::text::is_text;
 use crate::value::{FieldValue, Value};
 use educe_tokens::Word;
@@ -32,6 +34,24 @@ pub(crate) fn fits(ast: &DeriveInput, pattern: &Pattern, value: &Value) -> bool
     }
 }
 
+/// Whether the value of a name, where there is one, is of the pattern's variant.
+pub(crate) fn fits_named(
+    alloc: Global,
+    stage: &Stage,
+    env: &Env,
+    pattern: &Pattern,
+    found: &Option<Referent>,
+) -> Result<Option<bool>, AllocError>
+    ensures { let here = scene_at stage.now in
+        let value = value_named here env.now found.now in
+        IfOk result (λ test. test ≡ option_map (spec.fits here.definition pattern.now) value) }
+{
+    match named(alloc, stage, env, found)? {
+        Some(value) => Ok(Some(fits(stage.scope.ast, pattern, &value))),
+        None => Ok(None),
+    }
+}
+
 /// Whether the key is the name of a field, and none where the field has none.
 pub(crate) fn has_key(key: &Option<Word>, name: &Option<Ident>) -> bool
     ensures { result ≡ spec.has_key key.now name.now }
@@ -44,17 +64,32 @@ pub(crate) fn has_key(key: &Option<Word>, name: &Option<Ident>) -> bool
 }
 
 /// Adds the name that a pattern gives a field, if it gives one.
-fn bind(alloc: Global, env: Env, name: &Option<Ident>, value: FieldValue) -> Result<Env, AllocError>
-    ensures { IfOk result (λ after. after ≡ enter env (spec.bound_to name.now value [])) }
+fn bind(
+    alloc: Global,
+    env: Env,
+    name: &Option<Ident>,
+    referent: Referent,
+) -> Result<Env, AllocError>
+    ensures { IfOk result (λ after. after ≡ enter env (spec.bound_to name.now referent [])) }
 {
     let mut env = env;
     if let Some(name) = name {
         env.names.push(Binding {
             name: name.text.duplicate(alloc)?,
-            referent: Referent::Bound(value),
+            referent,
         })?;
     }
     Ok(env)
+}
+
+/// What a field at a place stands for, where a pattern binds it of the value of a name.
+fn referent_at(found: &Option<Referent>, place: usize, x: FieldValue) -> Referent
+    ensures { result ≡ referent_at found.now place x }
+{
+    match found {
+        Some(Referent::This) => Referent::OwnField(place),
+        _ => Referent::Bound(x),
+    }
 }
 
 /// Adds what the fields of a pattern bind, if each has the key of its field and they are as many.
@@ -63,10 +98,12 @@ fn bind_fields(
     env: Env,
     fields: &[Field],
     pattern: &[PatternField],
+    found: &Option<Referent>,
     values: &[FieldValue],
 ) -> Result<Option<Env>, AllocError>
-    ensures { IfOk result (λ after.
-        after ≡ option_map (enter env) (spec.fields_bound fields.now pattern.now values.now)) }
+    ensures { let referents = fields_from found.now 0 values.now in
+        IfOk result (λ after.
+        after ≡ option_map (enter env) (spec.fields_bound fields.now pattern.now referents)) }
 {
     if fields.len() != pattern.len() || fields.len() != values.len() {
         return Ok(None);
@@ -76,34 +113,48 @@ fn bind_fields(
         if !has_key(&pattern[i].key, &fields[i].ident) {
             return Ok(None);
         }
-        env = bind(alloc, env, &pattern[i].name, values[i])?;
+        let referent = referent_at(found, i, values[i]);
+        env = bind(alloc, env, &pattern[i].name, referent)?;
     }
     Ok(Some(env))
 }
 
-/// Adds what a pattern binds of a value to the names in scope.
-pub(crate) fn bind_pattern(
+/// Adds what a pattern binds of a value of this variant, the value of a name, to the names in scope.
+fn bind_variant(
     alloc: Global,
-    ast: &DeriveInput,
+    variant: &Variant,
     pattern: &Pattern,
-    value: &Value,
+    found: &Option<Referent>,
+    values: &[FieldValue],
     env: Env,
 ) -> Result<Option<Env>, AllocError>
-    ensures { IfOk result (λ after.
-        after ≡ option_map (enter env) (spec.bindings_of ast.now pattern.now value.now)) }
+    ensures { let referents = fields_from found.now 0 values.now in
+        IfOk result (λ after.
+        after ≡ option_map (enter env) (spec.bound_of (Some variant.now) pattern.now referents)) }
 {
-    let Some(variant) = variant_of(ast, value) else {
-        return Ok(None);
-    };
     if pattern.rest {
         return Ok(Some(env));
     }
     let fields = variant.fields.fields.as_slice();
-    bind_fields(
-        alloc,
-        env,
-        fields,
-        pattern.fields.as_slice(),
-        value.fields.as_slice(),
-    )
+    bind_fields(alloc, env, fields, pattern.fields.as_slice(), found, values)
+}
+
+/// Adds what a pattern binds of the value of a name to the names in scope.
+pub(crate) fn bind_pattern(
+    alloc: Global,
+    stage: &Stage,
+    pattern: &Pattern,
+    found: &Option<Referent>,
+    env: Env,
+) -> Result<Option<Env>, AllocError>
+    ensures { let bindings = bound_named (scene_at stage.now) env pattern.now found.now in
+        IfOk result (λ after. after ≡ option_map (enter env) bindings) }
+{
+    let Some(value) = named(alloc, stage, &env, found)? else {
+        return Ok(None);
+    };
+    let Some(variant) = variant_of(stage.scope.ast, &value) else {
+        return Ok(None);
+    };
+    bind_variant(alloc, variant, pattern, found, value.fields.as_slice(), env)
 }

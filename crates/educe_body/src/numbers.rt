@@ -6,7 +6,7 @@ ghost use Rattle.educe_body.specs.Meaning as meaning;
 
 use crate::answers::{Answer, Answers};
 use crate::callee::Callee;
-use crate::environment::{Binding, Env, Referent};
+use crate::environment::{Binding, Env, Referent, own_value};
 use crate::key_function::{Constant, Distance, KeyArm};
 use crate::matching::fits;
 use crate::pattern::Pattern;
@@ -144,19 +144,15 @@ fn number_for(
 }
 
 /// What a key function stands for: its numbers for both values, with its parameter in scope.
-fn keys_of(
-    alloc: Global,
-    stage: &Stage,
-    names: &[Binding],
-    arms: &[KeyArm],
-) -> Result<Referent, AllocError>
+fn keys_of(alloc: Global, stage: &Stage, env: &Env, arms: &[KeyArm]) -> Result<Referent, AllocError>
     ensures { let here = meaning.scene_at stage.now in
-        let number_of = spec.arms_number here.definition here.answers names.now arms.now in
-        let this = option_and_then number_of here.this in
+        let number_of = spec.arms_number here.definition here.answers env.now.names arms.now in
+        let this = option_and_then number_of (meaning.own_value env.now.own) in
         let other = option_and_then number_of here.other in
         IfOk result (λ referent. referent ≡ Referent.Keys this other) }
 {
-    let this = number_for(alloc, stage, names, arms, stage.scope.this)?;
+    let names = env.names.as_slice();
+    let this = number_for(alloc, stage, names, arms, own_value(&env.own))?;
     let other = number_for(alloc, stage, names, arms, stage.scope.other)?;
     Ok(Referent::Keys(this, other))
 }
@@ -179,7 +175,7 @@ pub(crate) fn bind_keys(
         name: this.text.duplicate(alloc)?,
         referent: Referent::Inert,
     })?;
-    let referent = keys_of(alloc, stage, env.names.as_slice(), arms)?;
+    let referent = keys_of(alloc, stage, &env, arms)?;
     env.names.truncate(count);
     env.names.push(Binding {
         name: name.text.duplicate(alloc)?,

@@ -1,11 +1,12 @@
 //! The tokens of forms.
-ghost use Rattle.std.specs.Prelude.{OnOk};
+ghost use Rattle.std.specs.Prelude.{◌++◌, OnOk, codes};
 ghost use Rattle.std.specs.List.{flat_map};
 ghost use Rattle.educe_tokens.specs.Appends.{Appends, HasPrefix};
+ghost use Rattle.educe_tokens.specs.Quote.{quoted};
 ghost use Rattle.educe_tokens.proofs.Printable.{well_formed_from, ends_apart_from, lexes_back_from};
 ghost use Rattle.educe_body.specs.Printing.{comma_before, separated};
-ghost use Rattle.educe_body.specs.Printouts.{Prints, each, in_curly};
-ghost use Rattle.educe_body.specs.Tokens.{in_some, block_arms, known_printout, place_printout, position_printout, self_printout, construct_printout, in_form, form_printout, form_lexemes, arm_printout, init_printout, equal_arm, match_value_printout, if_let_head, if_let_printout, else_printout};
+ghost use Rattle.educe_body.specs.Printouts.{Prints, name, each, in_round, in_curly};
+ghost use Rattle.educe_body.specs.Tokens.{in_some, discard_printout, own_field_printout, lent_field_printout, result_printout, place_and_value, field_assignment, through_assignment, block_arms, known_printout, place_printout, position_printout, self_printout, construct_printout, in_form, form_printout, form_lexemes, arm_printout, init_printout, equal_arm, match_value_printout, if_let_head, if_let_printout, else_printout};
 
 use crate::form::{Arm, Form, Forms, Init, Inits, Known};
 use crate::pattern::Pattern;
@@ -59,24 +60,12 @@ impl ToTokens for Form {
             Form::BracedCopy(base, field) => push_braced_copy(alloc, tokens, base, field),
             Form::Key(function, value) => push_key_call(alloc, tokens, function, value),
             Form::Call(path, arguments) => push_call(alloc, tokens, path.get(), arguments),
-            Form::Not(inner) => {
-                quote(alloc, tokens, "!")?;
-                inner.get().to_tokens(alloc, tokens)
-            }
+            Form::Not(inner) => push_not(alloc, tokens, inner.get()),
             Form::SomeOf(inner) => push_some(alloc, tokens, inner.get()),
-            Form::IfReturn(test) => {
-                quote(alloc, tokens, "if")?;
-                test.get().to_tokens(alloc, tokens)?;
-                quote(alloc, tokens, "{ return false ; }")
-            }
-            Form::Return(inner) => {
-                quote(alloc, tokens, "return")?;
-                inner.get().to_tokens(alloc, tokens)?;
-                quote(alloc, tokens, ";")
-            }
+            Form::IfReturn(test) => push_if_return(alloc, tokens, test.get()),
+            Form::Return(inner) => push_return(alloc, tokens, inner.get()),
             Form::MatchOrdering(matched, partial, held, greater, less) => {
-                quote(alloc, tokens, "match")?;
-                matched.get().to_tokens(alloc, tokens)?;
+                push_matched(alloc, tokens, matched.get())?;
                 match held {
                     None => push_arm_block(alloc, tokens, *partial, *greater, *less),
                     Some(block) => {
@@ -96,16 +85,220 @@ impl ToTokens for Form {
                 push_key_function(alloc, tokens, function, this, *ty, arms.as_slice())
             }
             Form::Block(forms) => push_block(alloc, tokens, forms),
-            Form::HashPart(inner) => {
-                inner.get().to_tokens(alloc, tokens)?;
-                quote(alloc, tokens, ";")
-            }
+            Form::HashPart(inner) => push_statement(alloc, tokens, inner.get()),
             Form::Position(position) => push_position(alloc, tokens, *position),
             Form::Construct(variant, form, inits) => {
                 push_construct(alloc, tokens, variant, *form, inits)
             }
             Form::Pasted(written) => append_written(alloc, tokens, written),
+            Form::WholeCopy => quote(alloc, tokens, "* self"),
+            Form::Unreachable => quote(alloc, tokens, ":: core :: unreachable ! ( )"),
+            Form::Discard(name) => push_discard(alloc, tokens, name),
+            Form::AssignField(key, path, inner, handed) => {
+                push_field_assignment(alloc, tokens, *handed, key, path.get(), inner.get())
+            }
+            Form::AssignThrough(target, path, inner, handed) => {
+                push_through_assignment(alloc, tokens, *handed, target, path.get(), inner.get())
+            }
         }
+    }
+}
+
+/// Appends the opposite of a form.
+#[cycle(print)]
+fn push_not(alloc: Global, tokens: &mut TokenStream, inner: &Form) -> Result<(), AllocError>
+    ensures ok { OnOk result (Prints (form_printout (Form.Not inner.now)) tokens.old tokens.new) }
+    ensures prefix { HasPrefix tokens.old tokens.new }
+{
+    quote(alloc, tokens, "!")?;
+    inner.to_tokens(alloc, tokens)
+}
+
+/// Appends an `if` that returns false.
+#[cycle(print)]
+fn push_if_return(alloc: Global, tokens: &mut TokenStream, test: &Form) -> Result<(), AllocError>
+    ensures ok { OnOk result (Prints (form_printout (Form.IfReturn test.now)) tokens.old tokens.new) }
+    ensures prefix { HasPrefix tokens.old tokens.new }
+{
+    quote(alloc, tokens, "if")?;
+    test.to_tokens(alloc, tokens)?;
+    quote(alloc, tokens, "{ return false ; }")
+}
+
+/// Appends a statement that returns a form.
+#[cycle(print)]
+fn push_return(alloc: Global, tokens: &mut TokenStream, inner: &Form) -> Result<(), AllocError>
+    ensures ok { OnOk result (Prints (form_printout (Form.Return inner.now)) tokens.old tokens.new) }
+    ensures prefix { HasPrefix tokens.old tokens.new }
+{
+    quote(alloc, tokens, "return")?;
+    inner.to_tokens(alloc, tokens)?;
+    quote(alloc, tokens, ";")
+}
+
+/// Appends a form that stands as a statement.
+#[cycle(print)]
+fn push_statement(alloc: Global, tokens: &mut TokenStream, inner: &Form) -> Result<(), AllocError>
+    ensures ok { OnOk result (Prints (form_printout (Form.HashPart inner.now)) tokens.old tokens.new) }
+    ensures prefix { HasPrefix tokens.old tokens.new }
+{
+    inner.to_tokens(alloc, tokens)?;
+    quote(alloc, tokens, ";")
+}
+
+/// Appends what stands before the arms of a match on an order.
+#[cycle(print)]
+fn push_matched(alloc: Global, tokens: &mut TokenStream, matched: &Form) -> Result<(), AllocError>
+    ensures ok { let found = quoted (codes "match") ++ form_lexemes matched.now in
+        OnOk result (Appends found tokens.old tokens.new) }
+    ensures prefix { HasPrefix tokens.old tokens.new }
+{
+    quote(alloc, tokens, "match")?;
+    matched.to_tokens(alloc, tokens)
+}
+
+/// Appends a statement that does nothing with a name.
+fn push_discard(alloc: Global, tokens: &mut TokenStream, ident: &Ident) -> Result<(), AllocError>
+    ensures ok { OnOk result (Prints (discard_printout ident.now) tokens.old tokens.new) }
+    ensures prefix { HasPrefix tokens.old tokens.new }
+{
+    quote(alloc, tokens, "let _ =")?;
+    ident.to_tokens(alloc, tokens)?;
+    quote(alloc, tokens, ";")
+}
+
+/// Appends a field of `self`.
+fn push_own_field(alloc: Global, tokens: &mut TokenStream, key: &Word) -> Result<(), AllocError>
+    ensures ok { OnOk result (Prints (own_field_printout key.now) tokens.old tokens.new) }
+    ensures prefix { HasPrefix tokens.old tokens.new }
+{
+    quote(alloc, tokens, "self .")?;
+    push_word(alloc, tokens, key)
+}
+
+/// Appends what may write a field of `self`.
+fn push_lent_field(alloc: Global, tokens: &mut TokenStream, key: &Word) -> Result<(), AllocError>
+    ensures ok { OnOk result (Prints (lent_field_printout key.now) tokens.old tokens.new) }
+    ensures prefix { HasPrefix tokens.old tokens.new }
+{
+    quote(alloc, tokens, "& mut")?;
+    push_own_field(alloc, tokens, key)
+}
+
+/// Appends a form in round brackets.
+#[cycle(print)]
+fn push_in_round(alloc: Global, tokens: &mut TokenStream, inner: &Form) -> Result<(), AllocError>
+    ensures ok { OnOk result (Prints (in_round (form_printout inner.now)) tokens.old tokens.new) }
+    ensures prefix { HasPrefix tokens.old tokens.new }
+{
+    quote(alloc, tokens, "(")?;
+    inner.to_tokens(alloc, tokens)?;
+    quote(alloc, tokens, ")")
+}
+
+/// Appends what stands behind the place of an assignment: `= path(value);`
+#[cycle(print)]
+fn push_result(
+    alloc: Global,
+    tokens: &mut TokenStream,
+    path: &ExprPath,
+    value: &Form,
+) -> Result<(), AllocError>
+    ensures ok { let found = result_printout path.now.written (form_printout value.now) in
+        OnOk result (Prints found tokens.old tokens.new) }
+    ensures prefix { HasPrefix tokens.old tokens.new }
+{
+    quote(alloc, tokens, "=")?;
+    append_written(alloc, tokens, &path.written)?;
+    push_in_round(alloc, tokens, value)?;
+    quote(alloc, tokens, ";")
+}
+
+/// Appends a field of `self` and a form as the arguments of a call.
+#[cycle(print)]
+fn push_field_and_value(
+    alloc: Global,
+    tokens: &mut TokenStream,
+    key: &Word,
+    value: &Form,
+) -> Result<(), AllocError>
+    ensures ok { let found = place_and_value (lent_field_printout key.now) (form_printout value.now) in
+        OnOk result (Prints found tokens.old tokens.new) }
+    ensures prefix { HasPrefix tokens.old tokens.new }
+{
+    quote(alloc, tokens, "(")?;
+    push_lent_field(alloc, tokens, key)?;
+    quote(alloc, tokens, ",")?;
+    value.to_tokens(alloc, tokens)?;
+    quote(alloc, tokens, ")")
+}
+
+/// Appends an assignment to a field of `self`; where the truth value holds, the call is handed the
+/// field.
+#[cycle(print)]
+fn push_field_assignment(
+    alloc: Global,
+    tokens: &mut TokenStream,
+    handed: bool,
+    key: &Word,
+    path: &ExprPath,
+    value: &Form,
+) -> Result<(), AllocError>
+    ensures ok { let found = field_assignment handed key.now path.now.written (form_printout value.now) in
+        OnOk result (Prints found tokens.old tokens.new) }
+    ensures prefix { HasPrefix tokens.old tokens.new }
+{
+    if handed {
+        append_written(alloc, tokens, &path.written)?;
+        push_field_and_value(alloc, tokens, key, value)?;
+        quote(alloc, tokens, ";")
+    } else {
+        push_own_field(alloc, tokens, key)?;
+        push_result(alloc, tokens, path, value)
+    }
+}
+
+/// Appends a name and a form as the arguments of a call.
+#[cycle(print)]
+fn push_name_and_value(
+    alloc: Global,
+    tokens: &mut TokenStream,
+    target: &Ident,
+    value: &Form,
+) -> Result<(), AllocError>
+    ensures ok { let found = place_and_value (name target.now) (form_printout value.now) in
+        OnOk result (Prints found tokens.old tokens.new) }
+    ensures prefix { HasPrefix tokens.old tokens.new }
+{
+    quote(alloc, tokens, "(")?;
+    target.to_tokens(alloc, tokens)?;
+    quote(alloc, tokens, ",")?;
+    value.to_tokens(alloc, tokens)?;
+    quote(alloc, tokens, ")")
+}
+
+/// Appends an assignment through a name; where the truth value holds, the call is handed the name.
+#[cycle(print)]
+fn push_through_assignment(
+    alloc: Global,
+    tokens: &mut TokenStream,
+    handed: bool,
+    target: &Ident,
+    path: &ExprPath,
+    value: &Form,
+) -> Result<(), AllocError>
+    ensures ok { let found = through_assignment handed target.now path.now.written (form_printout value.now) in
+        OnOk result (Prints found tokens.old tokens.new) }
+    ensures prefix { HasPrefix tokens.old tokens.new }
+{
+    if handed {
+        append_written(alloc, tokens, &path.written)?;
+        push_name_and_value(alloc, tokens, target, value)?;
+        quote(alloc, tokens, ";")
+    } else {
+        quote(alloc, tokens, "*")?;
+        target.to_tokens(alloc, tokens)?;
+        push_result(alloc, tokens, path, value)
     }
 }
 
@@ -424,9 +617,7 @@ fn push_some(alloc: Global, tokens: &mut TokenStream, inner: &Form) -> Result<()
     ensures prefix { HasPrefix tokens.old tokens.new }
 {
     quote(alloc, tokens, ":: core :: option :: Option :: Some")?;
-    quote(alloc, tokens, "(")?;
-    inner.to_tokens(alloc, tokens)?;
-    quote(alloc, tokens, ")")
+    push_in_round(alloc, tokens, inner)
 }
 
 /// Appends forms with commas between.

@@ -4,12 +4,12 @@ ghost use Rattle.educe_tokens.specs.Appends.{HasPrefix};
 ghost use Rattle.educe_tokens.proofs.Printable.{well_formed_from, ends_apart_from, lexes_back_from};
 ghost use Rattle.educe_body.specs.Headers.{in_angle};
 ghost use Rattle.educe_body.specs.Printouts.{Prints, written, each};
-ghost use Rattle.educe_body.specs.Tokens.{check_call, inner_parameter, inner_function, outer_head, outer_function, check_start, check_printout};
+ghost use Rattle.educe_body.specs.Tokens.{check_call, inner_parameter, inner_function, outer_head, outer_function, constant_start, check_printout};
 
 use crate::body::{CheckItem, Names};
 use crate::print_headers::{push_params, push_where};
 use crate::print_heads::push_name;
-use educe_tokens::{TokenStream, append_written, quote};
+use educe_tokens::{TokenStream, Written, append_written, quote};
 use educe_tree::{ToTokens, Ty};
 use std::alloc::{AllocError, Global};
 
@@ -105,15 +105,19 @@ impl CheckItem {
         push_calls(alloc, tokens, &self.names, self.types.as_slice())?;
         quote(alloc, tokens, "}")
     }
+}
 
-    /// Appends what stands before the block of the constant.
-    fn push_constant(&self, alloc: Global, tokens: &mut TokenStream) -> Result<(), AllocError>
-        ensures ok { OnOk result (Prints (check_start self.now) tokens.old tokens.new) }
-        ensures prefix { HasPrefix tokens.old tokens.new }
-    {
-        append_written(alloc, tokens, &self.attributes)?;
-        quote(alloc, tokens, "const _ : ( ) =")
-    }
+/// Appends what stands before the block of an unnamed constant with these attributes.
+pub(crate) fn push_constant(
+    alloc: Global,
+    tokens: &mut TokenStream,
+    attributes: &Written,
+) -> Result<(), AllocError>
+    ensures ok { OnOk result (Prints (constant_start attributes.now) tokens.old tokens.new) }
+    ensures prefix { HasPrefix tokens.old tokens.new }
+{
+    append_written(alloc, tokens, attributes)?;
+    quote(alloc, tokens, "const _ : ( ) =")
 }
 
 impl ToTokens for CheckItem {
@@ -126,7 +130,7 @@ impl ToTokens for CheckItem {
     ghost lexes_back = { λ check. lexes_back_from (check_printout check).printable };
 
     fn to_tokens(&self, alloc: Global, tokens: &mut TokenStream) -> Result<(), AllocError> {
-        self.push_constant(alloc, tokens)?;
+        push_constant(alloc, tokens, &self.attributes)?;
         quote(alloc, tokens, "{")?;
         self.push_function(alloc, tokens)?;
         quote(alloc, tokens, "}")?;

@@ -25,6 +25,10 @@ enum Head {
     Hash,
     /// That of `Default::default`.
     Default,
+    /// That of `Clone::clone`.
+    Clone,
+    /// That of `Clone::clone_from`.
+    CloneFrom,
 }
 
 /// This head, if the name is this.
@@ -49,7 +53,11 @@ fn head_of(which: Trait, name: &Word) -> Option<Head>
         Trait::Ord => if_named(name, "cmp", Head::Cmp),
         Trait::Hash => if_named(name, "hash", Head::Hash),
         Trait::Default => if_named(name, "default", Head::Default),
-        Trait::Debug | Trait::Clone | Trait::Copy | Trait::Eq => None,
+        Trait::Clone => match if_named(name, "clone", Head::Clone) {
+            Some(head) => Some(head),
+            None => if_named(name, "clone_from", Head::CloneFrom),
+        },
+        Trait::Debug | Trait::Copy | Trait::Eq => None,
     }
 }
 
@@ -101,6 +109,8 @@ fn push_own_head(
         }
         Head::Hash => push_hash_head(alloc, tokens, params),
         Head::Default => quote(alloc, tokens, "fn default ( ) -> Self"),
+        Head::Clone => quote(alloc, tokens, "fn clone ( & self ) -> Self"),
+        Head::CloneFrom => push_clone_from_head(alloc, tokens, params),
     }
 }
 
@@ -123,25 +133,28 @@ fn push_comparing_head(
     ensures prefix { HasPrefix tokens.old tokens.new }
 {
     quote(alloc, tokens, front)?;
-    push_parameters(alloc, tokens, params, other)?;
+    push_parameters(alloc, tokens, "& self ,", params, other)?;
     quote(alloc, tokens, behind)
 }
 
-/// Appends parameters in round brackets: `self`, and another whose type this template writes.
+/// Appends parameters in round brackets: `self` as this template writes it, and another whose type
+/// the other template writes.
 fn push_parameters(
     alloc: Global,
     tokens: &mut TokenStream,
+    own: &str,
     params: &Names,
     other: &str,
 ) -> Result<(), AllocError>
-    requires { IsTrue (is_template other.now) }
-    ensures ok { let inside = quoted (codes "& self ,") ++ (spec.name_at 0 params.now).tokens ++ quoted other.now in
+    requires own { IsTrue (is_template own.now) }
+    requires other { IsTrue (is_template other.now) }
+    ensures ok { let inside = quoted own.now ++ (spec.name_at 0 params.now).tokens ++ quoted other.now in
         let found = quoted (codes "(") ++ inside ++ quoted (codes ")") in
         OnOk result (Appends found tokens.old tokens.new) }
     ensures prefix { HasPrefix tokens.old tokens.new }
 {
     quote(alloc, tokens, "(")?;
-    quote(alloc, tokens, "& self ,")?;
+    quote(alloc, tokens, own)?;
     push_name(alloc, tokens, params, 0)?;
     quote(alloc, tokens, other)?;
     quote(alloc, tokens, ")")
@@ -183,6 +196,19 @@ fn push_hash_parameters(
     push_name(alloc, tokens, params, 0)?;
     quote(alloc, tokens, ": & mut")?;
     push_name(alloc, tokens, params, 1)
+}
+
+/// Appends the head of `clone_from`.
+fn push_clone_from_head(
+    alloc: Global,
+    tokens: &mut TokenStream,
+    params: &Names,
+) -> Result<(), AllocError>
+    ensures ok { OnOk result (Prints (spec.clone_from_head params.now) tokens.old tokens.new) }
+    ensures prefix { HasPrefix tokens.old tokens.new }
+{
+    quote(alloc, tokens, "fn clone_from")?;
+    push_parameters(alloc, tokens, "& mut self ,", params, ": & Self")
 }
 
 /// Appends the head of a function that the trait does not have.

@@ -150,6 +150,7 @@ impl ToTokens for Item {
             Item::Impl(item) => item.to_tokens(alloc, tokens),
             Item::New(item) => item.push_inherent(alloc, tokens),
             Item::FieldCheck(check) => check.to_tokens(alloc, tokens),
+            Item::Marker(marker) => marker.to_tokens(alloc, tokens),
         }
     }
 }

@@ -1,10 +1,10 @@
 //! What names stand for, and the fields of values.
-ghost use Rattle.std.specs.Prelude.{◌≡◌};
+ghost use Rattle.std.specs.Prelude.{◌≡◌, IfOk};
 ghost use Rattle.std.specs.Option.{option_copied};
 ghost use Rattle.educe_body.specs.Keys.{keys_from};
-ghost use Rattle.educe_body.specs.Meaning.{scene_at, look_up, reference_value, local_flow, value_named, number_for, key_of, field_of, part_of, whole_value};
+ghost use Rattle.educe_body.specs.Meaning.{scene_at, look_up, reference_value, local_value, local_flow, value_named, number_for, key_of, field_of, own_field, part_of, place_named, field_named, whole_value};
 
-use crate::environment::{Binding, Env, Referent};
+use crate::environment::{Binding, Env, Referent, own_value};
 use crate::flow::{Flow, Thing, part_flow};
 use crate::keys::{has_key, index_of};
 use crate::stage::Stage;
@@ -13,6 +13,7 @@ use crate::value::{FieldValue, Value};
 use educe_discriminants::Number;
 use educe_tokens::Spelling;
 use educe_tree::{Field, Shape};
+use std::alloc::{AllocError, Global};
 
 /// What a name stands for: the innermost binding, which is the last, counts.
 pub(crate) fn find(names: &[Binding], name: &Spelling) -> Option<Referent>
@@ -27,28 +28,64 @@ pub(crate) fn find(names: &[Binding], name: &Spelling) -> Option<Referent>
     found
 }
 
-/// What a name gives, by what it stands for: a value, as a table is shown it, or what does not count.
-pub(crate) fn local(stage: &Stage, env: Env, found: Option<Referent>) -> Flow
-    ensures { result ≡ local_flow (scene_at stage.now) env found }
+/// The field at a place of the value of `self`.
+fn own_field(place: usize, value: Option<&Value>) -> Option<FieldValue>
+    ensures { result ≡ own_field place (option_copied value.entry) }
+{
+    let Some(value) = value else {
+        return None;
+    };
+    value.fields.as_slice().get(place).copied()
+}
+
+/// The value that a name stands for, as a table is shown it.
+pub(crate) fn local_value(stage: &Stage, env: &Env, found: &Option<Referent>) -> Option<FieldValue>
+    ensures { result ≡ local_value (scene_at stage.now) env.now found.now }
 {
     match found {
-        None => Flow::Stuck,
-        Some(Referent::This) => part_flow(env, whole(stage.scope.this)),
-        Some(Referent::Other) => part_flow(env, whole(stage.scope.other)),
-        Some(Referent::Bound(value)) => Flow::Gives(env, Thing::Part(value)),
-        Some(Referent::Keys(_, _)) => Flow::Stuck,
-        Some(Referent::Inert) => Flow::Gives(env, Thing::Inert),
+        Some(Referent::This) => whole(own_value(&env.own)),
+        Some(Referent::Other) => whole(stage.scope.other),
+        Some(Referent::OwnField(place)) => own_field(*place, own_value(&env.own)),
+        Some(Referent::Bound(value)) => Some(*value),
+        _ => None,
     }
 }
 
-/// The whole value that a name stands for.
-pub(crate) fn named<'a>(stage: &Stage<'a>, names: &[Binding], name: &Spelling) -> Option<&'a Value>
-    ensures { option_copied result ≡ value_named (scene_at stage.now) (look_up names.now name.now) }
+/// What a name gives, by what it stands for: a value, as a table is shown it, or what does not count.
+pub(crate) fn local(stage: &Stage, env: Env, found: &Option<Referent>) -> Flow
+    ensures { result ≡ local_flow (scene_at stage.now) env found.now }
 {
-    match find(names, name) {
-        Some(Referent::This) => stage.scope.this,
-        Some(Referent::Other) => stage.scope.other,
-        _ => None,
+    match found {
+        Some(Referent::Inert) => Flow::Gives(env, Thing::Inert),
+        _ => {
+            let part = local_value(stage, &env, found);
+            part_flow(env, part)
+        }
+    }
+}
+
+/// The whole value that a name stands for, copied.
+pub(crate) fn named(
+    alloc: Global,
+    stage: &Stage,
+    env: &Env,
+    found: &Option<Referent>,
+) -> Result<Option<Value>, AllocError>
+    ensures { IfOk result (λ value. value ≡ value_named (scene_at stage.now) env.now found.now) }
+{
+    match found {
+        Some(Referent::This) => copied(alloc, own_value(&env.own)),
+        Some(Referent::Other) => copied(alloc, stage.scope.other),
+        _ => Ok(None),
+    }
+}
+
+fn copied(alloc: Global, value: Option<&Value>) -> Result<Option<Value>, AllocError>
+    ensures { IfOk result (λ copy. copy ≡ option_copied value.entry) }
+{
+    match value {
+        Some(value) => Ok(Some(value.duplicate(alloc)?)),
+        None => Ok(None),
     }
 }
 
@@ -91,14 +128,44 @@ fn whole(value: Option<&Value>) -> Option<FieldValue>
 }
 
 /// The field of the value that a base stands for.
-pub(crate) fn reference(stage: &Stage, base: Option<Referent>, key: &Spelling) -> Option<FieldValue>
-    ensures { result ≡ reference_value (scene_at stage.now) base key.now }
+pub(crate) fn reference(
+    stage: &Stage,
+    env: &Env,
+    base: Option<Referent>,
+    key: &Spelling,
+) -> Option<FieldValue>
+    ensures { result ≡ reference_value (scene_at stage.now) env.now base key.now }
 {
     match base {
-        None => None,
-        Some(Referent::This) => field(stage, stage.scope.this, key),
+        Some(Referent::This) => field(stage, own_value(&env.own), key),
         Some(Referent::Other) => field(stage, stage.scope.other, key),
         _ => None,
+    }
+}
+
+/// The place of the first field of that key.
+fn place(fields: &[Field], key: &Spelling) -> Option<usize>
+    ensures { result ≡ place_named (keys_from 0 fields.now) key.now }
+{
+    let index = index_of(key);
+    for (i, field) in fields.iter().enumerate() {
+        if has_key(i, field, key, index) {
+            return Some(i);
+        }
+    }
+    None
+}
+
+/// The field of `self` of this key, as what a name stands for.
+pub(crate) fn field_named(stage: &Stage, key: &Spelling) -> Option<Referent>
+    ensures { result ≡ field_named (scene_at stage.now) key.now }
+{
+    let Shape::Struct(shape) = &stage.scope.ast.shape else {
+        return None;
+    };
+    match place(shape.fields.as_slice(), key) {
+        Some(place) => Some(Referent::OwnField(place)),
+        None => None,
     }
 }
 

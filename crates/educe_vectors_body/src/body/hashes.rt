@@ -2,7 +2,7 @@
 use crate::body::{call, list_of_two, scope_of, word_list};
 use crate::outcomes::{Seen, lent};
 use crate::values::{table, value};
-use educe_body::{Body, BuiltIn, Form, Forms, Outcome, Position, eval};
+use educe_body::{Body, BuiltIn, FieldValue, Form, Forms, Outcome, Position, eval};
 use educe_syntax::Ident;
 use educe_tokens::{Boxed, Seq, Word};
 use educe_vectors_checks::{check_at, definition};
@@ -71,6 +71,10 @@ fn check(alloc: Global, cases: &[Case]) -> Result<(), Fail> {
     Ok(())
 }
 
+const FIVE: FieldValue = FieldValue { ty: 0, number: 5 };
+
+const SEVEN: FieldValue = FieldValue { ty: 0, number: 7 };
+
 #[test]
 fn feeds_a_hasher_in_order(rt: HostRuntime) -> Result<(), Fail> {
     check(
@@ -89,7 +93,11 @@ fn feeds_a_hasher_in_order(rt: HostRuntime) -> Result<(), Fail> {
             (&["state", "H"], &[], Seen::Parts(&[])),
             (&["state", "H"], &[Fed::Hasher], Seen::Stuck),
             (&["state"], &[Fed::Field], Seen::Stuck),
-            (&["state", "H", "other"], &[Fed::Field], Seen::Stuck),
+            (
+                &["state", "H", "other"],
+                &[Fed::Field],
+                Seen::Made(0, &[FIVE, SEVEN]),
+            ),
         ],
     )
 }

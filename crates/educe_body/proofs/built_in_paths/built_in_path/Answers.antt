@@ -1,5 +1,5 @@
 use Rattle.std.proofs.lemmas.Result.{IfOk-weaker}
-use Rattle.educe_body.specs.declared.callee.BuiltIn.TheVariants.{Ne, Cmp, PartialCmp, Hash}
+use Rattle.educe_body.specs.declared.callee.BuiltIn.TheVariants.{Ne, Cmp, PartialCmp, Hash, Clone, CloneFrom}
 use Rattle.educe_body.specs.BuiltIn.{path_lexemes, IsMade, IsBuiltIn}
 use Rattle.educe_body.specs.Callees.{path_names}
 use Rattle.educe_body.proofs.MadePaths.{built_in_reads}
@@ -17,3 +17,10 @@ returns-in-PartialCmp c =
 
 pub returns-in-Hash : goal.returns-in-Hash
 returns-in-Hash c = rw c.in-Hash.is (IfOk-weaker _ (IsMade (path_lexemes Hash) (path_names Hash)) (IsBuiltIn Hash) (built_in_reads Hash) c.trait_path-in-Hash.ensures)
+
+pub returns-in-Clone : goal.returns-in-Clone
+returns-in-Clone c = rw c.in-Clone.is (IfOk-weaker _ (IsMade (path_lexemes Clone) (path_names Clone)) (IsBuiltIn Clone) (built_in_reads Clone) c.trait_path-in-Clone.ensures)
+
+pub returns-in-CloneFrom : goal.returns-in-CloneFrom
+returns-in-CloneFrom c =
+    rw c.in-CloneFrom.is (IfOk-weaker _ (IsMade (path_lexemes CloneFrom) (path_names CloneFrom)) (IsBuiltIn CloneFrom) (built_in_reads CloneFrom) c.trait_path-in-CloneFrom.ensures)

@@ -1,26 +1,25 @@
-use Rattle.std.proofs.Common.{◌≡◌, Option, IfOk, sym, ap, subst, ◌∙◌, ◌++◌, drop, ◌+◌, arith}
+use Rattle.std.proofs.Common.{◌≡◌, Some, IfOk, sym, ap, subst, ◌∙◌, ◌++◌, drop, ◌+◌, arith}
 use Rattle.std.specs.Prelude.{Result, true, false}
 use Rattle.std.specs.declared.alloc.AllocError.{AllocError}
-use Rattle.educe_body.specs.declared.callee.Callee.{Callee}
 use Rattle.educe_body.specs.declared.form.Form.{Form}
 use Rattle.educe_body.specs.declared.flow.Flow.{Flow}
 use Rattle.educe_body.specs.declared.flow.Flow.TheVariants.{Gives, Returns, Stuck}
 use Rattle.educe_body.specs.Scoping.{callee_in}
-use Rattle.educe_body.specs.Meaning.{scene_at, form_value, args_list, arms_list, held_list, call_named, look_up, value_named, with_value, or_nothing, Scene, with_case, inits_list, built, built_value}
-use Rattle.educe_body.proofs.Rows.{form_value-Call, form_value-Not, form_value-SomeOf, form_value-IfReturn, form_value-Return, form_value-HashPart, form_value-Construct, form_value-MatchOrdering, form_value-MatchValue, form_value-Block, match_held, if_let_known, args_list-step, args_list-gathered, args_list-all, counted-gathers, inits_list-step, inits_list-gathered, inits_list-fewer, inits_list-all}
+use Rattle.educe_body.specs.Meaning.{scene_at, form_value, args_list, arms_list, held_list, call_named, call_value, look_up, with_named, go_on, assign, or_nothing, Scene, built}
+use Rattle.educe_body.proofs.Rows.{form_value-Call, form_value-Not, form_value-SomeOf, form_value-IfReturn, form_value-Return, form_value-HashPart, form_value-Construct, form_value-MatchOrdering, form_value-MatchValue, form_value-Block, form_value-AssignField, form_value-AssignThrough, match_held, if_let_known, args_list-step, args_list-gathered, args_list-all, counted-gathers, inits_list-step, inits_list-gathered, inits_list-fewer, inits_list-all}
 use Rattle.educe_body.proofs.evaluator.+run.Goals as goal
 
 -- a result that ends as one flow ends as another that is the same
 ends_alike : (result : Result Flow AllocError) (flow other : Flow) → flow ≡ other → IfOk result (λ given. given ≡ flow) → IfOk result (λ given. given ≡ other)
 ends_alike result flow other same ends = subst (λ (flow : Flow). IfOk result (λ given. given ≡ flow)) same ends
 
-pub run_form-returns-in_ok-callee-in-Call : goal.run_form-returns-in_ok-callee-in-Call
-run_form-returns-in_ok-callee-in-Call t c =
+pub run_form-returns-in-Call : goal.run_form-returns-in-Call
+run_form-returns-in-Call t c =
     let s = scene_at c.args.stage.now in
-    let called = c.in_ok-callee-in-Call.ensures ∙ (λ i. callee_in (c.as_slice.ensures i) (c.get.ensures i)) in
-    let whole = ap (form_value s c.args.env) c.in-Call.is ∙ form_value-Call s c.args.env c.in-Call.path c.in-Call.arguments
-    ∙ ap (λ (callee : Option Callee). args_list s c.args.env c.in-Call.arguments (call_named c.args.stage.now.answers.now callee)) (sym called) in
-    subst (λ (flow : Flow). IfOk c.run_call.result (λ given. given ≡ flow)) (sym whole) c.run_call.ensures
+    let arm = c.in-Call in
+    ends_alike c.run_call.result _ _
+    (ap (λ path. args_list s c.args.env arm.arguments (call_value s c.args.env.names path)) c.get.ensures ∙ sym (ap (form_value s c.args.env) arm.is ∙ form_value-Call s c.args.env arm.path arm.arguments))
+    c.run_call.ensures
 
 pub run_form-returns-in_ok-run_form-in-Not : goal.run_form-returns-in_ok-run_form-in-Not
 run_form-returns-in_ok-run_form-in-Not t c =
@@ -47,19 +46,6 @@ run_form-returns-in_ok-run_form-in-HashPart t c =
     let s = scene_at c.args.stage.now in
     rw (c.in-HashPart.is, form_value-HashPart s c.args.env c.in-HashPart.inner, sym c.get-in-HashPart.ensures) (rw c.in_ok-run_form-in-HashPart.ensures at c.hash_part.ensures)
 
-pub run_form-returns-in-Some-case_named : goal.run_form-returns-in-Some-case_named
-run_form-returns-in-Some-case_named t c =
-    let s = scene_at c.args.stage.now in
-    let arm = c.in-Construct in
-    let case = c.in-Some-case_named.case in
-    ends_alike c.run_inits.result _ _
-    (
-    (λ i. inits_list s c.args.env (c.as_slice-in-Some-case_named.ensures i) case.fields.now (built case.variant))
-    ∙ ap (λ found. with_case found (built_value s c.args.env arm.inits)) c.in-Some-case_named.ensures
-    ∙ sym (ap (form_value s c.args.env) arm.is ∙ form_value-Construct s c.args.env arm.name arm.field-1 arm.inits)
-    )
-    c.run_inits.ensures
-
 pub run_form-returns-in-None : goal.run_form-returns-in-None
 run_form-returns-in-None t c =
     let s = scene_at c.args.stage.now in
@@ -81,31 +67,64 @@ pub run_form-returns-in-MatchValue : goal.run_form-returns-in-MatchValue
 run_form-returns-in-MatchValue t c =
     let s = scene_at c.args.stage.now in
     let arm = c.in-MatchValue in
-    let value = c.named-value.ensures ∙ ap (λ names. value_named s (look_up names arm.name.text)) c.as_slice-in-MatchValue.ensures in
     ends_alike c.run_arms.result _ _
-    ((λ i. with_value (value i) (arms_list s c.args.env (c.as_slice-in-MatchValue-2.ensures i))) ∙ sym (ap (form_value s c.args.env) arm.is ∙ form_value-MatchValue s c.args.env arm.name arm.arms))
+    (
+    ap (λ arms. with_named s c.args.env (look_up c.args.env.names arm.name.text) (arms_list s c.args.env arms)) c.as_slice.ensures
+    ∙ sym (ap (form_value s c.args.env) arm.is ∙ form_value-MatchValue s c.args.env arm.name arm.arms)
+    )
     c.run_arms.ensures
 
-pub run_form-returns-then-fits : goal.run_form-returns-then-fits
-run_form-returns-then-fits t c =
+pub run_form-returns-in-Some-true : goal.run_form-returns-in-Some-true
+run_form-returns-in-Some-true t c =
     let s = scene_at c.args.stage.now in
     let arm = c.in-IfLet in
-    let value = sym (c.in-Some-named.ensures ∙ ap (λ names. value_named s (look_up names arm.name.text)) c.as_slice-in-IfLet.ensures) in
+    let found = c.find-found.ensures ∙ ap (λ names. look_up names arm.name.text) c.as_slice-in-IfLet.ensures in
+    let test = sym c.in_ok-fits_named-in-IfLet.ensures ∙ c.in-Some-true.is ∙ ap Some c.in-Some-true.field-0-test in
     ends_alike c.run_taken.result _ _
-    (sym (if_let_known s c.args.env c.args.form.now arm.pattern arm.name arm.forms arm.others c.in-Some-named.value.now true arm.is value (sym c.fits.ensures ∙ c.if-fits.true)))
+    (sym (if_let_known s c.args.env c.args.form.now arm.pattern arm.name arm.forms arm.others c.find-found.result true arm.is found test))
     c.run_taken.ensures
 
 pub run_form-returns-in-Some-others : goal.run_form-returns-in-Some-others
 run_form-returns-in-Some-others t c =
     let s = scene_at c.args.stage.now in
     let arm = c.in-IfLet in
-    let value = sym (c.in-Some-named.ensures ∙ ap (λ names. value_named s (look_up names arm.name.text)) c.as_slice-in-IfLet.ensures) in
+    let found = c.find-found.ensures ∙ ap (λ names. look_up names arm.name.text) c.as_slice-in-IfLet.ensures in
+    let test = sym c.in_ok-fits_named-in-IfLet.ensures ∙ c.in-Some-false.is ∙ ap Some c.in-Some-false.field-0-test in
     ends_alike c.run_inner.result _ _
     (
     ap (λ others. or_nothing c.args.env (held_list s others)) (sym c.in-Some-others.is)
-    ∙ sym (if_let_known s c.args.env c.args.form.now arm.pattern arm.name arm.forms arm.others c.in-Some-named.value.now false arm.is value (sym c.fits.ensures ∙ c.if-fits.false))
+    ∙ sym (if_let_known s c.args.env c.args.form.now arm.pattern arm.name arm.forms arm.others c.find-found.result false arm.is found test)
     )
     c.run_inner.ensures
+
+pub run_form-returns-in-Construct : goal.run_form-returns-in-Construct
+run_form-returns-in-Construct t c =
+    let s = scene_at c.args.stage.now in
+    let arm = c.in-Construct in
+    ends_alike c.run_construct.result _ _ (sym (ap (form_value s c.args.env) arm.is ∙ form_value-Construct s c.args.env arm.name arm.field-1 arm.inits)) c.run_construct.ensures
+
+pub run_form-returns-in-AssignField : goal.run_form-returns-in-AssignField
+run_form-returns-in-AssignField t c =
+    let s = scene_at c.args.stage.now in
+    let arm = c.in-AssignField in
+    ends_alike c.run_assign.result _ _
+    (
+    (λ i. go_on (form_value s c.args.env (c.get-in-AssignField-2.ensures i)) (assign s (c.get-in-AssignField.ensures i) arm.handed (c.field_named-target.ensures i)))
+    ∙ sym (ap (form_value s c.args.env) arm.is ∙ form_value-AssignField s c.args.env arm.key arm.path arm.inner arm.handed)
+    )
+    c.run_assign.ensures
+
+pub run_form-returns-in-AssignThrough : goal.run_form-returns-in-AssignThrough
+run_form-returns-in-AssignThrough t c =
+    let s = scene_at c.args.stage.now in
+    let arm = c.in-AssignThrough in
+    let target = c.find-target.ensures ∙ ap (λ names. look_up names arm.name.text) c.as_slice-in-AssignThrough.ensures in
+    ends_alike c.run_assign-in-AssignThrough.result _ _
+    (
+    (λ i. go_on (form_value s c.args.env (c.get-in-AssignThrough-2.ensures i)) (assign s (c.get-in-AssignThrough.ensures i) arm.handed (target i)))
+    ∙ sym (ap (form_value s c.args.env) arm.is ∙ form_value-AssignThrough s c.args.env arm.name arm.path arm.inner arm.handed)
+    )
+    c.run_assign-in-AssignThrough.ensures
 
 pub run_form-returns-in-Block : goal.run_form-returns-in-Block
 run_form-returns-in-Block t c =
@@ -115,7 +134,7 @@ run_form-returns-in-Block t c =
 pub run_call-returns-in-Returns : goal.run_call-returns-in-Returns
 run_call-returns-in-Returns t c =
     let s = scene_at c.args.stage.now in
-    let next = call_named c.args.stage.now.answers.now c.args.callee.now in
+    let next = call_value s c.args.env.names c.args.path.now in
     sym (
     args_list-step s c.loop-argument.env c.as_slice-argument-items.result.now c.loop-argument.argument-index c.argument-item.result c.in_ok-next.field-0 (Returns c.in-Returns.end c.in-Returns.thing)
     (λ env more. next env (c.loop-argument.things ++ more)) c.loop-argument-test.true c.argument-item.is c.in_ok-next.ensures c.in-Returns.is
@@ -125,7 +144,7 @@ run_call-returns-in-Returns t c =
 pub run_call-returns-in-Stuck : goal.run_call-returns-in-Stuck
 run_call-returns-in-Stuck t c =
     let s = scene_at c.args.stage.now in
-    let next = call_named c.args.stage.now.answers.now c.args.callee.now in
+    let next = call_value s c.args.env.names c.args.path.now in
     sym (
     args_list-step s c.loop-argument.env c.as_slice-argument-items.result.now c.loop-argument.argument-index c.argument-item.result c.in_ok-next.field-0 Stuck
     (λ env more. next env (c.loop-argument.things ++ more)) c.loop-argument-test.true c.argument-item.is c.in_ok-next.ensures c.in-Stuck.is
@@ -135,24 +154,25 @@ run_call-returns-in-Stuck t c =
 pub run_call-loop-argument-preserved : goal.run_call-loop-argument-preserved
 run_call-loop-argument-preserved t c =
     let s = scene_at c.args.stage.now in
-    let next = call_named c.args.stage.now.answers.now c.args.callee.now in
+    let next = call_value s c.args.env.names c.args.path.now in
     let forms = c.as_slice-argument-items.result.now in
     let before = c.loop-argument.things in
     record {
-      rest = args_list-gathered s c.in-Gives.next c.args.stage.now.answers.now c.args.callee.now before c.in_ok-things-in-Gives.things c.in-Gives.thing (drop (c.loop-argument.argument-index + 1) forms) c.in_ok-things-in-Gives.ensures
+      rest = args_list-gathered s c.in-Gives.next c.args.stage.now.answers.now (callee_in c.args.env.names c.args.path.now) before c.in_ok-things-in-Gives.things c.in-Gives.thing (drop (c.loop-argument.argument-index + 1) forms) c.in_ok-things-in-Gives.ensures
           ∙ sym (
           args_list-step s c.loop-argument.env forms c.loop-argument.argument-index c.argument-item.result c.in_ok-next.field-0 (Gives c.in-Gives.next c.in-Gives.thing)
           (λ env more. next env (before ++ more)) c.loop-argument-test.true c.argument-item.is c.in_ok-next.ensures c.in-Gives.is
           )
           ∙ c.loop-argument.invariant.rest;
+      same = c.loop-argument.invariant.same;
       all = counted-gathers before c.in_ok-things-in-Gives.things c.in-Gives.thing c.loop-argument.invariant.all c.in_ok-things-in-Gives.ensures;
     }
 
 pub run_call-returns : goal.run_call-returns
 run_call-returns t c =
     let s = scene_at c.args.stage.now in
-    let next = call_named c.args.stage.now.answers.now c.args.callee.now in
-    c.called.ensures ∙ ap (next c.loop-argument.env) c.as_slice.ensures
+    let next = call_value s c.args.env.names c.args.path.now in
+    c.called.ensures ∙ (λ i. call_named c.args.stage.now.answers.now (c.loop-argument.invariant.same i) c.loop-argument.env (c.as_slice-2.ensures i))
     ∙ args_list-all s c.loop-argument.env c.as_slice-argument-items.result.now c.loop-argument.argument-index c.loop-argument.things next c.loop-argument-test.false
     ∙ c.loop-argument.invariant.rest
 

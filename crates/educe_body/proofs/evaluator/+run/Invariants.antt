@@ -1,5 +1,6 @@
 use Rattle.std.proofs.Common.{◌≡◌, ◌++◌, drop}
-use Rattle.educe_body.specs.Meaning.{scene_at, list_value, args_list, arms_list, inits_list, built, counted, call_named}
+use Rattle.educe_body.specs.Scoping.{callee_in}
+use Rattle.educe_body.specs.Meaning.{scene_at, list_value, args_list, arms_list, fields_named, inits_list, built, counted, call_named, call_value}
 use Rattle.educe_body.specs.declared.flow.Thing.TheVariants.{Nothing}
 use Rattle.educe_body.proofs.evaluator.+run.Given as goal
 
@@ -10,14 +11,15 @@ invariant-run_block-loop-form l =
 
 abbrev pub invariant-run_call-loop-argument : goal.invariant-run_call-loop-argument
 invariant-run_call-loop-argument l = record {
-  rest : args_list (scene_at l.stage) l.env (drop l.argument-index l.argument-items) (λ env more. call_named l.stage.answers.now l.callee env (l.things ++ more))
-      ≡ args_list (scene_at l.stage) l.fn.env l.arguments (call_named l.stage.answers.now l.callee);
+  rest : args_list (scene_at l.stage) l.env (drop l.argument-index l.argument-items) (λ env more. call_named l.stage.answers.now (callee_in l.fn.env.names l.path) env (l.things ++ more))
+      ≡ args_list (scene_at l.stage) l.fn.env l.arguments (call_value (scene_at l.stage) l.fn.env.names l.path);
+  same : l.callee ≡ callee_in l.fn.env.names l.path;
   all : counted l.things ≡ l.things;
 }
 
 abbrev pub invariant-run_arms-loop-arm : goal.invariant-run_arms-loop-arm
 invariant-run_arms-loop-arm l =
-    arms_list (scene_at l.stage) l.env (drop l.arm-index l.arms) l.value ≡ arms_list (scene_at l.stage) l.env l.arms l.value
+    arms_list (scene_at l.stage) l.env (drop l.arm-index l.arms) l.value (fields_named l.found l.value) ≡ arms_list (scene_at l.stage) l.env l.arms l.value (fields_named l.found l.value)
 
 abbrev pub invariant-run_inits-loop-i : goal.invariant-run_inits-loop-i
 invariant-run_inits-loop-i l =
