@@ -23,12 +23,14 @@ use Rattle.educe_body.specs.declared.comparison.Comparison.{Comparison}
 use Rattle.educe_body.specs.declared.comparison.Comparison.TheVariants.{PartialEq}
 use Rattle.educe_body.specs.declared.environment.Binding.{Binding}
 use Rattle.educe_body.specs.declared.environment.Env.{Env}
+use Rattle.educe_body.specs.declared.environment.Own.{Own}
+use Rattle.educe_body.specs.declared.environment.Own.TheVariants.{Value as OwnValue}
 use Rattle.educe_body.specs.declared.environment.Referent.{Referent}
-use Rattle.educe_body.specs.declared.environment.Referent.TheVariants.{This, Bound}
+use Rattle.educe_body.specs.declared.environment.Referent.TheVariants.{This, OwnField, Bound}
 use Rattle.educe_body.specs.declared.evaluator.Outcome.TheVariants.{Truth as OutcomeTruth}
 use Rattle.educe_body.specs.declared.flow.Flow.{Flow}
 use Rattle.educe_body.specs.declared.flow.Flow.TheVariants.{Gives, Returns, Stuck}
-use Rattle.educe_body.specs.declared.flow.Thing.TheVariants.{Nothing}
+use Rattle.educe_body.specs.declared.flow.Thing.TheVariants.{Nothing, Part}
 use Rattle.educe_body.specs.declared.form.Arm.{Arm}
 use Rattle.educe_body.specs.declared.form.Form.{Form, MatchValue, IfLet}
 use Rattle.educe_body.specs.declared.form.Form as form
@@ -40,7 +42,7 @@ use Rattle.educe_body.specs.declared.value.Value.{Value}
 use Rattle.educe_body.specs.Keys.{AreDifferent, keys_from, binding_key}
 use Rattle.educe_body.specs.Laws.{KeysGive}
 use Rattle.educe_body.specs.Matching.{variant_of, is_named, fits, has_key, bound_to, fields_bound, bound_of, bindings_of}
-use Rattle.educe_body.specs.Meaning.{Scene, look_up, part_of, local_flow, value_named, with_value, go_on, leave, within, or_nothing, known_thing, form_value, list_value, held_list, taken, if_let_value, arms_list, outcome_of}
+use Rattle.educe_body.specs.Meaning.{Scene, look_up, part_of, own_value, own_field, own_fields, part_flow, local_flow, with_value, with_named, go_on, leave, within, or_nothing, known_thing, form_value, list_value, held_list, taken, if_let_value, arms_list, outcome_of}
 use Rattle.educe_body.specs.Scoping.{IsApart}
 use Rattle.educe_body.proofs.Fields.{bytes_eq-differ}
 use Rattle.educe_laws.specs.Arms.{Names, AreNames, AreArms, IsKey, IsBound, ArePatternFields, IsPattern, IsArm, IsMatch}
@@ -48,17 +50,17 @@ use Rattle.educe_laws.specs.Blocks.{scene_of}
 use Rattle.educe_laws.specs.BodyLaws.{lawful_forms, lawful_keys}
 use Rattle.educe_laws.specs.Cases.{fields_in, shape_cases, case_of}
 use Rattle.educe_laws.specs.Comparisons.{trait_of}
-use Rattle.educe_laws.specs.Comparing.{Compared, HasShape, says, neutral, compared_from, compared, differs, word_of}
+use Rattle.educe_laws.specs.Comparing.{Compared, HasShape, says, neutral, paired_from, compared, differs, word_of}
 use Rattle.educe_laws.specs.Settings.{Kept, keeps, settings_of, kept_with, kept_from, kept_fields}
 use Rattle.educe_laws.specs.Steps.{bound}
 use Rattle.educe_laws.proofs.Elements.{In, In-all, In-found, map_at, each_in, each_map, each_mapped, each_weaker}
 use Rattle.educe_laws.proofs.Facts.{AreFit, IsOuter}
 use Rattle.educe_laws.proofs.Least.{first_where}
 use Rattle.educe_laws.proofs.Meanings.{each_in_order, fields_meaning, means_in_order, steps_ended}
-use Rattle.educe_laws.proofs.Pairing.{Look, FieldsGive, part_in, seen, compared-seen, length_from_types}
+use Rattle.educe_laws.proofs.Pairing.{Look, FieldsGive, value_in, part_in, IsPlaced, each_placed, seen, paired-seen, length_from_types}
 use Rattle.educe_laws.proofs.Stepping.{HasOwnPath, decided, steps-value, Reads, read_steps}
-use Rattle.educe_laws.proofs.Structs.{length_keys}
-use Rattle.educe_laws.proofs.Variables.{kept_key, fields_different, own_binding, with_variables, around_apart, other_found, own_found, others_found, arm_apart}
+use Rattle.educe_laws.proofs.Structs.{length_keys, env_of}
+use Rattle.educe_laws.proofs.Variables.{kept_key, fields_different, Refer, by_place, by_value, own_binding, with_variables, around_apart, other_found, own_found, others_found, arm_apart}
 
 -- ---- what a pattern binds
 
@@ -69,34 +71,71 @@ key_fits None (Some key) is = absurd is
 key_fits (Some ident) None is = absurd is
 key_fits (Some ident) (Some key) is = (bytes_eq-Decides ident.text key.text).1 (sym is)
 
-module _ (prefix : List ℕ) (look : Look) where
+-- the variables of fields, of which the first has this place, stand for these, one for each
+abbrev FieldsRefer : Refer → ℕ → List Field → List Referent → Type 0
+FieldsRefer refer place [] [] = Unit {0}
+FieldsRefer refer place [] (r ∷ rs) = ⊥
+FieldsRefer refer place (f ∷ fs) [] = ⊥
+FieldsRefer refer place (f ∷ fs) (r ∷ rs) = (refer place f ≡ r) × FieldsRefer refer (place + 1) fs rs
+
+module _ (prefix : List ℕ) (refer : Refer) where
   -- a field is bound to its variable if it takes part
-  binds_one : (s : FieldSettings) (keeps : Bool) (place : ℕ) (f : Field) (x : FieldValue) (kept : List Kept) (name : Option Ident) → IsBound keeps (prefix ++ binding_key place f) name
-      → look place f ≡ Some x → bound_to name x (map (own_binding prefix look) kept) ≡ map (own_binding prefix look) (if keeps then kept_with s place f ∷ kept else kept)
-  binds_one s false place f x kept name is at = ap (λ (name : Option Ident). bound_to name x (map (own_binding prefix look) kept)) is
-  binds_one s true place f x kept None is at = absurd is
-  binds_one s true place f x kept (Some name) is at = λ i. record { name = is.is i; referent = Bound (part_in (sym at i)) } ∷ map (own_binding prefix look) kept
+  binds_one : (s : FieldSettings) (keeps : Bool) (place : ℕ) (f : Field) (r : Referent) (kept : List Kept) (name : Option Ident) → IsBound keeps (prefix ++ binding_key place f) name
+      → refer place f ≡ r → bound_to name r (map (own_binding prefix refer) kept) ≡ map (own_binding prefix refer) (if keeps then kept_with s place f ∷ kept else kept)
+  binds_one s false place f r kept name is at = ap (λ (name : Option Ident). bound_to name r (map (own_binding prefix refer) kept)) is
+  binds_one s true place f r kept None is at = absurd is
+  binds_one s true place f r kept (Some name) is at = λ i. record { name = is.is i; referent = sym at i } ∷ map (own_binding prefix refer) kept
 
   -- the fields that take part are bound to their variables
-  pub binds : (which : Trait) (d : DeriveInput) (place : ℕ) (fs : List Field) (xs : List FieldValue) (ps : List PatternField) → FieldsGive look place fs xs
-      → ArePatternFields prefix place fs (map (settings_of which d) fs) ps → fields_bound fs ps xs ≡ Some (map (own_binding prefix look) (kept_from which d place fs))
-  binds which d place [] [] [] give are = refl
-  binds which d place [] [] (p ∷ ps) give are = absurd are
-  binds which d place [] (x ∷ xs) ps give are = absurd give
-  binds which d place (f ∷ fs) [] ps give are = absurd give
-  binds which d place (f ∷ fs) (x ∷ xs) [] give are = absurd are
-  binds which d place (f ∷ fs) (x ∷ xs) (p ∷ ps) give are =
-      ap (λ (b : Bool). if b then option_map (bound_to p.name x) (fields_bound fs ps xs) else None) (key_fits f.ident p.key are.0.key_is)
-      ∙ ap (option_map (bound_to p.name x)) (binds which d (place + 1) fs xs ps give.1 are.1)
-      ∙ ap Some (binds_one (settings_of which d f) (keeps (settings_of which d f)) place f x (kept_from which d (place + 1) fs) p.name are.0.name_is give.0)
+  binds : (which : Trait) (d : DeriveInput) (place : ℕ) (fs : List Field) (rs : List Referent) (ps : List PatternField) → FieldsRefer refer place fs rs
+      → ArePatternFields prefix place fs (map (settings_of which d) fs) ps → fields_bound fs ps rs ≡ Some (map (own_binding prefix refer) (kept_from which d place fs))
+  binds which d place [] [] [] refers are = refl
+  binds which d place [] [] (p ∷ ps) refers are = absurd are
+  binds which d place [] (r ∷ rs) ps refers are = absurd refers
+  binds which d place (f ∷ fs) [] ps refers are = absurd refers
+  binds which d place (f ∷ fs) (r ∷ rs) [] refers are = absurd are
+  binds which d place (f ∷ fs) (r ∷ rs) (p ∷ ps) refers are =
+      ap (λ (b : Bool). if b then option_map (bound_to p.name r) (fields_bound fs ps rs) else None) (key_fits f.ident p.key are.0.key_is)
+      ∙ ap (option_map (bound_to p.name r)) (binds which d (place + 1) fs rs ps refers.1 are.1)
+      ∙ ap Some (binds_one (settings_of which d f) (keeps (settings_of which d f)) place f r (kept_from which d (place + 1) fs) p.name are.0.name_is refers.0)
 
   -- so a pattern binds them of a value of its variant
-  pub pattern_binds : (which : Trait) (d : DeriveInput) (v : Variant) (value : Value) (pattern : Pattern) → variant_of d value ≡ Some v → FieldsGive look 0 (fields_in v) value.fields
-      → IsPattern which d prefix v pattern → bindings_of d pattern value ≡ Some (map (own_binding prefix look) (kept_from which d 0 (fields_in v)))
-  pattern_binds which d v value pattern found give is =
-      ap (λ (o : Option Variant). bound_of o pattern value) found
-      ∙ ap (λ (b : Bool). if b then Some [] else fields_bound (fields_in v) pattern.fields value.fields) is.whole
-      ∙ binds which d 0 (fields_in v) value.fields pattern.fields give is.fields_are
+  pattern_binds : (which : Trait) (d : DeriveInput) (v : Variant) (value : Value) (pattern : Pattern) (rs : List Referent) → variant_of d value ≡ Some v → FieldsRefer refer 0 (fields_in v) rs
+      → IsPattern which d prefix v pattern → bindings_of d pattern value rs ≡ Some (map (own_binding prefix refer) (kept_from which d 0 (fields_in v)))
+  pattern_binds which d v value pattern rs found refers is =
+      ap (λ (o : Option Variant). bound_of o pattern rs) found
+      ∙ ap (λ (b : Bool). if b then Some [] else fields_bound (fields_in v) pattern.fields rs) is.whole
+      ∙ binds which d 0 (fields_in v) rs pattern.fields refers is.fields_are
+
+module _ (prefix : List ℕ) (look : Look) where
+  -- so they do for the places of the fields
+  places_refer : (place : ℕ) (fs : List Field) (xs : List FieldValue) → FieldsGive look place fs xs → FieldsRefer by_place place fs (own_fields place xs)
+  places_refer place [] [] give = tt
+  places_refer place [] (x ∷ xs) give = absurd give
+  places_refer place (f ∷ fs) [] give = absurd give
+  places_refer place (f ∷ fs) (x ∷ xs) give = (refl, places_refer (place + 1) fs xs give.1)
+
+  -- and for their values
+  values_refer : (place : ℕ) (fs : List Field) (xs : List FieldValue) → FieldsGive look place fs xs → FieldsRefer (by_value look) place fs (map Bound xs)
+  values_refer place [] [] give = tt
+  values_refer place [] (x ∷ xs) give = absurd give
+  values_refer place (f ∷ fs) [] give = absurd give
+  values_refer place (f ∷ fs) (x ∷ xs) give = (ap (λ found. Bound (part_in found)) give.0, values_refer (place + 1) fs xs give.1)
+
+  module _ (which : Trait) (d : DeriveInput) (v : Variant) (value : Value) (pattern : Pattern) (found : variant_of d value ≡ Some v) (give : FieldsGive look 0 (fields_in v) value.fields)
+      (is : IsPattern which d prefix v pattern) where
+    -- a pattern on `self` binds the places of the fields that take part
+    pub places_bound : bindings_of d pattern value (own_fields 0 value.fields) ≡ Some (map (own_binding prefix by_place) (kept_from which d 0 (fields_in v)))
+    places_bound = pattern_binds prefix by_place which d v value pattern (own_fields 0 value.fields) found (places_refer 0 (fields_in v) value.fields give) is
+
+    -- one on the parameter binds their values
+    pub values_bound : bindings_of d pattern value (map Bound value.fields) ≡ Some (map (own_binding prefix (by_value look)) (kept_from which d 0 (fields_in v)))
+    values_bound = pattern_binds prefix (by_value look) which d v value pattern (map Bound value.fields) found (values_refer 0 (fields_in v) value.fields give) is
+
+-- where `self` is a value, the place of a field gives the field's value
+pub place_gives : (scene : Scene) (env : Env) (a : Value) (look : Look) (k : Kept) → env.own ≡ Some (OwnValue a) → IsPlaced look a.fields k
+    → local_flow scene env (Some (OwnField k.place)) ≡ Gives env (Part (value_in look k))
+place_gives scene env a look k is at = ap (λ (self : Option Own). part_flow env (own_field k.place (own_value self))) is ∙ ap (part_flow env) at
 
 -- ---- the variant of a value
 
@@ -156,7 +195,7 @@ apart_first w vs k v apart at =
     (In-found vs k v at)
 
 -- variants at different places have different names
-apart_at : (vs : List Variant) (k j : ℕ) (v w : Variant) → AreApart (variant_names vs) → slice_get vs k ≡ Some v → slice_get vs j ≡ Some w → k ≢ j → unraw v.ident.text ≢ unraw w.ident.text
+pub apart_at : (vs : List Variant) (k j : ℕ) (v w : Variant) → AreApart (variant_names vs) → slice_get vs k ≡ Some v → slice_get vs j ≡ Some w → k ≢ j → unraw v.ident.text ≢ unraw w.ident.text
 apart_at [] k j v w apart at there differ = absurd (cc)
 apart_at (x ∷ vs) zero zero v w apart at there differ = absurd (differ refl)
 apart_at (x ∷ vs) zero (suc j) v w apart at there differ = subst (λ (y : Variant). unraw y.ident.text ≢ unraw w.ident.text) (same_Some x v at) (apart_first x vs j w apart.0 there)
@@ -175,16 +214,16 @@ module _ (d : DeriveInput) (value : Value) (v : Variant) (found : variant_of d v
       ap (is_named pattern.variant.text) found ∙ bytes_eq-differ v.ident.text pattern.variant.text (λ same. apart (ap unraw (sym (same ∙ ap (λ (i : Ident). i.text) is))))
 
 module _ (IsOwn : ℕ → Variant → Arm → Type 0) (named : (place : ℕ) (v : Variant) (arm : Arm) → IsOwn place v arm → arm.pattern.variant ≡ v.ident)
-    (scene : Scene) (env : Env) (value : Value) (v : Variant) (found : variant_of scene.definition value ≡ Some v) where
+    (scene : Scene) (env : Env) (value : Value) (referents : List Referent) (v : Variant) (found : variant_of scene.definition value ≡ Some v) where
   -- the first arm, if it fits, or the others
   abbrev picks : Arm → List Arm → Bool → Flow
-  picks arm arms b = if b then taken scene env arm.pattern value arm.block else arms_list scene env arms value
+  picks arm arms b = if b then taken scene env arm.pattern arm.block value referents else arms_list scene env arms value referents
 
   -- the arm of the variant at a place, which is taken for the value
   pub record IsTaken (place : ℕ) (arms : List Arm) : Type 0 where
     pub arm : Arm
     pub is : IsOwn place v arm
-    pub value_is : arms_list scene env arms value ≡ taken scene env arm.pattern value arm.block
+    pub value_is : arms_list scene env arms value referents ≡ taken scene env arm.pattern arm.block value referents
 
   -- it is among the arms
   pub arm_at : (place : ℕ) (vs : List Variant) (arms : List Arm) (k : ℕ) → AreArms IsOwn place vs arms → AreApart (variant_names vs) → slice_get vs k ≡ Some v → IsTaken (place + k) arms
@@ -201,20 +240,20 @@ module _ (IsOwn : ℕ → Variant → Arm → Type 0) (named : (place : ℕ) (v 
       record { arm = later.arm; is = subst (λ (n : ℕ). IsOwn n v later.arm) there later.is; value_is = ap (picks arm arms) past ∙ later.value_is }
 
 -- arms that go by the variants alone
-arms_placed : (IsOwn : Variant → Arm → Type 0) (place : ℕ) (vs : List Variant) (arms : List Arm) → AllZip IsOwn vs arms → AreArms (λ _. IsOwn) place vs arms
+pub arms_placed : (IsOwn : Variant → Arm → Type 0) (place : ℕ) (vs : List Variant) (arms : List Arm) → AllZip IsOwn vs arms → AreArms (λ _. IsOwn) place vs arms
 arms_placed IsOwn place [] [] are = tt
 arms_placed IsOwn place [] (arm ∷ arms) are = absurd are
 arms_placed IsOwn place (v ∷ vs) [] are = absurd are
 arms_placed IsOwn place (v ∷ vs) (arm ∷ arms) are = (are.0, arms_placed IsOwn (place + 1) vs arms are.1)
 
 -- a match on the value of `self` comes to its arms
-pub self_matched : (scene : Scene) (env : Env) (a : Value) → scene.this ≡ Some a → look_up env.names (codes "self") ≡ Some This → (name : Ident) (arms : List Arm) → name.text ≡ codes "self"
-    → form_value scene env (MatchValue name arms) ≡ arms_list scene env arms a
-self_matched scene env a this_is own name arms is =
+pub self_matched : (scene : Scene) (env : Env) (a : Value) → env.own ≡ Some (OwnValue a) → look_up env.names (codes "self") ≡ Some This → (name : Ident) (arms : List Arm)
+    → name.text ≡ codes "self" → form_value scene env (MatchValue name arms) ≡ arms_list scene env arms a (own_fields 0 a.fields)
+self_matched scene env a own_is found name arms is =
     lawful_forms.match_value scene env name arms
-    ∙ ap (λ (text : List ℕ). with_value (value_named scene (look_up env.names text)) (arms_list scene env arms)) is
-    ∙ ap (λ (o : Option Referent). with_value (value_named scene o) (arms_list scene env arms)) own
-    ∙ ap (λ (o : Option Value). with_value o (arms_list scene env arms)) this_is
+    ∙ ap (λ (text : List ℕ). with_named scene env (look_up env.names text) (arms_list scene env arms)) is
+    ∙ ap (λ (o : Option Referent). with_named scene env o (arms_list scene env arms)) found
+    ∙ ap (λ (self : Option Own). with_value (own_value self) (λ value. arms_list scene env arms value (own_fields 0 value.fields))) own_is
 
 -- ---- what an arm comes to
 
@@ -230,63 +269,64 @@ module _ (which : Comparison) (d : DeriveInput) (table : Answers) (a b : Value) 
   scene = scene_of d a b table
 
   abbrev env : Env
-  env = record { names = outer; parts = [] }
+  env = env_of a outer
 
   abbrev env_apart : AllByRecursion (IsApart d.tokens) outer
   env_apart = around_apart d names are outer around.known
 
-  module _ (kept : List Kept) (differ : AreDifferent (map kept_key kept)) (look_a look_b : Look) where
+  module _ (kept : List Kept) (differ : AreDifferent (map kept_key kept)) (look_a look_b : Look) (placed : AllByRecursion (IsPlaced look_a a.fields) kept) where
     -- the names behind the pattern for the first value, and behind that for the second
     abbrev own_env : Env
-    own_env = record { names = with_variables outer names.own look_a kept; parts = [] }
+    own_env = env_of a (with_variables outer names.own by_place kept)
 
     abbrev arm_env : Env
-    arm_env = record { names = with_variables own_env.names names.others look_b kept; parts = [] }
+    arm_env = env_of a (with_variables own_env.names names.others (by_value look_b) kept)
 
     abbrev apart : AllByRecursion (IsApart d.tokens) arm_env.names
-    apart = arm_apart d names are kept differ outer around look_a look_b
+    apart = arm_apart d names are kept differ outer around by_place (by_value look_b)
 
     -- the variables for the first value give the values of their fields
     reads_own : (k : Kept) → In k kept → Reads scene arm_env d.tokens apart which (bound names.own) (bound names.others) look_a look_b (bound names.own) look_a k
     reads_own k found x r =
         ap (form_value scene arm_env) r.is ∙ ap (λ (text : List ℕ). local_flow scene arm_env (look_up arm_env.names text)) r.name_is
-        ∙ ap (local_flow scene arm_env) (own_found d names are kept differ outer around look_a look_b k found)
+        ∙ ap (local_flow scene arm_env) (own_found d names are kept differ outer around by_place (by_value look_b) k found)
+        ∙ place_gives scene arm_env a look_a k refl (In-all (IsPlaced look_a a.fields) kept k placed found)
 
     -- so do those for the second value
     reads_others : (k : Kept) → In k kept → Reads scene arm_env d.tokens apart which (bound names.own) (bound names.others) look_a look_b (bound names.others) look_b k
     reads_others k found x r =
         ap (form_value scene arm_env) r.is ∙ ap (λ (text : List ℕ). local_flow scene arm_env (look_up arm_env.names text)) r.name_is
-        ∙ ap (local_flow scene arm_env) (others_found d names are kept differ outer around look_a look_b k found)
+        ∙ ap (local_flow scene arm_env) (others_found d names are kept differ outer around by_place (by_value look_b) k found)
 
     -- the names end with the block
     cut : take (length outer) (take (length own_env.names) arm_env.names) ≡ outer
     cut =
-        ap (take (length outer)) (take_at own_env.names (map (own_binding names.others look_b) kept) (length own_env.names) refl)
-        ∙ take_at outer (map (own_binding names.own look_a) kept) (length outer) refl
+        ap (take (length outer)) (take_at own_env.names (map (own_binding names.others (by_value look_b)) kept) (length own_env.names) refl)
+        ∙ take_at outer (map (own_binding names.own by_place) kept) (length outer) refl
 
     -- what is decided is so outside
     left : (o : Option Compared) → leave outer (leave own_env.names (decided scene arm_env d.tokens apart which o)) ≡ decided scene env d.tokens env_apart which o
-    left None = λ i. Gives (record { names = cut i; parts = [] }) Nothing
-    left (Some c) = λ i. Returns (record { names = cut i; parts = [] }) (known_thing (word_of which table c))
+    left None = λ i. Gives (env_of a (cut i)) Nothing
+    left (Some c) = λ i. Returns (env_of a (cut i)) (known_thing (word_of which table c))
 
-    module _ (v : Variant) (arm : Arm) (is : IsArm which d names v arm) (binds_a : bindings_of d arm.pattern a ≡ Some (map (own_binding names.own look_a) kept)) where
+    module _ (v : Variant) (arm : Arm) (is : IsArm which d names v arm) (binds_a : bindings_of d arm.pattern a (own_fields 0 a.fields) ≡ Some (map (own_binding names.own by_place) kept)) where
       -- an arm is its `if let` on the second value
-      arm_is : taken scene env arm.pattern a arm.block ≡ leave outer (if_let_value scene own_env is.inner is.steps is.others b)
+      arm_is : taken scene env arm.pattern arm.block a (own_fields 0 a.fields) ≡ leave outer (if_let_value scene own_env is.inner is.steps is.others b (map Bound b.fields))
       arm_is =
           let next = if_let_value scene own_env is.inner is.steps is.others in
           ap (λ (o : Option (List Binding)). within env o (λ inner. list_value scene inner Nothing arm.block)) binds_a
           ∙ ap (λ (block : List Form). leave outer (list_value scene own_env Nothing block)) is.block_is
           ∙ ap (leave outer) (go_on-end (form_value scene own_env (IfLet is.inner is.value is.steps is.others))
           ∙ lawful_forms.if_let scene own_env is.inner is.value is.steps is.others
-          ∙ ap (λ (text : List ℕ). with_value (value_named scene (look_up own_env.names text)) next) is.value_is.is
-          ∙ ap (λ (o : Option Referent). with_value (value_named scene o) next) (other_found d names are kept differ outer around look_a look_b))
+          ∙ ap (λ (text : List ℕ). with_named scene own_env (look_up own_env.names text) next) is.value_is.is
+          ∙ ap (λ (o : Option Referent). with_named scene own_env o next) (other_found d names are kept differ outer around by_place (by_value look_b)))
 
       -- the steps, if the second value fits the inner pattern, or the `else`
       abbrev inner_or_else : Bool → Flow
-      inner_or_else t = if t then taken scene own_env is.inner b is.steps else or_nothing own_env (held_list scene is.others)
+      inner_or_else t = if t then taken scene own_env is.inner is.steps b (map Bound b.fields) else or_nothing own_env (held_list scene is.others)
 
       -- where that is of another variant, the arm comes to its `else`
-      arm_differs : fits d is.inner b ≡ false → taken scene env arm.pattern a arm.block ≡ leave outer (or_nothing own_env (held_list scene is.others))
+      arm_differs : fits d is.inner b ≡ false → taken scene env arm.pattern arm.block a (own_fields 0 a.fields) ≡ leave outer (or_nothing own_env (held_list scene is.others))
       arm_differs fails = arm_is ∙ ap (λ (t : Bool). leave outer (inner_or_else t)) fails
 
       module _ (inside : AllByRecursion (λ k. In k kept) is.ordered) (named : AllByRecursion (λ k. HasOwnPath d.tokens k.how) is.ordered)
@@ -308,8 +348,8 @@ module _ (which : Comparison) (d : DeriveInput) (table : Answers) (a b : Value) 
             ∙ go_on-end (decided scene arm_env d.tokens apart which first)
 
         -- so does the arm where the second value is of the same variant
-        arm_same : fits d is.inner b ≡ true → bindings_of d is.inner b ≡ Some (map (own_binding names.others look_b) kept)
-            → taken scene env arm.pattern a arm.block ≡ decided scene env d.tokens env_apart which first
+        arm_same : fits d is.inner b ≡ true → bindings_of d is.inner b (map Bound b.fields) ≡ Some (map (own_binding names.others (by_value look_b)) kept)
+            → taken scene env arm.pattern arm.block a (own_fields 0 a.fields) ≡ decided scene env d.tokens env_apart which first
         arm_same passes binds_b =
             arm_is ∙ ap (λ (t : Bool). leave outer (inner_or_else t)) passes
             ∙ ap (λ (o : Option (List Binding)). leave outer (within own_env o (λ inner. list_value scene inner Nothing is.steps))) binds_b
@@ -323,17 +363,17 @@ module _ (which : Comparison) (d : DeriveInput) (table : Answers) (a b : Value) 
     then_neutral flow = go_on flow (λ env thing. list_value scene env thing (form.Known (neutral which) ∷ []))
 
     -- a match on `self` comes to the arms, and then to what is answered where none returned
-    matched : list_value scene env Nothing block ≡ then_neutral (arms_list scene env m.arms a)
+    matched : list_value scene env Nothing block ≡ then_neutral (arms_list scene env m.arms a (own_fields 0 a.fields))
     matched = ap (list_value scene env Nothing) m.block_is ∙ ap then_neutral (self_matched scene env a refl around.own m.value m.arms m.value_is.is)
 
 -- on two values of one variant, a match means what the fields that take part mean
 pub match_same : (which : Comparison) (d : DeriveInput) (table : Answers) (a b : Value) (names : Names) (variants : List Variant) → AreNames d names → AreFit (trait_of which) d variants
     → (outer : List Binding) → IsOuter names outer → (block : List Form) → IsMatch which d names variants block → HasShape d a → HasShape d b → a.variant ≡ b.variant
     → AllByRecursion (λ c. IsSome (says which table c)) (compared which d a b)
-    → outcome_of (list_value (scene_of d a b table) (record { names = outer; parts = [] }) Nothing block) ≡ fields_meaning which table (compared which d a b)
+    → outcome_of (list_value (scene_of d a b table) (env_of a outer) Nothing block) ≡ fields_meaning which table (compared which d a b)
 match_same which d table a b names variants are fit outer around block m shape_a shape_b same known =
     let sc = scene_of d a b table in
-    let outside : Env = record { names = outer; parts = [] } in
+    let outside : Env = env_of a outer in
     let of_a = is_of (trait_of which) d variants fit a shape_a in
     let of_b = is_of (trait_of which) d variants fit b shape_b in
     let v = of_a.variant in
@@ -346,19 +386,20 @@ match_same which d table a b names variants are fit outer around block m shape_a
     let give_b : FieldsGive look_b 0 fs b.fields = subst (λ (v : Variant). FieldsGive (look_in v b) 0 (fields_in v) b.fields) one of_b.give in
     let differ = fields_different (trait_of which) d fs of_a.names of_a.few in
     let Own : ℕ → Variant → Arm → Type 0 = λ _. IsArm which d names in
-    let picked = arm_at Own (λ _ v arm is. is.own_is.variant_is) sc outside a v of_a.found 0 variants m.arms a.variant
+    let picked = arm_at Own (λ _ v arm is. is.own_is.variant_is) sc outside a (own_fields 0 a.fields) v of_a.found 0 variants m.arms a.variant
     (arms_placed (IsArm which d names) 0 variants m.arms m.arms_are) fit.names of_a.at in
     let is = picked.is in
     let paired : compared which d a b ≡ map (seen look_a look_b) kept =
-    ap (λ (own : List Field). compared_from which d 0 own a.fields b.fields) of_a.case_is ∙ compared-seen look_a look_b which d 0 fs a.fields b.fields of_a.give give_b in
+    ap (λ (own : List Field). paired_from (trait_of which) d 0 own a.fields b.fields) of_a.case_is ∙ paired-seen look_a look_b (trait_of which) d 0 fs a.fields b.fields of_a.give give_b in
     let Known : Compared → Type 0 = λ c. IsSome (says which table c) in
     let each = each_map Known (seen look_a look_b) kept (subst (AllByRecursion Known) paired known) in
     let named = In-all (λ (v : Variant). AllByRecursion (λ k. HasOwnPath d.tokens k.how) (kept_fields (trait_of which) d (fields_in v))) variants v fit.methods of_a.inside in
-    let arm_value = arm_same which d table a b names are outer around kept differ look_a look_b v picked.arm is
-    (pattern_binds names.own look_a (trait_of which) d v a picked.arm.pattern of_a.found of_a.give is.own_is)
+    let placed = each_placed look_a (trait_of which) d fs a.fields of_a.give in
+    let arm_value = arm_same which d table a b names are outer around kept differ look_a look_b placed v picked.arm is
+    (places_bound names.own look_a (trait_of which) d v a picked.arm.pattern of_a.found of_a.give is.own_is)
     (each_in_order (trait_of which) (λ k. In k kept) kept is.ordered is.ordered_is (each_in kept)) (each_in_order (trait_of which) (λ k. HasOwnPath d.tokens k.how) kept is.ordered is.ordered_is named)
     (each_mapped Known (seen look_a look_b) is.ordered (each_in_order (trait_of which) (λ k. Known (seen look_a look_b k)) kept is.ordered is.ordered_is each))
-    (fits_own d b v found_b is.inner is.inner_is.variant_is) (pattern_binds names.others look_b (trait_of which) d v b is.inner found_b give_b is.inner_is) in
+    (fits_own d b v found_b is.inner is.inner_is.variant_is) (values_bound names.others look_b (trait_of which) d v b is.inner found_b give_b is.inner_is) in
     ap outcome_of (matched which d table a b names are outer around variants block m
     ∙ ap (then_neutral which d table a b names are outer around variants block m) (picked.value_is ∙ arm_value))
     ∙ steps_ended sc outside d.tokens (around_apart d names are outer around.known) which (first_where (differs which table) (map (seen look_a look_b) is.ordered))
@@ -367,10 +408,10 @@ match_same which d table a b names variants are fit outer around block m shape_a
 -- on values of two variants, the match of `eq` means false
 pub match_differs : (d : DeriveInput) (table : Answers) (a b : Value) (names : Names) (variants : List Variant) → AreNames d names → AreFit trait.PartialEq d variants
     → (outer : List Binding) → IsOuter names outer → (block : List Form) → IsMatch PartialEq d names variants block → HasShape d a → HasShape d b → (a.variant ≡ b.variant → ⊥)
-    → outcome_of (list_value (scene_of d a b table) (record { names = outer; parts = [] }) Nothing block) ≡ OutcomeTruth false
+    → outcome_of (list_value (scene_of d a b table) (env_of a outer) Nothing block) ≡ OutcomeTruth false
 match_differs d table a b names variants are fit outer around block m shape_a shape_b other =
     let sc = scene_of d a b table in
-    let outside : Env = record { names = outer; parts = [] } in
+    let outside : Env = env_of a outer in
     let of_a = is_of trait.PartialEq d variants fit a shape_a in
     let of_b = is_of trait.PartialEq d variants fit b shape_b in
     let v = of_a.variant in
@@ -378,13 +419,14 @@ match_differs d table a b names variants are fit outer around block m shape_a sh
     let look_a = look_in v a in
     let differ = fields_different trait.PartialEq d (fields_in v) of_a.names of_a.few in
     let Own : ℕ → Variant → Arm → Type 0 = λ _. IsArm PartialEq d names in
-    let picked = arm_at Own (λ _ v arm is. is.own_is.variant_is) sc outside a v of_a.found 0 variants m.arms a.variant
+    let picked = arm_at Own (λ _ v arm is. is.own_is.variant_is) sc outside a (own_fields 0 a.fields) v of_a.found 0 variants m.arms a.variant
     (arms_placed (IsArm PartialEq d names) 0 variants m.arms m.arms_are) fit.names of_a.at in
     let is = picked.is in
     let fails = fits_no_other d b of_b.variant of_b.found v is.inner is.inner_is.variant_is (apart_at variants a.variant b.variant v of_b.variant fit.names of_a.at of_b.at other) in
-    let arm_value = arm_differs PartialEq d table a b names are outer around kept differ look_a look_a v picked.arm is
-    (pattern_binds names.own look_a trait.PartialEq d v a picked.arm.pattern of_a.found of_a.give is.own_is) fails in
-    let own_env : Env = record { names = with_variables outer names.own look_a kept; parts = [] } in
+    let placed = each_placed look_a trait.PartialEq d (fields_in v) a.fields of_a.give in
+    let arm_value = arm_differs PartialEq d table a b names are outer around kept differ look_a look_a placed v picked.arm is
+    (places_bound names.own look_a trait.PartialEq d v a picked.arm.pattern of_a.found of_a.give is.own_is) fails in
+    let own_env : Env = env_of a (with_variables outer names.own by_place kept) in
     let end : Flow → Flow = then_neutral PartialEq d table a b names are outer around variants block m in
     ap outcome_of (matched PartialEq d table a b names are outer around variants block m ∙ ap end (picked.value_is ∙ arm_value)
     ∙ ap (λ (o : Option (List Form)). end (leave outer (or_nothing own_env (held_list sc o)))) is.others_are

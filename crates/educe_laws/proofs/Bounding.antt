@@ -1,5 +1,5 @@
 -- Automatic bounds suffice, and none of their own predicates can be dropped.
-use Rattle.std.proofs.Common.{◌≡◌, ℕ, ◌+◌, Bool, true, false, List, [], ◌∷◌, ◌++◌, Option, Some, None, sym, ap, ◌∙◌, subst, append_assoc, append-nil}
+use Rattle.std.proofs.Common.{◌≡◌, ℕ, ◌+◌, Bool, true, false, List, [], ◌∷◌, ◌++◌, Option, Some, None, map, sym, ap, ◌∙◌, subst, append_assoc, append-nil}
 use Rattle.std.specs.Prelude.{if◌then◌else◌, codes}
 use Rattle.std.specs.List.{AllByRecursion, cons_option, filter_map, flat_map}
 use Rattle.std.proofs.lemmas.List.{map-append}
@@ -21,20 +21,22 @@ use Rattle.educe_bound.specs.Predicates.{key_of, keys_of, exceptions_of, asks_fo
 use Rattle.educe_bound.specs.Traits.{is_listed}
 use Rattle.educe_body.specs.declared.body.Function.{Function}
 use Rattle.educe_body.specs.declared.body.ImplItem.{ImplItem}
+use Rattle.educe_body.specs.declared.body.MarkerItem.{MarkerItem}
 use Rattle.educe_body.specs.declared.body.Item.{Item}
-use Rattle.educe_body.specs.declared.body.Item.TheVariants.{Impl}
+use Rattle.educe_body.specs.declared.body.Item.TheVariants.{Impl, Marker}
 use Rattle.educe_body.specs.declared.comparison.Comparison.{Comparison}
 use Rattle.educe_body.specs.declared.comparison.Comparison.TheVariants.{PartialEq, PartialOrd, Ord}
-use Rattle.educe_laws.specs.Blocks.{IsBody, function_name, IsFunction, IsImpl, IsImplBlock, IsComparisonBlock, AreNew, IsDefaultImpl, AreNone, has_check, IsEqBlockWith, IsBlock, Blocks, OneEach, HasTightBounds}
+use Rattle.educe_laws.specs.Blocks.{IsBody, function_name, IsFunction, IsImpl, IsImplBlock, IsComparisonBlock, AreNew, IsDefaultImpl, AreNone, has_check, IsEqBlockWith, AreCloneFunctions, IsCloneBlock, IsBlock, Blocks, OneEach, HasTightBounds}
 use Rattle.educe_laws.specs.Cases.{fields_in, shape_cases, cases_of}
 use Rattle.educe_laws.specs.Comparisons.{trait_of}
+use Rattle.educe_laws.specs.Copying.{copies_whole}
 use Rattle.educe_laws.specs.Defaults.{choice_of, written_fields, field_value, type_without, default_types}
 use Rattle.educe_laws.specs.HashBodies.{IsHashBody}
-use Rattle.educe_laws.specs.Headers.{bound_for, Inherits, IsHeader, AreTight}
+use Rattle.educe_laws.specs.Headers.{Inherits, IsHeader, AreTight}
 use Rattle.educe_laws.specs.Listed.{listed, listed_in_order}
 use Rattle.educe_laws.specs.Making.{has_new}
-use Rattle.educe_laws.specs.Settings.{Kept, How, plainly, by_method, by_order, is_kept, kept_at, kept_from, kept_fields}
-use Rattle.educe_laws.specs.Types.{AreVisited, type_of, touched_by, touched_types, AreOfFields, checked_with, checked_types, AreTypes}
+use Rattle.educe_laws.specs.Settings.{bound_for, Kept, How, plainly, by_method, by_order, is_kept, kept_at, kept_from, kept_fields}
+use Rattle.educe_laws.specs.Types.{AreVisited, type_of, touched_by, touched_types, AreOfFields, checked_with, checked_types, AreCloneTypes, AreTypes}
 use Rattle.educe_laws.proofs.Choosing.{written_hold}
 use Rattle.educe_laws.proofs.Elements.{each_mapped, each_apart, each_joined}
 use Rattle.educe_laws.proofs.Meanings.{each_in_order}
@@ -135,16 +137,21 @@ module _ (d : DeriveInput) (types : AllByRecursion IsFieldRead (all_fields d)) w
   defaults_read : AllByRecursion IsReading (default_types d)
   defaults_read = without_read (written_fields (choice_of d)) (written_hold d IsFieldRead types)
 
+  -- and those of `Clone`
+  clone_read : (whole : Bool) (read touched : List Ty) → AreCloneTypes whole d read touched → AllByRecursion IsReading touched
+  clone_read true read touched are = subst (AllByRecursion IsReading) (sym are.touched_are) tt
+  clone_read false read touched are = fields_read trait.Clone read touched are
+
   -- and so are all that have to have a trait
   trait_read : (which : Trait) (read touched : List Ty) → AreTypes which d read touched → AllByRecursion IsReading touched
+  trait_read trait.Clone read touched are = clone_read (copies_whole d) read touched are
+  trait_read trait.Copy read touched are = subst (AllByRecursion IsReading) (sym are.touched_are) (checked_hold IsReading d types false)
   trait_read trait.PartialEq read touched are = fields_read trait.PartialEq read touched are
   trait_read trait.Eq read touched are = subst (AllByRecursion IsReading) (sym are.touched_are) (checked_hold IsReading d types (is_listed (listed d) trait.PartialEq))
   trait_read trait.PartialOrd read touched are = fields_read trait.PartialOrd read touched are
   trait_read trait.Ord read touched are = fields_read trait.Ord read touched are
   trait_read trait.Hash read touched are = fields_read trait.Hash read touched are
   trait_read trait.Debug read touched are = absurd are
-  trait_read trait.Clone read touched are = absurd are
-  trait_read trait.Copy read touched are = absurd are
   trait_read trait.Default read touched are = subst (AllByRecursion IsReading) (sym are.touched_are) defaults_read
 
 -- ---- one impl
@@ -203,19 +210,31 @@ module _ (suffice : AlwaysSuffice) (minimal : AreAlwaysMinimal) (d : DeriveInput
   new_tight false item is more are = subst (AllByRecursion (HasTightBounds d)) (sym are) tt
   new_tight true item is more (own, are, new) =
       let Tight : Trait → Generics → Type 0 = λ which generics. bound_for which d ≡ Auto → AreTight which d (keys_of generics.predicates) in
-      let tight : Tight own.which own.generics = subst (λ which. Tight which own.generics) (sym new.which_is) (subst (Tight trait.Default) (sym new.generics_are) (header_tight trait.Default item.generics is.header_is)) in
+      let same : Tight trait.Default own.generics = subst (Tight trait.Default) (sym new.generics_are) (header_tight trait.Default item.generics is.header_is) in
+      let tight : Tight own.which own.generics = subst (λ which. Tight which own.generics) (sym new.which_is) same in
       subst (AllByRecursion (HasTightBounds d)) (sym are) (tight, tt)
+
+  -- markers have no bounds of their own
+  markers_tight : (markers : List MarkerItem) → AllByRecursion (HasTightBounds d) (map Marker markers)
+  markers_tight [] = tt
+  markers_tight (m ∷ ms) = (tt, markers_tight ms)
+
+  -- those of the block of `Clone`
+  clone_tight : (items : List Item) → IsCloneBlock d items → AllByRecursion (HasTightBounds d) items
+  clone_tight items k =
+      let own = item_tight trait.Clone (AreCloneFunctions (copies_whole d) d k.names) k.item k.impl_is in
+      subst (AllByRecursion (HasTightBounds d)) (sym k.are) (own, markers_tight k.markers)
 
   -- those of the block of any trait
   block_tight : (which : Trait) (items : List Item) → IsBlock which d items → AllByRecursion (HasTightBounds d) items
+  block_tight trait.Clone items k = clone_tight items k
+  block_tight trait.Copy items k = impl_tight trait.Copy AreNone items k
   block_tight trait.PartialEq items k = comparison_tight PartialEq items k
   block_tight trait.Eq items k = eq_tight (has_check (bound_for trait.Eq d) (checked_types d)) items k
   block_tight trait.PartialOrd items k = comparison_tight PartialOrd items k
   block_tight trait.Ord items k = comparison_tight Ord items k
   block_tight trait.Hash items k = impl_tight trait.Hash (IsFunction (codes "hash") (IsHashBody d)) items k
   block_tight trait.Debug items k = absurd k
-  block_tight trait.Clone items k = absurd k
-  block_tight trait.Copy items k = absurd k
   block_tight trait.Default items k = subst (AllByRecursion (HasTightBounds d)) (sym k.are) (default_tight k.item k.impl_is, new_tight (has_new d) k.item k.impl_is k.more k.more_are)
 
   -- and those of the blocks of several, one behind the other

@@ -14,22 +14,20 @@ use Rattle.educe_syntax_self.specs.Visits.{MayVisitType, IsOwnField, AreOwnField
 use Rattle.educe_syntax_self.proofs.Lawful.{lawful_definitions}
 use Rattle.educe_bound.specs.declared.traits.Trait.TheVariants as trait
 use Rattle.educe_bound.specs.Traits.{is_listed}
-use Rattle.educe_body.specs.declared.body.Function.{Function}
-use Rattle.educe_body.specs.declared.body.ImplItem.{ImplItem}
 use Rattle.educe_body.specs.declared.body.Item.{Item}
-use Rattle.educe_body.specs.declared.body.Item.TheVariants.{Impl}
 use Rattle.educe_laws.specs.Arms.{AreChosenFor, AreScoped}
-use Rattle.educe_laws.specs.Blocks.{IsImpl, AreNone, has_check, IsEqBlockWith, Evaluates, EachEvaluates}
+use Rattle.educe_laws.specs.Blocks.{has_check, IsEqBlockWith, EachEvaluates}
 use Rattle.educe_laws.specs.Built.{are_built, has_plain_type, are_plain_types, may_replace, IsBuilt}
 use Rattle.educe_laws.specs.Cases.{fields_in}
 use Rattle.educe_laws.specs.Checks.{plain_names}
 use Rattle.educe_laws.specs.EqLaws.{EqLaws}
-use Rattle.educe_laws.specs.Headers.{bound_for}
 use Rattle.educe_laws.specs.Listed.{listed}
+use Rattle.educe_laws.specs.Settings.{bound_for}
 use Rattle.educe_laws.specs.Types.{checked_types}
 use Rattle.educe_laws.proofs.Bounding.{checked_hold}
 use Rattle.educe_laws.proofs.Elements.{each_joined}
 use Rattle.educe_laws.proofs.Facts.{ArePlain}
+use Rattle.educe_laws.proofs.Fitting.{none_evaluate}
 use Rattle.educe_laws.proofs.Inheriting.{passes}
 use Rattle.educe_laws.proofs.Variables.{chosen_scoped}
 
@@ -42,16 +40,10 @@ names_scoped : (d : DeriveInput) (names : List (List ℕ)) → AreChosenFor d pl
 names_scoped d names are = chosen_scoped d plain_names names are are_plain
 
 module _ (d : DeriveInput) where
-  -- an impl without functions has none to evaluate
-  impl_evaluates : (item : ImplItem) → IsImpl trait.Eq d AreNone item → EachEvaluates d (Impl item)
-  impl_evaluates item is =
-      let Each : List Function → Type 0 = λ functions. AllByRecursion (λ f. Evaluates item.which d f.body) functions in
-      subst Each (sym is.functions_are) tt
-
-  -- so it is of the block of `Eq`
+  -- the block of `Eq` has no function to evaluate
   block_evaluates : (checks : Bool) (items : List Item) → IsEqBlockWith checks d items → AllByRecursion (EachEvaluates d) items
-  block_evaluates true items k = subst (AllByRecursion (EachEvaluates d)) (sym k.are) (tt, (impl_evaluates k.item k.impl_is, tt))
-  block_evaluates false items k = subst (AllByRecursion (EachEvaluates d)) (sym k.are) (impl_evaluates k.item k.impl_is, tt)
+  block_evaluates true items k = subst (AllByRecursion (EachEvaluates d)) (sym k.are) (tt, (none_evaluate trait.Eq d k.item k.impl_is, tt))
+  block_evaluates false items k = subst (AllByRecursion (EachEvaluates d)) (sym k.are) (none_evaluate trait.Eq d k.item k.impl_is, tt)
 
 -- ---- types that may be visited
 

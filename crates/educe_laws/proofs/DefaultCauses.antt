@@ -1,7 +1,7 @@
 -- Why the handler of `Default` refuses a definition, and what the attributes say where it does not.
-use Rattle.std.proofs.Common.{◌≡◌, ◌∙◌, Bool, true, false, List, [], ◌∷◌, ◌++◌, inl, inr, refl, ap, sym, subst, append_assoc}
+use Rattle.std.proofs.Common.{◌≡◌, ◌∙◌, Bool, List, [], ◌∷◌, ◌++◌, inl, inr, refl, ap, sym, subst, append_assoc}
 use Rattle.std.specs.Prelude.{is_none}
-use Rattle.std.specs.List.{AllByRecursion, flat_map}
+use Rattle.std.specs.List.{AllByRecursion}
 use Rattle.educe_tokens.specs.declared.error.EduceError.{EduceError}
 use Rattle.educe_syntax.specs.DeriveInput.{DeriveInput}
 use Rattle.educe_syntax.specs.Few.{shape_variants, variants_of, shape_fields, all_fields}
@@ -12,10 +12,9 @@ use Rattle.educe_syntax.specs.Variant.{Variant}
 use Rattle.educe_bound.specs.declared.traits.Trait.TheVariants.{Default}
 use Rattle.educe_attrs.specs.Among.{IsAmong}
 use Rattle.educe_attrs.specs.Causes.{NoCause}
-use Rattle.educe_attrs.specs.Fields.{settings_at}
 use Rattle.educe_attrs.specs.Laws.{lawful_settings}
 use Rattle.educe_attrs.specs.Phases.{OfHandler}
-use Rattle.educe_attrs.specs.Places.{IsSaid, OfPlace, IsFieldSaid, OfField}
+use Rattle.educe_attrs.specs.Places.{IsSaid, OfPlace, OfField}
 use Rattle.educe_attrs.specs.Values.{Values}
 use Rattle.educe_laws.specs.Cases.{fields_in}
 use Rattle.educe_laws.specs.Defaults.{mark_row, value_row, type_values, is_open, mark_values, is_written, AreFieldsSaid, AreShapeSaid, AreDefaultsSaid, AreTypeSettings, AreMarkSettings, IsCase, IsDefaultCause}

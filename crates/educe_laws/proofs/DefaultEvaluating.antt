@@ -1,17 +1,16 @@
 -- The functions of the block of `Default` evaluate to what they mean.
-use Rattle.std.proofs.Common.{Bool, true, false, List, [], ◌∷◌, sym, subst}
+use Rattle.std.proofs.Common.{Bool, true, false, List, sym, subst}
 use Rattle.std.specs.Prelude.{codes}
 use Rattle.std.specs.List.{AllByRecursion}
 use Rattle.educe_syntax.specs.DeriveInput.{DeriveInput}
 use Rattle.educe_syntax.specs.Generics.{Generics}
 use Rattle.educe_syntax.specs.Naming.{AreNamesApart}
 use Rattle.educe_bound.specs.declared.traits.Trait.TheVariants.{Default}
-use Rattle.educe_body.specs.declared.body.Function.{Function}
 use Rattle.educe_body.specs.declared.body.Item.{Item}
 use Rattle.educe_laws.specs.Blocks.{AreNew, IsDefaultBlock, EachEvaluates}
 use Rattle.educe_laws.specs.DefaultLaws.{DefaultLaws}
-use Rattle.educe_laws.specs.Making.{IsDefaultBody, has_new, MakesNew}
-use Rattle.educe_laws.proofs.Fitting.{item_evaluates}
+use Rattle.educe_laws.specs.Making.{IsDefaultBody, has_new, IsNewBody, MakesNew}
+use Rattle.educe_laws.proofs.Fitting.{function_means, item_evaluates}
 use Rattle.educe_laws.proofs.Making.{makes_default, makes_new}
 
 module _ (d : DeriveInput) (apart : AreNamesApart d) where
@@ -19,14 +18,13 @@ module _ (d : DeriveInput) (apart : AreNamesApart d) where
   new_evaluates : (is_asked : Bool) (generics : Generics) (more : List Item) → AreNew is_asked d generics more → AllByRecursion (EachEvaluates d) more
   new_evaluates false generics more are = subst (AllByRecursion (EachEvaluates d)) (sym are) tt
   new_evaluates true generics more (own, are, new) =
-      let Each : List Function → Type 0 = λ functions. AllByRecursion (λ f. MakesNew d f.body) functions in
-      let function = new.functions_are in
-      subst (AllByRecursion (EachEvaluates d)) (sym are) (subst Each (sym function.are) (makes_new d apart function.body function.body_is, tt), tt)
+      let each = function_means (λ f. MakesNew d f.body) (codes "new") IsNewBody (λ f named. makes_new d apart f.body) own.functions new.functions_are in
+      subst (AllByRecursion (EachEvaluates d)) (sym are) (each, tt)
 
   -- the functions of the block
   block_evaluates : (items : List Item) → IsDefaultBlock d items → AllByRecursion (EachEvaluates d) items
   block_evaluates items k =
-      let own = item_evaluates Default d (codes "default") (IsDefaultBody d) (makes_default d apart) k.item k.impl_is in
+      let own = item_evaluates Default d (codes "default") (IsDefaultBody d) (λ f named. makes_default d apart f.body) k.item k.impl_is in
       subst (AllByRecursion (EachEvaluates d)) (sym k.are) (own, new_evaluates (has_new d) k.item.generics k.more k.more_are)
 
 -- the laws of `Default` hold

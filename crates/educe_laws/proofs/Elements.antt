@@ -1,7 +1,7 @@
 -- Facts of each element of a list.
 use Rattle.std.proofs.Common.{◌≡◌, ℕ, zero, suc, ◌<◌, ◌⊎◌, inl, inr, List, [], ◌∷◌, ◌++◌, map, length, get_or, Some, slice_get, refl, ap, subst, arith}
 use Rattle.std.specs.Prelude.{IsPermutation}
-use Rattle.std.specs.List.{Contains, AllByRecursion, flat_map}
+use Rattle.std.specs.List.{Contains, AllByRecursion, AllZip, flat_map}
 use Rattle.std.proofs.lemmas.List.Elements.{recursion_from_All, All-from_recursion}
 use Rattle.std.proofs.lemmas.List.Sorted.{Contains-permutation, All-permutation}
 use Rattle.std.proofs.lemmas.Option.{same_Some}
@@ -104,3 +104,10 @@ pub map_at : {X Y : Type 0} (f : X → Y) (xs : List X) (k : ℕ) (y : Y) → sl
 map_at f [] k y at = absurd (cc)
 map_at f (x ∷ xs) zero y at = (x, refl, same_Some (f x) y at)
 map_at f (x ∷ xs) (suc k) y at = map_at f xs k y at
+
+-- what holds of the pairs of two lists does so of what follows from it where something holds of each element of the first
+pub zip_weaker : {X Y : Type 0} (P : X → Type 0) (R S : X → Y → Type 0) → ((x : X) (y : Y) → P x → R x y → S x y) → (xs : List X) (ys : List Y) → AllByRecursion P xs → AllZip R xs ys → AllZip S xs ys
+zip_weaker P R S weaker [] [] each are = tt
+zip_weaker P R S weaker [] (y ∷ ys) each are = absurd are
+zip_weaker P R S weaker (x ∷ xs) [] each are = absurd are
+zip_weaker P R S weaker (x ∷ xs) (y ∷ ys) each are = (weaker x y each.0 are.0, zip_weaker P R S weaker xs ys each.1 are.1)

@@ -30,7 +30,7 @@ use Rattle.educe_laws.specs.Arms.{Names, AreNames, IsMatch, IsKeyComparison, in_
 use Rattle.educe_laws.specs.Blocks.{IsEnumBody, Compares, scene_of}
 use Rattle.educe_laws.specs.BodyLaws.{lawful_forms}
 use Rattle.educe_laws.specs.Cases.{fields_in, case_of}
-use Rattle.educe_laws.specs.Comparing.{compared_from, compared, Covers, equal, neutral, order, number_order, as_answer, discriminants_first, outcome, meaning}
+use Rattle.educe_laws.specs.Comparing.{paired_from, compared, Covers, equal, neutral, order, number_order, as_answer, discriminants_first, outcome, meaning}
 use Rattle.educe_laws.specs.Comparisons.{trait_of}
 use Rattle.educe_laws.specs.Rows.{is_order}
 use Rattle.educe_laws.specs.Discriminants.{discriminant, flat, counted, discriminant_of}
@@ -39,7 +39,7 @@ use Rattle.educe_laws.proofs.Elements.{In-found, In-all}
 use Rattle.educe_laws.proofs.Facts.{AreFit, IsOuter}
 use Rattle.educe_laws.proofs.KeyFunctions.{keyed, outer_values, outer_keyed, number_at, keys_value, keys_compared}
 use Rattle.educe_laws.proofs.Meanings.{same_case}
-use Rattle.educe_laws.proofs.Structs.{names_for}
+use Rattle.educe_laws.proofs.Structs.{names_for, env_of}
 
 -- ---- numbers
 
@@ -109,7 +109,7 @@ module _ (which : Comparison) (d : DeriveInput) (variants : List Variant) (fit :
 
   -- what the block evaluates to in the scope of a function
   abbrev Means : List Form → Type 0
-  Means block = outcome_of (list_value scene (record { names = names_for names.other; parts = [] }) Nothing block) ≡ meaning which table d a b
+  Means block = outcome_of (list_value scene (env_of a (names_for names.other)) Nothing block) ≡ meaning which table d a b
 
   -- each value is of a variant
   abbrev of_a : IsOf d variants a
@@ -120,7 +120,7 @@ module _ (which : Comparison) (d : DeriveInput) (variants : List Variant) (fit :
 
   -- in any scope a match on two values of one variant evaluates to what the comparison means
   matched : (outer : List Binding) → IsOuter names outer → (block : List Form) → IsMatch which d names variants block → a.variant ≡ b.variant
-      → outcome_of (list_value scene (record { names = outer; parts = [] }) Nothing block) ≡ meaning which table d a b
+      → outcome_of (list_value scene (env_of a outer) Nothing block) ≡ meaning which table d a b
   matched outer is block k same =
       match_same which d table a b names variants are fit outer is block k covers.first covers.second same (covers.each same)
       ∙ same_case which table d a b same
@@ -128,7 +128,7 @@ module _ (which : Comparison) (d : DeriveInput) (variants : List Variant) (fit :
 
   module _ (ordered : IsTrue (is_order (trait_of which))) (m n : ℤ) (m_is : discriminant_of table d a ≡ Some m) (n_is : discriminant_of table d b ≡ Some n) (one : int_cmp m n ≡ Equal → a.variant ≡ b.variant) where
     abbrev after : Env
-    after = record { names = keyed names m n; parts = [] }
+    after = env_of a (keyed names m n)
 
     -- an order means that of the discriminants, or where that is Equal that of the fields
     means : (o : Ordering) → int_cmp m n ≡ o → meaning which table d a b ≡ outcome (discriminants_first which o (order which table (compared which d a b)))
@@ -150,7 +150,7 @@ module _ (which : Comparison) (d : DeriveInput) (variants : List Variant) (fit :
     decision_value : (compares : Form) → IsKeyComparison names compares → (decision : Form) (units : Bool) → are_units variants ≡ units → IsDecision which d names variants compares units decision
         → outcome_of (form_value scene after decision) ≡ meaning which table d a b
     decision_value compares k decision true units is =
-        let none : compared which d a b ≡ [] = ap (λ fs. compared_from which d 0 fs a.fields b.fields) (unit_fields d variants a of_a units) in
+        let none : compared which d a b ≡ [] = ap (λ fs. paired_from (trait_of which) d 0 fs a.fields b.fields) (unit_fields d variants a of_a units) in
         ap (λ x. outcome_of (form_value scene after x)) is
         ∙ answer_outcome which scene after compares (int_cmp m n) ordered (keys_compared d names are a b table m n compares k)
         ∙ discriminants_only which (int_cmp m n) (order which table (compared which d a b)) (λ alike. ap (order which table) none)
@@ -169,10 +169,10 @@ module _ (which : Comparison) (d : DeriveInput) (variants : List Variant) (fit :
       let n = number_at (trait_of which) d table variants fit has.numbers has.have b of_b in
       let one : int_cmp m.0 n.0 ≡ Equal → a.variant ≡ b.variant =
       λ alike. one_place has.numbers a.variant b.variant m.0 has.distinct m.1 (n.1 ∙ ap Some (sym (exact_signed m.0 n.0 alike))) in
-      ap (λ block. outcome_of (list_value scene (record { names = names_for names.other; parts = [] }) Nothing block)) k.block_is
+      ap (λ block. outcome_of (list_value scene (env_of a (names_for names.other)) Nothing block)) k.block_is
       ∙ ap (λ flow. outcome_of (go_on flow (λ env thing. list_value scene env thing (k.decision ∷ []))))
       (keys_value d names are a b table (trait_of which) variants fit has.numbers has.have of_a of_b m.0 n.0 m.2 n.2 k.keys k.keys_are)
-      ∙ ap outcome_of (go_on-end (form_value scene (record { names = keyed names m.0 n.0; parts = [] }) k.decision))
+      ∙ ap outcome_of (go_on-end (form_value scene (env_of a (keyed names m.0 n.0)) k.decision))
       ∙ decision_value ordered m.0 n.0 m.2 n.2 one k.compares k.comparison_is k.decision (are_units variants) refl k.decision_is
 
 -- the block of an equality
@@ -193,8 +193,8 @@ equal_value d variants fit names are table a b covers block k = by_variant (a.va
 -- the body of a comparison of an enum evaluates to what it means
 pub enum_evaluates : (which : Comparison) (d : DeriveInput) (variants : List Variant) (body : Body) → AreFit (trait_of which) d variants → IsEnumBody which d variants body → Compares which d body
 enum_evaluates which d variants body fit k table a b covers =
-    (λ i. ended (k.params_are i) (list_value (scene_of d a b table) (start (k.params_are i)) Nothing body.block))
-    ∙ (λ i. outcome_of (list_value (scene_of d a b table) (record { names = names_for (k.param_is i); parts = [] }) Nothing body.block))
+    (λ i. ended (k.params_are i) (list_value (scene_of d a b table) (start (k.params_are i) (Some a)) Nothing body.block))
+    ∙ (λ i. outcome_of (list_value (scene_of d a b table) (env_of a (names_for (k.param_is i))) Nothing body.block))
     ∙ by_trait which variants fit k.block_is covers
   where
     by_trait : (which : Comparison) (variants : List Variant) (fit : AreFit (trait_of which) d variants) → IsEnumBlock which d k.names variants body.block → (covers : Covers which table d a b)

@@ -10,6 +10,7 @@ use Rattle.educe_attrs.specs.Fields.{HaveNoCauses}
 use Rattle.educe_body.specs.declared.comparison.Comparison.{Comparison}
 use Rattle.educe_body.specs.declared.comparison.Comparison.TheVariants.{PartialEq, PartialOrd, Ord}
 use Rattle.educe_body.specs.declared.body.Body.{Body}
+use Rattle.educe_body.specs.declared.body.Function.{Function}
 use Rattle.educe_body.specs.declared.body.Item.{Item}
 use Rattle.educe_laws.specs.Blocks.{IsBodyFor, IsBody, function_name, IsComparisonBlock, Compares, Evaluates, EachEvaluates}
 use Rattle.educe_laws.specs.Comparisons.{trait_of}
@@ -23,10 +24,10 @@ use Rattle.educe_laws.proofs.Structs.{scope_apart, struct_evaluates}
 use Rattle.educe_laws.proofs.Variables.{arm_scope}
 
 -- what a function of a comparison evaluates to is what its trait means
-of_comparison : (which : Comparison) (d : DeriveInput) (body : Body) → Compares which d body → Evaluates (trait_of which) d body
-of_comparison PartialEq d body compares = compares
-of_comparison PartialOrd d body compares = compares
-of_comparison Ord d body compares = compares
+of_comparison : (which : Comparison) (d : DeriveInput) (f : Function) → Compares which d f.body → Evaluates (trait_of which) d f
+of_comparison PartialEq d f compares = compares
+of_comparison PartialOrd d f compares = compares
+of_comparison Ord d f compares = compares
 
 module _ (which : Comparison) (d : DeriveInput) (is : IsDefinition d.tokens d) (small : length d.tokens ≤ 2 ^ 64)
     (uncaused : HaveNoCauses (trait_of which) (field_row (trait_of which)) (listed d) (all_fields d)) where
@@ -42,7 +43,7 @@ module _ (which : Comparison) (d : DeriveInput) (is : IsDefinition d.tokens d) (
 
   -- the functions of the block of a comparison evaluate to what it means
   pub block_evaluates : (items : List Item) → IsComparisonBlock which d items → AllByRecursion (EachEvaluates d) items
-  block_evaluates = impl_evaluates (trait_of which) d (function_name which) (IsBody which d) (λ body k. of_comparison which d body (body_evaluates body k))
+  block_evaluates = impl_evaluates (trait_of which) d (function_name which) (IsBody which d) (λ f named k. of_comparison which d f (body_evaluates f.body k))
 
 -- the laws of comparisons hold
 pub lawful_comparisons : ComparisonLaws

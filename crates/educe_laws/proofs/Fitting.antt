@@ -20,7 +20,7 @@ use Rattle.educe_body.specs.declared.body.Item.{Item}
 use Rattle.educe_body.specs.declared.body.Item.TheVariants.{Impl}
 use Rattle.educe_body.specs.Keys.{AreDifferent, fields_of, keys_of}
 use Rattle.educe_body.specs.Keys as keys
-use Rattle.educe_laws.specs.Blocks.{IsFunction, IsImpl, IsImplBlock, Evaluates, EachEvaluates}
+use Rattle.educe_laws.specs.Blocks.{IsFunction, IsImpl, IsImplBlock, AreNone, Evaluates, EachEvaluates}
 use Rattle.educe_laws.specs.BodyLaws.{lawful_keys}
 use Rattle.educe_laws.specs.Cases.{fields_in, shape_cases}
 use Rattle.educe_laws.specs.Listed.{listed}
@@ -76,16 +76,23 @@ module _ (which : Trait) (d : DeriveInput) (is : IsDefinition d.tokens d) (small
 
 -- ---- blocks of one impl
 
--- where bodies that are right evaluate to what the trait means, so do the functions of its impl
-pub item_evaluates : (which : Trait) (d : DeriveInput) (name : List ℕ) (IsRight : Body → Type 0) → ((body : Body) → IsRight body → Evaluates which d body) → (item : ImplItem)
+-- where a function of this name that is right means something, each function of a list does that is one such
+pub function_means : (Means : Function → Type 0) (name : List ℕ) (IsRight : Body → Type 0) → ((f : Function) → f.name.text ≡ name → IsRight f.body → Means f)
+    → (functions : List Function) → IsFunction name IsRight functions → AllByRecursion Means functions
+function_means Means name IsRight each functions k = subst (AllByRecursion Means) (sym k.are) (each (record { name = k.own; body = k.body }) k.name_is k.body_is, tt)
+
+-- where functions that are right evaluate to what the trait means, so do the functions of its impl
+pub item_evaluates : (which : Trait) (d : DeriveInput) (name : List ℕ) (IsRight : Body → Type 0) → ((f : Function) → f.name.text ≡ name → IsRight f.body → Evaluates which d f) → (item : ImplItem)
     → IsImpl which d (IsFunction name IsRight) item → EachEvaluates d (Impl item)
 item_evaluates which d name IsRight each item k =
-    let Each : List Function → Type 0 = λ functions. AllByRecursion (λ f. Evaluates which d f.body) functions in
-    let EachOf : Trait → Type 0 = λ which. AllByRecursion (λ f. Evaluates which d f.body) item.functions in
-    let function = k.functions_are in
-    subst EachOf (sym k.which_is) (subst Each (sym function.are) (each function.body function.body_is, tt))
+    let EachOf : Trait → Type 0 = λ which. AllByRecursion (Evaluates which d) item.functions in
+    subst EachOf (sym k.which_is) (function_means (Evaluates which d) name IsRight each item.functions k.functions_are)
+
+-- an impl without functions has none to evaluate
+pub none_evaluate : (which : Trait) (d : DeriveInput) (item : ImplItem) → IsImpl which d AreNone item → EachEvaluates d (Impl item)
+none_evaluate which d item is = subst (AllByRecursion (Evaluates item.which d)) (sym is.functions_are) tt
 
 -- and so do those of a block that is this impl
-pub impl_evaluates : (which : Trait) (d : DeriveInput) (name : List ℕ) (IsRight : Body → Type 0) → ((body : Body) → IsRight body → Evaluates which d body) → (items : List Item)
+pub impl_evaluates : (which : Trait) (d : DeriveInput) (name : List ℕ) (IsRight : Body → Type 0) → ((f : Function) → f.name.text ≡ name → IsRight f.body → Evaluates which d f) → (items : List Item)
     → IsImplBlock which d (IsFunction name IsRight) items → AllByRecursion (EachEvaluates d) items
 impl_evaluates which d name IsRight each items k = subst (AllByRecursion (EachEvaluates d)) (sym k.are) (item_evaluates which d name IsRight each k.item k.impl_is, tt)

@@ -15,6 +15,7 @@ use Rattle.educe_body.specs.declared.callee.BuiltIn.TheVariants.{Hash}
 use Rattle.educe_body.specs.declared.callee.Callee.{Callee}
 use Rattle.educe_body.specs.declared.environment.Binding.{Binding}
 use Rattle.educe_body.specs.declared.environment.Env.{Env}
+use Rattle.educe_body.specs.declared.environment.Own.{Own}
 use Rattle.educe_body.specs.declared.environment.Referent.TheVariants.{Inert as InertReferent}
 use Rattle.educe_body.specs.declared.flow.Flow.{Flow}
 use Rattle.educe_body.specs.declared.flow.Flow.TheVariants.{Gives}
@@ -70,28 +71,28 @@ module _ (scene : Scene) (env : Env) (input : List Token) (apart : AllByRecursio
 
 -- ---- the steps on several fields
 
--- these names in scope, and what was fed
-abbrev pub at : List Binding → List ℤ → Env
-at names parts = record { names = names; parts = parts }
+-- these names in scope, what was fed, and what `self` is
+abbrev pub at : List Binding → List ℤ → Option Own → Env
+at names parts self = record { names = names; parts = parts; own = self }
 
-module _ (scene : Scene) (names : List Binding) (reading : Reading) (look : Look) where
+module _ (scene : Scene) (names : List Binding) (self : Option Own) (reading : Reading) (look : Look) where
   -- what reads a field so gives the field's value, whatever was fed before
   abbrev pub ReadsField : Kept → Type 0
-  ReadsField k = (x : Form) → IsRead reading k x → (parts : List ℤ) → form_value scene (at names parts) x ≡ Gives (at names parts) (Part (value_in look k))
+  ReadsField k = (x : Form) → IsRead reading k x → (parts : List ℤ) → form_value scene (at names parts self) x ≡ Gives (at names parts self) (Part (value_in look k))
 
   module _ (input : List Token) (apart : AllByRecursion (IsApart input) names) (state : List ℕ) (inert : look_up names state ≡ Some InertReferent) where
     -- each field's part is fed once, in the order of the steps
     pub steps_value : (kept : List Kept) (steps : List Form) (parts : List ℤ) → AreHashSteps state reading kept steps → AllByRecursion (λ (k : Kept). HasOwnPath input k.how) kept
         → AllByRecursion ReadsField kept → AllFeed scene.answers (map (given look) kept)
-        → list_value scene (at names parts) Nothing steps ≡ Gives (at names (parts ++ fed_by scene.answers (map (given look) kept))) Nothing
-    steps_value [] [] parts are own reads feed = ap (λ (all : List ℤ). Gives (at names all) Nothing) (sym (append-nil parts))
+        → list_value scene (at names parts self) Nothing steps ≡ Gives (at names (parts ++ fed_by scene.answers (map (given look) kept)) self) Nothing
+    steps_value [] [] parts are own reads feed = ap (λ (all : List ℤ). Gives (at names all self) Nothing) (sym (append-nil parts))
     steps_value [] (s ∷ steps) parts are own reads feed = absurd are
     steps_value (k ∷ kept) [] parts are own reads feed = absurd are
     steps_value (k ∷ kept) (s ∷ steps) parts are own reads feed =
         let v = given look k in
         let n = unwrap_or (feeds scene.answers v) (pos 0) in
         let step = are.0 in
-        let here = field_value scene (at names parts) input apart state inert v step.fed s n step.is own.0 (reads.0 step.fed step.fed_is parts) (some_is (feeds scene.answers v) (pos 0) feed.0) in
+        let here = field_value scene (at names parts self) input apart state inert v step.fed s n step.is own.0 (reads.0 step.fed step.fed_is parts) (some_is (feeds scene.answers v) (pos 0) feed.0) in
         ap (λ (flow : Flow). go_on flow (λ env thing. list_value scene env thing steps)) here
         ∙ steps_value kept steps (parts ++ n ∷ []) are.1 own.1 reads.1 feed.1
-        ∙ ap (λ (all : List ℤ). Gives (at names all) Nothing) (append_assoc parts (n ∷ []) (fed_by scene.answers (map (given look) kept)))
+        ∙ ap (λ (all : List ℤ). Gives (at names all self) Nothing) (append_assoc parts (n ∷ []) (fed_by scene.answers (map (given look) kept)))

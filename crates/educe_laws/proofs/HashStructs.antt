@@ -11,12 +11,14 @@ use Rattle.educe_syntax.specs.Shape.{Shape}
 use Rattle.educe_syntax.specs.Shape.TheVariants.{Struct}
 use Rattle.educe_bound.specs.declared.traits.Trait.TheVariants as trait
 use Rattle.educe_body.specs.Keys.{AreDifferent, keys_of}
-use Rattle.educe_body.specs.Meaning.{Scene, start, innermost, look_up, part_flow, list_value, parts_of, ended}
+use Rattle.educe_body.specs.Meaning.{Scene, start, first_own, innermost, look_up, part_flow, list_value, parts_of, ended, value}
 use Rattle.educe_body.specs.NameLaws.{lawful_names}
 use Rattle.educe_body.specs.Scoping.{IsApart}
 use Rattle.educe_body.specs.declared.answers.Answers.{Answers}
 use Rattle.educe_body.specs.declared.body.Body.{Body}
 use Rattle.educe_body.specs.declared.environment.Binding.{Binding}
+use Rattle.educe_body.specs.declared.environment.Own.{Own}
+use Rattle.educe_body.specs.declared.environment.Own.TheVariants.{Value as OwnValue}
 use Rattle.educe_body.specs.declared.environment.Referent.{Referent}
 use Rattle.educe_body.specs.declared.environment.Referent.TheVariants.{This, Inert}
 use Rattle.educe_body.specs.declared.evaluator.Outcome.TheVariants.{Parts}
@@ -25,7 +27,7 @@ use Rattle.educe_body.specs.declared.form.Form.{Form}
 use Rattle.educe_body.specs.declared.value.Value.{Value}
 use Rattle.educe_body.proofs.Fields.{bytes_eq-same, bytes_eq-differ}
 use Rattle.educe_laws.specs.Arms.{AreScoped}
-use Rattle.educe_laws.specs.Blocks.{hash_scene}
+use Rattle.educe_laws.specs.Blocks.{scene_with}
 use Rattle.educe_laws.specs.HashBodies.{HashNames, plain_params, chosen_params, AreHashNames, AreHashParams, IsHashStructBlock}
 use Rattle.educe_laws.specs.Hashing.{Valued, valued_from, valued, AllFeed, fed_by, variant_parts, hash_of, HashCovers}
 use Rattle.educe_laws.specs.Settings.{Kept, kept_fields}
@@ -83,31 +85,32 @@ module _ (d : DeriveInput) (names : HashNames) (are : AreHashNames d names) wher
 
 -- a body with these parameters begins in this scope, and comes to what is fed
 pub begins : (scene : Scene) (names : HashNames) (body : Body) (k : AreHashParams names body.params)
-    → ended body.params (list_value scene (start body.params) Nothing body.block) ≡ parts_of (list_value scene (at (outer names) []) Nothing body.block)
+    → value body scene ≡ parts_of (list_value scene (at (outer names) [] (first_own scene.this)) Nothing body.block)
 begins scene names body k =
-    (λ i. ended (k.are i) (list_value scene (start (k.are i)) Nothing body.block))
-    ∙ (λ i. parts_of (list_value scene (at (hash_scope (k.state_is i) (k.hasher_is i)) []) Nothing body.block))
+    (λ i. ended (k.are i) (list_value scene (start (k.are i) scene.this) Nothing body.block))
+    ∙ (λ i. parts_of (list_value scene (at (hash_scope (k.state_is i) (k.hasher_is i)) [] (first_own scene.this)) Nothing body.block))
 
 -- ---- structs
 
 -- the block of `hash` of a struct feeds what its value does
 pub struct_hashes : (d : DeriveInput) (shape : FieldShape) (names : HashNames) (are : AreHashNames d names) (block : List Form) → d.shape ≡ Struct shape → AreDifferent (keys_of d)
     → HaveOwnMethods trait.Hash d shape.fields → IsHashStructBlock d names shape.fields block → (table : Answers) (a : Value) (other : Option Value) → HashCovers table d a
-    → parts_of (list_value (hash_scene d a other table) (at (outer names) []) Nothing block) ≡ Parts (hash_of table d a)
+    → parts_of (list_value (scene_with d a other table) (at (outer names) [] (Some (OwnValue a))) Nothing block) ≡ Parts (hash_of table d a)
 struct_hashes d shape names are block is differ named k table a other covers =
     let fs = shape.fields in
     let kept = kept_fields trait.Hash d fs in
     let look = look_of d a in
-    let sc = hash_scene d a other table in
+    let sc = scene_with d a other table in
     let own = outer names in
+    let self : Option Own = Some (OwnValue a) in
     let reading = of_base k.copied (codes "self") in
     let of_a = is_struct_of d shape is differ a covers.shape in
     let paired : valued trait.Hash d a ≡ map (given look) kept =
     ap (λ (all : List Field). valued_from trait.Hash d 0 all a.fields) of_a.case_is ∙ valued-given look trait.Hash d 0 fs a.fields of_a.give in
     let feed : AllFeed table (map (given look) kept) = subst (AllFeed table) paired covers.each in
-    let reads : (f : Kept) → IsGiven look f → ReadsField sc own reading look f =
-    λ f there x r parts. reads_of sc (at own parts) k.copied (codes "self") This (self_found d names are) f x r ∙ ap (part_flow (at own parts)) there in
-    let each = each_weaker (IsGiven look) (ReadsField sc own reading look) reads kept (each_given look trait.Hash d 0 fs a.fields of_a.give) in
-    ap parts_of (steps_value sc own reading look d.tokens (names_apart d names are) names.state (state_found d names are) kept block [] k.steps_are named each feed)
+    let reads : (f : Kept) → IsGiven look f → ReadsField sc own self reading look f =
+    λ f there x r parts. reads_of sc (at own parts self) k.copied (codes "self") This (self_found d names are) f x r ∙ ap (part_flow (at own parts self)) there in
+    let each = each_weaker (IsGiven look) (ReadsField sc own self reading look) reads kept (each_given look trait.Hash d 0 fs a.fields of_a.give) in
+    ap parts_of (steps_value sc own self reading look d.tokens (names_apart d names are) names.state (state_found d names are) kept block [] k.steps_are named each feed)
     ∙ ap (λ (vs : List Valued). Parts (fed_by table vs)) (sym paired)
     ∙ ap (λ (s : Shape). Parts (variant_parts s a ++ fed_by table (valued trait.Hash d a))) (sym is)

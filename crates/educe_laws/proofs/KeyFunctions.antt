@@ -57,7 +57,7 @@ use Rattle.educe_laws.proofs.Arms.{IsOf, fits_own, fits_no_other, apart_first}
 use Rattle.educe_laws.proofs.Elements.{In, map_at, each_in, each_weaker}
 use Rattle.educe_laws.proofs.Facts.{AreFit, IsOwnName, are_plain, IsOuter}
 use Rattle.educe_laws.proofs.OwnTexts.{HasOwnNumber}
-use Rattle.educe_laws.proofs.Structs.{names_for}
+use Rattle.educe_laws.proofs.Structs.{names_for, env_of}
 use Rattle.educe_laws.proofs.Variables.{name_not_self, around_apart}
 
 -- ---- constants
@@ -302,19 +302,19 @@ module _ (d : DeriveInput) (names : Names) (are : AreNames d names) where
     -- a key function adds one name to the scope, which stands for the discriminants
     pub keys_value : (which : Trait) (variants : List Variant) → AreFit which d variants → (numbers : List ℤ) → HaveNumbers table d numbers → IsOf d variants a → IsOf d variants b
         → (m n : ℤ) → discriminant_of table d a ≡ Some m → discriminant_of table d b ≡ Some n → (x : Form) → IsKeyFunction d names x
-        → form_value scene (record { names = names_for names.other; parts = [] }) x ≡ Gives (record { names = keyed names m n; parts = [] }) Nothing
+        → form_value scene (env_of a (names_for names.other)) x ≡ Gives (env_of a (keyed names m n)) Nothing
     keys_value which variants fit numbers have of_a of_b m n m_is n_is x k =
         let inner = names_for names.other ++ parameter k.this ∷ [] in
         let known : AllByRecursion (IsOwnName (chosen_names names)) inner = (inl refl, (inr (inl refl), (inr (inr (inr (inl (sym k.this_is.is)))), tt))) in
         let apart = around_apart d names are inner known in
         let key_a = key_is which d table variants fit numbers have a of_a inner k.ty names.base k.arms apart k.ty_is k.arms_are ∙ m_is in
         let key_b = key_is which d table variants fit numbers have b of_b inner k.ty names.base k.arms apart k.ty_is k.arms_are ∙ n_is in
-        ap (form_value scene (record { names = names_for names.other; parts = [] })) k.is
-        ∙ (λ i. Gives (record { names = names_for names.other ++ record { name = k.function_is.is i; referent = Keys (key_a i) (key_b i) } ∷ []; parts = [] }) Nothing)
+        ap (form_value scene (env_of a (names_for names.other))) k.is
+        ∙ (λ i. Gives (env_of a (names_for names.other ++ record { name = k.function_is.is i; referent = Keys (key_a i) (key_b i) } ∷ [])) Nothing)
 
     module _ (m n : ℤ) where
       abbrev after : Env
-      after = record { names = keyed names m n; parts = [] }
+      after = env_of a (keyed names m n)
 
       -- a key is the number for what its value's name stands for
       key_value : (value : List ℕ) (r : Referent) (number : ℤ) → look_up after.names value ≡ Some r → number_for (Some m) (Some n) (Some r) ≡ Some number → (x : Form) → IsKeyOf names value x

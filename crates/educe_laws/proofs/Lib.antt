@@ -25,6 +25,14 @@ pub mod HashStructs
 pub mod HashEnums
 pub mod HashEvaluating
 pub mod DefaultEvaluating
+pub mod Unignored
+pub mod AllKept
+pub mod CloneNames
+pub mod CloneSteps
+pub mod CloneStructs
+pub mod CloneEnums
+pub mod FromEnums
+pub mod CloneEvaluating
 pub mod Checked
 pub mod Traits
 pub mod Stops

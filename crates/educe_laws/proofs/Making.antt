@@ -1,8 +1,8 @@
 -- The body of `default` evaluates to what `default` means.
-use Rattle.std.proofs.Common.{◌≡◌, ◌≢◌, ℕ, zero, suc, ◌+◌, ◌^◌, Bool, true, false, List, [], ◌∷◌, ◌++◌, Option, Some, None, map, refl, sym, ap, ◌∙◌, subst, arith}
+use Rattle.std.proofs.Common.{◌≡◌, ℕ, zero, suc, ◌+◌, ◌^◌, Bool, true, false, List, [], ◌∷◌, ◌++◌, Option, Some, None, refl, sym, ap, ◌∙◌, subst, arith}
 use Rattle.std.specs.Prelude.{if◌then◌else◌, codes, slice_get, nat_lt}
 use Rattle.std.specs.Option.{option_map}
-use Rattle.std.specs.List.{AllByRecursion, AllZip, list_any}
+use Rattle.std.specs.List.{AllZip}
 use Rattle.std.specs.Str.{bytes_eq}
 use Rattle.std.specs.Cmp.Lexicographic.{pointwise}
 use Rattle.std.proofs.lemmas.Bool.{or_from, and_right, and_from, cond-false}
@@ -13,7 +13,6 @@ use Rattle.educe_tokens.specs.declared.token.Token.{Token}
 use Rattle.educe_tokens.specs.declared.written.Written.{Written}
 use Rattle.educe_tokens.specs.Lexes.{Lexeme, lexemes}
 use Rattle.educe_tokens.specs.Quote.{quoted}
-use Rattle.educe_tokens.specs.Text.{text_of}
 use Rattle.educe_tokens.specs.WrittenLexemes.{written_lexemes}
 use Rattle.educe_syntax.specs.DeriveInput.{DeriveInput}
 use Rattle.educe_syntax.specs.Expr.{Expr}
@@ -25,7 +24,6 @@ use Rattle.educe_syntax.specs.Naming.{variant_names, AreApart, AllApart, AreName
 use Rattle.educe_syntax.specs.Shape.{Shape}
 use Rattle.educe_syntax.specs.Shape.TheVariants.{Struct, Enum}
 use Rattle.educe_syntax.specs.TokenLaws.{lawful_copies}
-use Rattle.educe_syntax.specs.Ty.{Ty}
 use Rattle.educe_syntax.specs.Variant.{Variant}
 use Rattle.educe_attrs.specs.Adjusted.{adjusted}
 use Rattle.educe_body.specs.declared.answers.Answer.{Answer}
@@ -33,13 +31,12 @@ use Rattle.educe_body.specs.declared.answers.Answer.TheVariants as answer
 use Rattle.educe_body.specs.declared.answers.Answers.{Answers}
 use Rattle.educe_body.specs.declared.body.Body.{Body}
 use Rattle.educe_body.specs.declared.callee.Callee.{Callee}
-use Rattle.educe_body.specs.declared.callee.Callee.TheVariants as callee
 use Rattle.educe_body.specs.declared.environment.Env.{Env}
 use Rattle.educe_body.specs.declared.evaluator.Outcome.{Outcome}
 use Rattle.educe_body.specs.declared.evaluator.Outcome.TheVariants as outcome
 use Rattle.educe_body.specs.declared.flow.Flow.{Flow}
 use Rattle.educe_body.specs.declared.flow.Flow.TheVariants.{Gives, Returns, Stuck}
-use Rattle.educe_body.specs.declared.flow.Thing.TheVariants.{Nothing, Made, Built}
+use Rattle.educe_body.specs.declared.flow.Thing.TheVariants.{Nothing, Made}
 use Rattle.educe_body.specs.declared.form.Form.{Form, Pasted}
 use Rattle.educe_body.specs.declared.form.Init.{Init}
 use Rattle.educe_body.specs.declared.value.FieldValue.{FieldValue}
@@ -47,28 +44,26 @@ use Rattle.educe_body.specs.declared.value.Value.{Value}
 use Rattle.educe_body.specs.Answering.{answer_of}
 use Rattle.educe_body.specs.Callees.{spellings}
 use Rattle.educe_body.specs.Cases.{case_at, variant_named, case_of_shape, case_named}
-use Rattle.educe_body.specs.Matching.{has_key}
-use Rattle.educe_body.specs.Meaning.{Scene, start, go_on, answer_flow, call_named, with_case, built, if_made, for_field, form_value, inits_list, list_value, outcome_of, ended, value}
+use Rattle.educe_body.specs.Meaning.{Scene, first_bindings, start, go_on, answer_flow, call_named, with_case, built, if_made, for_field, form_value, inits_list, list_value, outcome_of, ended, value}
 use Rattle.educe_body.specs.Scoping.{is_ident, is_hidden, is_bound, names_bound}
-use Rattle.educe_body.specs.Types.{type_spellings, type_place, default_call, default_of, text_callee}
+use Rattle.educe_body.specs.Types.{type_spellings, default_call, text_callee}
 use Rattle.educe_body.proofs.Fields.{bytes_eq-differ}
 use Rattle.educe_laws.specs.BodyLaws.{lawful_forms}
 use Rattle.educe_laws.specs.Cases.{fields_in}
 use Rattle.educe_laws.specs.Defaults.{Choice, by_value, of_struct, of_variant, field_value}
-use Rattle.educe_laws.specs.Making as spec
-use Rattle.educe_laws.specs.Making.{spelled, text_called, type_called, called_by, called_for, value_made, made_by, made_with, fields_made, value_of, case_made, whole_of, outcome_by, default_outcome, scene_without, MakesDefault, default_tokens, field_tokens, IsPasted, IsInit, IsConstruct, IsMaking, HasOneForm, IsDefaultBody, self_tokens, IsNewBody, MakesNew}
+use Rattle.educe_laws.specs.Making.{spelled, text_called, type_called, called_by, called_for, value_made, made_by, made_with, fields_made, value_of, case_made, whole_of, outcome_by, default_outcome, scene_without, MakesDefault, default_tokens, field_tokens, IsPasted, IsInit, IsConstruct, IsMaking, IsDefaultBody, self_tokens, IsNewBody, MakesNew}
 use Rattle.educe_laws.proofs.Arms.{key_fits, apart_first}
 use Rattle.educe_laws.proofs.Choosing.{Fits, chosen_fits}
 
 -- ---- calls
 
 -- the scope of `default` has `self` alone, which hides nothing
-none_bound : (tokens : List Token) → names_bound (start []).names tokens ≡ false
+none_bound : (tokens : List Token) → names_bound (first_bindings []) tokens ≡ false
 none_bound [] = refl
-none_bound (t ∷ tokens) = or_from (is_bound (start []).names t) (names_bound (start []).names tokens) (and_right (is_ident t.kind) (is_hidden (start []).names (unraw t.spelling)) refl) (none_bound tokens)
+none_bound (t ∷ tokens) = or_from (is_bound (first_bindings []) t) (names_bound (first_bindings []) tokens) (and_right (is_ident t.kind) (is_hidden (first_bindings []) (unraw t.spelling)) refl) (none_bound tokens)
 
 -- an answer that makes a value gives it
-made_flow : (env : Env) (found : Option Answer) (x : FieldValue) → value_made found ≡ Some x → answer_flow env found ≡ Gives env (Made x)
+pub made_flow : (env : Env) (found : Option Answer) (x : FieldValue) → value_made found ≡ Some x → answer_flow env found ≡ Gives env (Made x)
 made_flow env None x made = absurd (cc)
 made_flow env (Some (answer.Truth b)) x made = absurd (cc)
 made_flow env (Some (answer.Order o)) x made = absurd (cc)
@@ -83,11 +78,11 @@ called_gives env table None x made = absurd (cc)
 called_gives env table (Some c) x made = made_flow env (answer_of table c None None) x made
 
 -- tokens that are pasted give the value that is made by what they call
-pasted_gives : (scene : Scene) (text : Written) (called : Option Callee) (x : FieldValue) → text_callee scene.definition scene.field text ≡ called → made_by scene.answers called ≡ Some x
-    → form_value scene (start []) (Pasted text) ≡ Gives (start []) (Made x)
-pasted_gives scene text called x is made =
-    ap (λ (o : Option Callee). call_named scene.answers o (start []) []) (cond-false (names_bound (start []).names text.tokens) _ _ (none_bound text.tokens) ∙ is)
-    ∙ called_gives (start []) scene.answers called x made
+pasted_gives : (scene : Scene) (this : Option Value) (text : Written) (called : Option Callee) (x : FieldValue) → text_callee scene.definition scene.field text ≡ called → made_by scene.answers called ≡ Some x
+    → form_value scene (start [] this) (Pasted text) ≡ Gives (start [] this) (Made x)
+pasted_gives scene this text called x is made =
+    ap (λ (o : Option Callee). call_named scene.answers o (start [] this) []) (cond-false (names_bound (first_bindings []) text.tokens) _ _ (none_bound text.tokens) ∙ is)
+    ∙ called_gives (start [] this) scene.answers called x made
 
 -- ---- what tokens call
 
@@ -135,44 +130,44 @@ init_calls d f (Some said) text is = field_calls d f text (adjusted said.written
 -- ---- fields
 
 -- a value and more that are made
-record AreMade (x : Option FieldValue) (xs : Option (List FieldValue)) (values : List FieldValue) : Type 0 where
-  first : FieldValue
-  more : List FieldValue
-  first_is : x ≡ Some first
-  more_are : xs ≡ Some more
-  are : values ≡ first ∷ more
+pub record AreMade (x : Option FieldValue) (xs : Option (List FieldValue)) (values : List FieldValue) : Type 0 where
+  pub first : FieldValue
+  pub more : List FieldValue
+  pub first_is : x ≡ Some first
+  pub more_are : xs ≡ Some more
+  pub are : values ≡ first ∷ more
 
-made_apart : (x : Option FieldValue) (xs : Option (List FieldValue)) (values : List FieldValue) → made_with x xs ≡ Some values → AreMade x xs values
+pub made_apart : (x : Option FieldValue) (xs : Option (List FieldValue)) (values : List FieldValue) → made_with x xs ≡ Some values → AreMade x xs values
 made_apart None xs values made = absurd (cc)
 made_apart (Some x) None values made = absurd (cc)
 made_apart (Some x) (Some xs) values made = record { first = x; more = xs; first_is = refl; more_are = refl; are = sym (same_Some (x ∷ xs) values made) }
 
 -- each initializer gives the value of its field
-inits_give : (scene : Scene) (fs : List Field) (inits : List Init) (values : List FieldValue) (next : Env → List FieldValue → Flow) → AllZip (IsInit scene.definition) fs inits
-    → fields_made scene.answers scene.definition fs ≡ Some values → inits_list scene (start []) inits fs next ≡ next (start []) values
-inits_give scene [] [] values next are made = ap (next (start [])) (same_Some [] values made)
-inits_give scene [] (i ∷ inits) values next are made = absurd are
-inits_give scene (f ∷ fs) [] values next are made = absurd are
-inits_give scene (f ∷ fs) (i ∷ inits) values next are made =
+inits_give : (scene : Scene) (this : Option Value) (fs : List Field) (inits : List Init) (values : List FieldValue) (next : Env → List FieldValue → Flow) → AllZip (IsInit scene.definition) fs inits
+    → fields_made scene.answers scene.definition fs ≡ Some values → inits_list scene (start [] this) inits fs next ≡ next (start [] this) values
+inits_give scene this [] [] values next are made = ap (next (start [] this)) (same_Some [] values made)
+inits_give scene this [] (i ∷ inits) values next are made = absurd are
+inits_give scene this (f ∷ fs) [] values next are made = absurd are
+inits_give scene this (f ∷ fs) (i ∷ inits) values next are made =
     let d = scene.definition in
     let said = field_value d f in
     let parts = made_apart (made_by scene.answers (called_for d f said)) (fields_made scene.answers d fs) values made in
     let more = if_made (λ env x. inits_list scene env inits fs (λ env xs. next env (x ∷ xs))) in
     let pasted = are.0.value_is in
-    ap (λ (b : Bool). if b then go_on (form_value (for_field scene f) (start []) i.value) more else Stuck) (key_fits f.ident i.key are.0.key_is)
-    ∙ ap (λ (x : Form). go_on (form_value (for_field scene f) (start []) x) more) pasted.is
+    ap (λ (b : Bool). if b then go_on (form_value (for_field scene f) (start [] this) i.value) more else Stuck) (key_fits f.ident i.key are.0.key_is)
+    ∙ ap (λ (x : Form). go_on (form_value (for_field scene f) (start [] this) x) more) pasted.is
     ∙ ap (λ (flow : Flow). go_on flow more)
-    (pasted_gives (for_field scene f) pasted.text (called_for d f said) parts.first (init_calls d f said pasted.text pasted.tokens_are) parts.first_is)
-    ∙ inits_give scene fs inits parts.more (λ env xs. next env (parts.first ∷ xs)) are.1 parts.more_are
-    ∙ ap (next (start [])) (sym parts.are)
+    (pasted_gives (for_field scene f) this pasted.text (called_for d f said) parts.first (init_calls d f said pasted.text pasted.tokens_are) parts.first_is)
+    ∙ inits_give scene this fs inits parts.more (λ env xs. next env (parts.first ∷ xs)) are.1 parts.more_are
+    ∙ ap (next (start [] this)) (sym parts.are)
 
 -- ---- what is built
 
 -- a form that gives a value is a body that evaluates to it
-one_form : (scene : Scene) (body : Body) (x : Form) (found : Outcome) → body.params ≡ [] → body.block ≡ x ∷ [] → outcome_of (form_value scene (start []) x) ≡ found → value body scene ≡ found
+pub one_form : (scene : Scene) (body : Body) (x : Form) (found : Outcome) → body.params ≡ [] → body.block ≡ x ∷ [] → outcome_of (form_value scene (start [] scene.this) x) ≡ found → value body scene ≡ found
 one_form scene body x found params block is =
-    (λ i. ended (params i) (list_value scene (start (params i)) Nothing (block i)))
-    ∙ ap outcome_of (ends (form_value scene (start []) x)) ∙ is
+    (λ i. ended (params i) (list_value scene (start (params i) scene.this) Nothing (block i)))
+    ∙ ap outcome_of (ends (form_value scene (start [] scene.this) x)) ∙ is
   where
     ends : (flow : Flow) → go_on flow (λ env thing. Gives env thing) ≡ flow
     ends flow = elim flow as (λ flow. go_on flow (λ env thing. Gives env thing) ≡ flow) [ Gives env thing ↦ refl | Returns env thing ↦ refl | Stuck ↦ refl ]
@@ -180,17 +175,17 @@ one_form scene body x found params block is =
 -- a construction gives the value of its case
 case_gives : (scene : Scene) (name : Option (List ℕ)) (shape : FieldShape) (x : Form) (place : ℕ) (found : Outcome) (is : IsConstruct scene.definition name shape x)
     → case_named scene.definition is.variant ≡ Some (place, shape.fields) → value_of place (fields_made scene.answers scene.definition shape.fields) ≡ Some found
-    → outcome_of (form_value scene (start []) x) ≡ found
+    → outcome_of (form_value scene (start [] scene.this) x) ≡ found
 case_gives scene name shape x place found is named means = by_values (fields_made scene.answers scene.definition shape.fields) refl means
   where
     by_values : (values : Option (List FieldValue)) → fields_made scene.answers scene.definition shape.fields ≡ values → value_of place values ≡ Some found
-        → outcome_of (form_value scene (start []) x) ≡ found
+        → outcome_of (form_value scene (start [] scene.this) x) ≡ found
     by_values None made means = absurd (cc)
     by_values (Some values) made means =
-        ap (λ (x : Form). outcome_of (form_value scene (start []) x)) is.is
-        ∙ ap outcome_of (lawful_forms.construct scene (start []) is.variant shape.form is.inits
-        ∙ ap (λ (o : Option (ℕ × List Field)). with_case o (λ place fields. inits_list scene (start []) is.inits fields (built place))) named
-        ∙ inits_give scene shape.fields is.inits values (built place) is.inits_are made)
+        ap (λ (x : Form). outcome_of (form_value scene (start [] scene.this) x)) is.is
+        ∙ ap outcome_of (lawful_forms.construct scene (start [] scene.this) is.variant shape.form is.inits
+        ∙ ap (λ (o : Option (ℕ × List Field)). with_case o (λ place fields. inits_list scene (start [] scene.this) is.inits fields (built place))) named
+        ∙ inits_give scene scene.this shape.fields is.inits values (built place) is.inits_are made)
         ∙ same_Some (outcome.Made (record { variant = place; fields = values })) found means
 
 -- ---- names
@@ -208,6 +203,19 @@ named_at (w ∷ vs) place (suc k) v apart at =
     ap (λ (b : Bool). if b then case_at place (fields_in w) else variant_named (place + 1) vs v.ident.text) (bytes_eq-differ w.ident.text v.ident.text (λ same. apart_first w vs k v apart.0 at (ap unraw same)))
     ∙ named_at vs (place + 1) k v apart.1 at ∙ ap (λ n. case_at n (fields_in v)) there
 
+-- no name is written
+pub no_name : (name : Option Ident) → option_map (λ (ident : Ident). ident.text) name ≡ None → name ≡ None
+no_name None is = refl
+no_name (Some ident) is = absurd (cc)
+
+-- a name selects the variant that has it
+pub variant_found : (vs : List Variant) (place : ℕ) (v : Variant) (name : Option Ident) → AreApart (variant_names vs) → slice_get vs place ≡ Some v
+    → option_map (λ (ident : Ident). ident.text) name ≡ Some v.ident.text → case_of_shape (Enum vs) name ≡ case_at place (fields_in v)
+variant_found vs place v None names at is = absurd (cc)
+variant_found vs place v (Some ident) names at is =
+    let here : 0 + place ≡ place = omega arith in
+    ap (variant_named 0 vs) (same_Some ident.text v.ident.text is) ∙ named_at vs 0 place v names at ∙ ap (λ n. case_at n (fields_in v)) here
+
 -- ---- bodies
 
 module _ (d : DeriveInput) (apart : AreNamesApart d) (table : Answers) (this other : Option Value) where
@@ -216,27 +224,15 @@ module _ (d : DeriveInput) (apart : AreNamesApart d) (table : Answers) (this oth
 
   -- pasted tokens give what is made by their text as a whole
   whole_gives : (tokens : List Lexeme) (x : Form) (found : Outcome) → IsPasted tokens x → whole_of (made_by table (text_called tokens)) ≡ Some found
-      → outcome_of (form_value scene (start []) x) ≡ found
+      → outcome_of (form_value scene (start [] this) x) ≡ found
   whole_gives tokens x found is means = by_made (made_by table (text_called tokens)) refl means
     where
-      by_made : (made : Option FieldValue) → made_by table (text_called tokens) ≡ made → whole_of made ≡ Some found → outcome_of (form_value scene (start []) x) ≡ found
+      by_made : (made : Option FieldValue) → made_by table (text_called tokens) ≡ made → whole_of made ≡ Some found → outcome_of (form_value scene (start [] this) x) ≡ found
       by_made None made means = absurd (cc)
       by_made (Some y) made means =
-          ap (λ (x : Form). outcome_of (form_value scene (start []) x)) is.is
-          ∙ ap outcome_of (pasted_gives scene is.text (text_called tokens) y (ap text_called is.tokens_are) made)
+          ap (λ (x : Form). outcome_of (form_value scene (start [] this) x)) is.is
+          ∙ ap outcome_of (pasted_gives scene this is.text (text_called tokens) y (ap text_called is.tokens_are) made)
           ∙ same_Some (outcome.Whole y) found means
-
-  no_name : (name : Option Ident) → option_map (λ (ident : Ident). ident.text) name ≡ None → name ≡ None
-  no_name None is = refl
-  no_name (Some ident) is = absurd (cc)
-
-  -- a name selects the variant that has it
-  variant_found : (vs : List Variant) (place : ℕ) (v : Variant) (name : Option Ident) → AreApart (variant_names vs) → slice_get vs place ≡ Some v
-      → option_map (λ (ident : Ident). ident.text) name ≡ Some v.ident.text → case_of_shape (Enum vs) name ≡ case_at place (fields_in v)
-  variant_found vs place v None names at is = absurd (cc)
-  variant_found vs place v (Some ident) names at is =
-      let here : 0 + place ≡ place = omega arith in
-      ap (variant_named 0 vs) (same_Some ident.text v.ident.text is) ∙ named_at vs 0 place v names at ∙ ap (λ n. case_at n (fields_in v)) here
 
   -- values have the place of a case that there is
   case_is : (place : ℕ) (fs : List Field) (case : ℕ × List Field) (b : Bool) → (if b then Some (place, fs) else None) ≡ Some case → case ≡ (place, fs)
@@ -245,7 +241,7 @@ module _ (d : DeriveInput) (apart : AreNamesApart d) (table : Answers) (this oth
 
   -- the form that makes what is chosen gives what that makes
   choice_gives : (choice : Choice) (x : Form) (found : Outcome) → Fits d.shape choice → IsMaking d choice x → outcome_by table d (Some choice) ≡ Some found
-      → outcome_of (form_value scene (start []) x) ≡ found
+      → outcome_of (form_value scene (start [] this) x) ≡ found
   choice_gives (by_value said) x found fits is means = whole_gives (adjusted said.written None) x found is means
   choice_gives (of_struct shape) x found fits is means =
       case_gives scene None shape x 0 found is
@@ -255,7 +251,7 @@ module _ (d : DeriveInput) (apart : AreNamesApart d) (table : Answers) (this oth
       names : AreApart (variant_names fits.0)
       names = (subst (λ (s : Shape). AllApart (shape_scopes s)) fits.1 apart.1.1).0
 
-      by_case : (case : Option (ℕ × List Field)) → case_at place (fields_in v) ≡ case → case_made table d case ≡ Some found → outcome_of (form_value scene (start []) x) ≡ found
+      by_case : (case : Option (ℕ × List Field)) → case_at place (fields_in v) ≡ case → case_made table d case ≡ Some found → outcome_of (form_value scene (start [] this) x) ≡ found
       by_case None there means = absurd (cc)
       by_case (Some case) there means =
           let same : case ≡ (place, fields_in v) = case_is place (fields_in v) case (nat_lt place (2 ^ 32)) there in

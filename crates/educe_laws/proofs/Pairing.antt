@@ -1,15 +1,13 @@
 -- Fields that take part, with the values that a way to look them up gives.
-use Rattle.std.proofs.Common.{◌≡◌, ℕ, suc, ◌+◌, Bool, true, false, List, [], ◌∷◌, Option, Some, map, length, refl, sym, ap, ◌∙◌, pos}
-use Rattle.std.specs.Prelude.{if◌then◌else◌, unwrap_or}
+use Rattle.std.proofs.Common.{◌≡◌, ℕ, suc, ◌+◌, Bool, true, false, List, [], ◌∷◌, Option, Some, map, length, zero-add, refl, sym, ap, ◌∙◌, subst, arith, pos}
+use Rattle.std.specs.Prelude.{if◌then◌else◌, slice_get, unwrap_or}
 use Rattle.std.specs.List.{AllByRecursion}
 use Rattle.educe_syntax.specs.Field.{Field}
 use Rattle.educe_syntax.specs.DeriveInput.{DeriveInput}
 use Rattle.educe_bound.specs.declared.traits.Trait.{Trait}
-use Rattle.educe_body.specs.declared.comparison.Comparison.{Comparison}
 use Rattle.educe_body.specs.declared.value.FieldValue.{FieldValue}
-use Rattle.educe_laws.specs.Comparisons.{trait_of}
 use Rattle.educe_laws.specs.Settings.{Kept, is_kept, kept_at, kept_from}
-use Rattle.educe_laws.specs.Comparing.{Compared, compared_from, HaveTypes}
+use Rattle.educe_laws.specs.Comparing.{Compared, paired_from, HaveTypes}
 use Rattle.educe_laws.specs.Hashing.{Valued, valued_from}
 
 -- the field value that a look-up gives
@@ -46,15 +44,15 @@ module _ (look_a look_b : Look) where
   seen_step which d place f x y rest kept true at_a at_b same = λ i. record { kept = kept_at which d place f; first = part_in (sym at_a i); second = part_in (sym at_b i) } ∷ same i
   seen_step which d place f x y rest kept false at_a at_b same = same
 
-  -- the fields that take part in a comparison, with their values
-  pub compared-seen : (which : Comparison) (d : DeriveInput) (place : ℕ) (fs : List Field) (xs ys : List FieldValue) → FieldsGive look_a place fs xs → FieldsGive look_b place fs ys
-      → compared_from which d place fs xs ys ≡ map seen (kept_from (trait_of which) d place fs)
-  compared-seen which d place [] xs ys give_a give_b = refl
-  compared-seen which d place (f ∷ fs) [] ys give_a give_b = absurd give_a
-  compared-seen which d place (f ∷ fs) (x ∷ xs) [] give_a give_b = absurd give_b
-  compared-seen which d place (f ∷ fs) (x ∷ xs) (y ∷ ys) give_a give_b =
-      seen_step (trait_of which) d place f x y (compared_from which d (place + 1) fs xs ys) (kept_from (trait_of which) d (place + 1) fs) (is_kept (trait_of which) d f) give_a.0 give_b.0
-      (compared-seen which d (place + 1) fs xs ys give_a.1 give_b.1)
+  -- the fields of two values that take part, with their values
+  pub paired-seen : (which : Trait) (d : DeriveInput) (place : ℕ) (fs : List Field) (xs ys : List FieldValue) → FieldsGive look_a place fs xs → FieldsGive look_b place fs ys
+      → paired_from which d place fs xs ys ≡ map seen (kept_from which d place fs)
+  paired-seen which d place [] xs ys give_a give_b = refl
+  paired-seen which d place (f ∷ fs) [] ys give_a give_b = absurd give_a
+  paired-seen which d place (f ∷ fs) (x ∷ xs) [] give_a give_b = absurd give_b
+  paired-seen which d place (f ∷ fs) (x ∷ xs) (y ∷ ys) give_a give_b =
+      seen_step which d place f x y (paired_from which d (place + 1) fs xs ys) (kept_from which d (place + 1) fs) (is_kept which d f) give_a.0 give_b.0
+      (paired-seen which d (place + 1) fs xs ys give_a.1 give_b.1)
 
 module _ (look : Look) where
   -- a field with its value
@@ -88,6 +86,32 @@ pub each_given : (look : Look) (which : Trait) (d : DeriveInput) (place : ℕ) (
 each_given look which d place [] xs give = tt
 each_given look which d place (f ∷ fs) [] give = absurd give
 each_given look which d place (f ∷ fs) (x ∷ xs) give = given_step look which d place f x (kept_from which d (place + 1) fs) (is_kept which d f) give.0 (each_given look which d (place + 1) fs xs give.1)
+
+-- the field has its value at its place among these
+abbrev pub IsPlaced : Look → List FieldValue → Kept → Type 0
+IsPlaced look all k = slice_get all k.place ≡ Some (value_in look k)
+
+placed_step : (look : Look) (all : List FieldValue) (k : Kept) (kept : List Kept) (keeps : Bool) → IsPlaced look all k → AllByRecursion (IsPlaced look all) kept
+    → AllByRecursion (IsPlaced look all) (if keeps then k ∷ kept else kept)
+placed_step look all k kept true at placed = (at, placed)
+placed_step look all k kept false at placed = placed
+
+-- so has each field that takes part, where the values that are given stand among these from this place on
+placed_from : (look : Look) (all : List FieldValue) (which : Trait) (d : DeriveInput) (place : ℕ) (fs : List Field) (xs : List FieldValue) → FieldsGive look place fs xs
+    → ((k : ℕ) → slice_get all (place + k) ≡ slice_get xs k) → AllByRecursion (IsPlaced look all) (kept_from which d place fs)
+placed_from look all which d place [] xs give within = tt
+placed_from look all which d place (f ∷ fs) [] give within = absurd give
+placed_from look all which d place (f ∷ fs) (x ∷ xs) give within =
+    let here : place + 0 ≡ place = omega arith in
+    placed_step look all (kept_at which d place f) (kept_from which d (place + 1) fs) (is_kept which d f)
+    (subst (λ n. slice_get all n ≡ Some x) here (within 0) ∙ ap (λ found. Some (part_in found)) (sym give.0))
+    (placed_from look all which d (place + 1) fs xs give.1
+    (λ k. let there : place + suc k ≡ place + 1 + k = omega arith in subst (λ n. slice_get all n ≡ slice_get xs k) there (within (suc k))))
+
+-- each field of a value that takes part has its value at its place
+pub each_placed : (look : Look) (which : Trait) (d : DeriveInput) (fs : List Field) (xs : List FieldValue) → FieldsGive look 0 fs xs
+    → AllByRecursion (IsPlaced look xs) (kept_from which d 0 fs)
+each_placed look which d fs xs give = placed_from look xs which d 0 fs xs give (λ k. ap (slice_get xs) (zero-add k))
 
 -- as many values as fields
 pub length_from_types : (all fs : List Field) (xs : List FieldValue) → HaveTypes all fs xs → length fs ≡ length xs

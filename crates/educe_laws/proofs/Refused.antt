@@ -21,7 +21,7 @@ use Rattle.educe_syntax.specs.Few.{shape_variants, variants_of, shape_fields, al
 use Rattle.educe_syntax.specs.Shape.{Shape}
 use Rattle.educe_syntax.specs.Shape.TheVariants.{Struct, Enum}
 use Rattle.educe_syntax.specs.Variant.{Variant}
-use Rattle.educe_laws.specs.Cases.{fields_in, shape_cases, cases_of, variant_attributes, field_attributes}
+use Rattle.educe_laws.specs.Cases.{fields_in, shape_cases, cases_of}
 use Rattle.educe_laws.specs.Built.{built_traits, IsBuilt}
 use Rattle.educe_laws.specs.Comparisons.{trait_of}
 use Rattle.educe_laws.specs.Handled.{IsFieldwiseCause, IsTraitCause, OfCase, OfShape, handling}
@@ -47,8 +47,8 @@ of_trait trait.PartialOrd d e fieldwise cause = cause
 of_trait trait.Ord d e fieldwise cause = cause
 of_trait trait.Hash d e fieldwise cause = cause
 of_trait trait.Debug d e fieldwise cause = absurd (false≢true fieldwise)
-of_trait trait.Clone d e fieldwise cause = absurd (false≢true fieldwise)
-of_trait trait.Copy d e fieldwise cause = absurd (false≢true fieldwise)
+of_trait trait.Clone d e fieldwise cause = cause
+of_trait trait.Copy d e fieldwise cause = cause
 of_trait trait.Default d e fieldwise cause = absurd (false≢true fieldwise)
 
 -- and the other way round
@@ -59,8 +59,8 @@ of_fieldwise trait.PartialOrd d e fieldwise cause = cause
 of_fieldwise trait.Ord d e fieldwise cause = cause
 of_fieldwise trait.Hash d e fieldwise cause = cause
 of_fieldwise trait.Debug d e fieldwise cause = absurd (false≢true fieldwise)
-of_fieldwise trait.Clone d e fieldwise cause = absurd (false≢true fieldwise)
-of_fieldwise trait.Copy d e fieldwise cause = absurd (false≢true fieldwise)
+of_fieldwise trait.Clone d e fieldwise cause = cause
+of_fieldwise trait.Copy d e fieldwise cause = cause
 of_fieldwise trait.Default d e fieldwise cause = absurd (false≢true fieldwise)
 
 -- ---- causes of the places of a definition
@@ -173,6 +173,8 @@ module _ (d : DeriveInput) (built : IsBuilt d) where
 
   -- the settings of a listed trait are what the attributes say, where its handler has no cause
   pub trait_said : (which : Trait) → is_listed (listed d) which ≡ true → NoCause (OfHandler (handling d) which) → AreSaidOf which d
+  trait_said trait.Clone lists uncaused = are_said trait.Clone refl d uncaused
+  trait_said trait.Copy lists uncaused = are_said trait.Copy refl d uncaused
   trait_said trait.PartialEq lists uncaused = are_said trait.PartialEq refl d uncaused
   trait_said trait.Eq lists uncaused = are_said trait.Eq refl d uncaused
   trait_said trait.PartialOrd lists uncaused = are_said trait.PartialOrd refl d uncaused
@@ -180,5 +182,3 @@ module _ (d : DeriveInput) (built : IsBuilt d) where
   trait_said trait.Hash lists uncaused = are_said trait.Hash refl d uncaused
   trait_said trait.Default lists uncaused = defaults_said d uncaused
   trait_said trait.Debug lists uncaused = unlisted trait.Debug refl lists
-  trait_said trait.Clone lists uncaused = unlisted trait.Clone refl lists
-  trait_said trait.Copy lists uncaused = unlisted trait.Copy refl lists

@@ -23,6 +23,7 @@ use Rattle.educe_body.specs.declared.answers.Answers.{Answers}
 use Rattle.educe_body.specs.declared.body.Body.{Body}
 use Rattle.educe_body.specs.declared.environment.Binding.{Binding}
 use Rattle.educe_body.specs.declared.environment.Env.{Env}
+use Rattle.educe_body.specs.declared.environment.Own.TheVariants.{Value as OwnValue}
 use Rattle.educe_body.specs.declared.environment.Referent.{Referent}
 use Rattle.educe_body.specs.declared.environment.Referent.TheVariants.{This, Other}
 use Rattle.educe_body.specs.declared.flow.Flow.TheVariants.{Gives}
@@ -37,7 +38,7 @@ use Rattle.educe_body.specs.Scoping.{IsApart, own_self, apart}
 use Rattle.educe_body.specs.Words.{HasWord}
 use Rattle.educe_laws.specs.Settings.{Kept, kept_fields}
 use Rattle.educe_laws.specs.Cases.{shape_cases, cases_of, case_of}
-use Rattle.educe_laws.specs.Comparing.{Compared, HasShape, compared_from, compared, says, neutral, differs, answered, outcome, number_order}
+use Rattle.educe_laws.specs.Comparing.{Compared, HasShape, paired_from, compared, says, neutral, differs, answered, outcome, number_order}
 use Rattle.educe_laws.specs.Comparisons.{trait_of}
 use Rattle.educe_laws.specs.Discriminants.{counted_from, discriminant, flat, discriminant_of}
 use Rattle.educe_laws.specs.BodyLaws.{lawful_keys}
@@ -46,7 +47,7 @@ use Rattle.educe_laws.specs.Steps.{reference_form, of_base, IsReference, AreStep
 use Rattle.educe_laws.proofs.Elements.{each_map, each_mapped, each_weaker}
 use Rattle.educe_laws.proofs.Least.{first_where}
 use Rattle.educe_laws.proofs.Meanings.{each_in_order, means_in_order, same_case, steps_ended}
-use Rattle.educe_laws.proofs.Pairing.{Look, FieldsGive, value_in, IsGiven, seen, compared-seen, each_given, length_from_types}
+use Rattle.educe_laws.proofs.Pairing.{Look, FieldsGive, value_in, IsGiven, seen, paired-seen, each_given, length_from_types}
 use Rattle.educe_laws.proofs.Stepping.{HasOwnPath, steps-value, Reads, read_steps}
 
 -- ---- the parameter
@@ -81,6 +82,10 @@ scope_apart d name is = (
 abbrev pub names_for : List ℕ → List Binding
 names_for param = record { name = codes "self"; referent = This } ∷ record { name = param; referent = Other } ∷ []
 
+-- the names in scope, where `self` is this value and nothing was fed
+abbrev pub env_of : Value → List Binding → Env
+env_of a names = record { names = names; parts = []; own = Some (OwnValue a) }
+
 -- ---- how fields are read
 
 module _ (scene : Scene) (env : Env) where
@@ -91,10 +96,10 @@ module _ (scene : Scene) (env : Env) where
 
   -- a reference gives the field of the value that its base stands for
   pub reads_of : (copied : Bool) (base : List ℕ) (referent : Referent) → look_up env.names base ≡ Some referent → (k : Kept) (x : Form) → IsReference copied base k.place k.field x
-      → form_value scene env x ≡ part_flow env (reference_value scene (Some referent) (key_of k.place k.field))
+      → form_value scene env x ≡ part_flow env (reference_value scene env (Some referent) (key_of k.place k.field))
   reads_of copied base referent found k x r =
       ap (form_value scene env) r.is ∙ reference_gives copied r.base_name r.key ∙ (λ i. read_flow scene env (r.base_is i) (r.key_is i))
-      ∙ ap (λ (o : Option Referent). part_flow env (reference_value scene o (key_of k.place k.field))) found
+      ∙ ap (λ (o : Option Referent). part_flow env (reference_value scene env o (key_of k.place k.field))) found
 
 -- by these keys the fields of a struct have the values of the value's fields
 abbrev pub look_of : DeriveInput → Value → Look
@@ -105,7 +110,7 @@ module _ (d : DeriveInput) (a b : Value) (table : Answers) (param : List ℕ) (i
   scene = scene_of d a b table
 
   abbrev env : Env
-  env = record { names = names_for param; parts = [] }
+  env = env_of a (names_for param)
 
   self_found : look_up env.names (codes "self") ≡ Some This
   self_found =
@@ -200,12 +205,12 @@ struct_evaluates which d shape body is differ named k table a b covers =
     let of_b = is_struct_of d shape is differ b covers.second in
     let same : a.variant ≡ b.variant = of_a.variant_is ∙ sym of_b.variant_is in
     let paired : compared which d a b ≡ map (seen at_a at_b) kept =
-    ap (λ (own : List Field). compared_from which d 0 own a.fields b.fields) of_a.case_is ∙ compared-seen at_a at_b which d 0 fs a.fields b.fields of_a.give of_b.give in
+    ap (λ (own : List Field). paired_from (trait_of which) d 0 own a.fields b.fields) of_a.case_is ∙ paired-seen at_a at_b (trait_of which) d 0 fs a.fields b.fields of_a.give of_b.give in
     let Known : Compared → Type 0 = λ c. IsSome (says which table c) in
     let each = covers.each same in
     let known = each_map Known (seen at_a at_b) kept (subst (AllByRecursion Known) paired each) in
     let none : (v : Value) → discriminant_of table d v ≡ None = λ v. ap (λ (s : Shape). flat (slice_get (map (discriminant table) (counted_from None 0 (shape_variants s))) v.variant)) is in
-    (λ i. ended (k.params_are i) (list_value (scene_of d a b table) (start (k.params_are i)) Nothing (k.block_has.block_is i)))
+    (λ i. ended (k.params_are i) (list_value (scene_of d a b table) (start (k.params_are i) (Some a)) Nothing (k.block_has.block_is i)))
     ∙ steps_value d a b table k.param.text k.param_is which k.copied k.ordered k.block_has.steps k.block_has.steps_are
     (each_in_order (trait_of which) (λ k. HasOwnPath d.tokens k.how) kept k.ordered k.ordered_is named)
     (each_in_order (trait_of which) (IsGiven at_a) kept k.ordered k.ordered_is (each_given at_a (trait_of which) d 0 fs a.fields of_a.give))

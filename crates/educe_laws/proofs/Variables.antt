@@ -16,8 +16,8 @@ use Rattle.educe_bound.specs.declared.traits.Trait.{Trait}
 use Rattle.educe_body.specs.declared.comparison.Comparison.{Comparison}
 use Rattle.educe_body.specs.declared.environment.Binding.{Binding}
 use Rattle.educe_body.specs.declared.environment.Referent.{Referent}
-use Rattle.educe_body.specs.declared.environment.Referent.TheVariants.{Other, Bound}
-use Rattle.educe_body.specs.Chosen.{underscored, is_held, IsPrefix, AreChosen, AreApart}
+use Rattle.educe_body.specs.declared.environment.Referent.TheVariants.{Other, OwnField, Bound}
+use Rattle.educe_body.specs.Chosen.{underscored, is_held, IsPrefix, AreChosen, AreApart, are_letters_apart}
 use Rattle.educe_body.specs.Keys.{AreDifferent, keys_from, binding_key}
 use Rattle.educe_body.specs.Meaning.{innermost, look_up}
 use Rattle.educe_body.specs.NameLaws.{lawful_names}
@@ -30,7 +30,7 @@ use Rattle.educe_laws.specs.Comparisons.{trait_of}
 use Rattle.educe_laws.specs.Settings.{Kept, keeps, settings_of, kept_with, kept_by, kept_fields}
 use Rattle.educe_laws.proofs.Elements.{In, In-all, In-behind, each_in, each_weaker, each_joined}
 use Rattle.educe_laws.proofs.Facts.{IsOwnName, ArePlain, are_plain, IsOuter}
-use Rattle.educe_laws.proofs.Pairing.{Look, value_in}
+use Rattle.educe_laws.proofs.Pairing.{Look, part_in}
 use Rattle.educe_laws.proofs.Structs.{unraw_mark, unraw_behind, behind_not_self, not_self}
 
 -- ---- texts
@@ -123,16 +123,28 @@ fields_different which d fs names few = kept_different 0 fs (map (settings_of wh
 abbrev pub variable : List ℕ → Kept → List ℕ
 variable prefix k = prefix ++ kept_key k
 
--- it, bound to the field's value
-abbrev pub own_binding : List ℕ → Look → Kept → Binding
-own_binding prefix look k = record { name = variable prefix k; referent = Bound (value_in look k) }
+-- what the variable of the field at a place stands for
+abbrev pub Refer : Type 0
+Refer = ℕ → Field → Referent
+
+-- the place among the fields of `self`
+abbrev pub by_place : Refer
+by_place place f = OwnField place
+
+-- the value that is looked up
+abbrev pub by_value : Look → Refer
+by_value look place f = Bound (part_in (look place f))
+
+-- the variable of a field, which stands for this
+abbrev pub own_binding : List ℕ → Refer → Kept → Binding
+own_binding prefix refer k = record { name = variable prefix k; referent = refer k.place k.field }
 
 -- the names in scope, and the variables of the fields
-abbrev pub with_variables : List Binding → List ℕ → Look → List Kept → List Binding
-with_variables outer prefix look kept = outer ++ map (own_binding prefix look) kept
+abbrev pub with_variables : List Binding → List ℕ → Refer → List Kept → List Binding
+with_variables outer prefix refer kept = outer ++ map (own_binding prefix refer) kept
 
 -- what holds behind a prefix of each key holds of each variable
-each_variable : (P : List ℕ → Type 0) (prefix : List ℕ) (ks : List Kept) → ((key : List ℕ) → P (prefix ++ key)) → AllByRecursion P (map (variable prefix) ks)
+pub each_variable : (P : List ℕ → Type 0) (prefix : List ℕ) (ks : List Kept) → ((key : List ℕ) → P (prefix ++ key)) → AllByRecursion P (map (variable prefix) ks)
 each_variable P prefix [] each = tt
 each_variable P prefix (k ∷ ks) each = (each (kept_key k), each_variable P prefix ks each)
 
@@ -149,7 +161,7 @@ variables_different prefix (k ∷ ks) differ = (differ_behind prefix (kept_key k
 -- ---- what names stand for
 
 -- a name that is not bound further in stands for what it does outside
-look_up-outer : (outer inner : List Binding) (name : List ℕ) → look_up inner name ≡ None → look_up (outer ++ inner) name ≡ look_up outer name
+pub look_up-outer : (outer inner : List Binding) (name : List ℕ) → look_up inner name ≡ None → look_up (outer ++ inner) name ≡ look_up outer name
 look_up-outer [] inner name none = none
 look_up-outer (b ∷ outer) inner name none = ap (innermost (if bytes_eq b.name name then Some b.referent else None)) (look_up-outer outer inner name none)
 
@@ -158,30 +170,30 @@ look_up-inner : (outer inner : List Binding) (name : List ℕ) (r : Referent) �
 look_up-inner [] inner name r found = found
 look_up-inner (b ∷ outer) inner name r found = ap (innermost (if bytes_eq b.name name then Some b.referent else None)) (look_up-inner outer inner name r found)
 
-module _ (prefix : List ℕ) (look : Look) where
+module _ (prefix : List ℕ) (refer : Refer) where
   -- what the first of several bindings gives
   abbrev here_if : Kept → Bool → Option Referent
-  here_if k b = if b then Some (Bound (value_in look k)) else None
+  here_if k b = if b then Some (refer k.place k.field) else None
 
   -- a name from which each variable differs is not bound
-  unbound : (ks : List Kept) (name : List ℕ) → AllByRecursion (λ t. t ≢ name) (map (variable prefix) ks) → look_up (map (own_binding prefix look) ks) name ≡ None
+  pub unbound : (ks : List Kept) (name : List ℕ) → AllByRecursion (λ t. t ≢ name) (map (variable prefix) ks) → look_up (map (own_binding prefix refer) ks) name ≡ None
   unbound [] name differ = refl
   unbound (k ∷ ks) name differ =
       ap (innermost (here_if k (bytes_eq (variable prefix k) name))) (unbound ks name differ.1) ∙ ap (here_if k) (bytes_eq-differ (variable prefix k) name differ.0)
 
-  -- the first variable stands for the value of its field
+  -- the first variable stands for what its field does
   first_bound : (k : Kept) (ks : List Kept) → AllByRecursion (λ later. variable prefix k ≢ later) (map (variable prefix) ks)
-      → look_up (map (own_binding prefix look) (k ∷ ks)) (variable prefix k) ≡ Some (Bound (value_in look k))
+      → look_up (map (own_binding prefix refer) (k ∷ ks)) (variable prefix k) ≡ Some (refer k.place k.field)
   first_bound k ks differ =
       ap (innermost (here_if k (bytes_eq (variable prefix k) (variable prefix k)))) (unbound ks (variable prefix k) (each_flipped (variable prefix k) (map (variable prefix) ks) differ))
       ∙ ap (here_if k) (bytes_eq-same (variable prefix k))
 
   -- so does each
-  bound_at : (ks : List Kept) (k : Kept) → AreDifferent (map (variable prefix) ks) → In k ks → look_up (map (own_binding prefix look) ks) (variable prefix k) ≡ Some (Bound (value_in look k))
+  bound_at : (ks : List Kept) (k : Kept) → AreDifferent (map (variable prefix) ks) → In k ks → look_up (map (own_binding prefix refer) ks) (variable prefix k) ≡ Some (refer k.place k.field)
   bound_at [] k differ found = absurd found
   bound_at (j ∷ ks) k differ found =
       elim found [
-        | inl here ↦ subst (λ (i : Kept). look_up (map (own_binding prefix look) (j ∷ ks)) (variable prefix i) ≡ Some (Bound (value_in look i))) here (first_bound j ks differ.0)
+        | inl here ↦ subst (λ (i : Kept). look_up (map (own_binding prefix refer) (j ∷ ks)) (variable prefix i) ≡ Some (refer i.place i.field)) here (first_bound j ks differ.0)
         | inr later ↦ ap (innermost (here_if j (bytes_eq (variable prefix j) (variable prefix k)))) (bound_at ks k differ.1 later)
       ]
 
@@ -247,7 +259,7 @@ module _ (d : DeriveInput) (plain names : List (List ℕ)) (are : AreChosenFor d
     marked key = let mark = marked_behind is.count tail key in (mark.0, ap (λ (text : List ℕ). text ++ key) is.is ∙ mark.1)
 
     -- it is not `self`
-    variable_not_self : (key : List ℕ) → prefix ++ key ≢ codes "self"
+    pub variable_not_self : (key : List ℕ) → prefix ++ key ≢ codes "self"
     variable_not_self key = not_self (prefix ++ key) (ap (λ text. bytes_eq text (codes "self")) (marked key).1)
 
     -- it is no chosen name
@@ -260,21 +272,21 @@ module _ (d : DeriveInput) (plain names : List (List ℕ)) (are : AreChosenFor d
         lawful_names.no_word d.tokens held (prefix ++ key) (lawful_names.held d.tokens are.words names are.words_are) (lawful_names.prefixed held (95 ∷ tail) prefix key is)
 
     -- no variable hides one
-    variables_are_apart : (look : Look) (ks : List Kept) → AllByRecursion (IsApart d.tokens) (map (own_binding prefix look) ks)
-    variables_are_apart look [] = tt
-    variables_are_apart look (k ∷ ks) =
+    variables_are_apart : (refer : Refer) (ks : List Kept) → AllByRecursion (IsApart d.tokens) (map (own_binding prefix refer) ks)
+    variables_are_apart refer [] = tt
+    variables_are_apart refer (k ∷ ks) =
         let mark = marked (kept_key k) in
         let raw : unraw (variable prefix k) ≡ variable prefix k = ap unraw mark.1 ∙ unraw_mark mark.0 ∙ sym mark.1 in
-        (apart (λ has. variable_no_word (kept_key k) (subst (HasWord d.tokens) raw has)), variables_are_apart look ks)
+        (apart (λ has. variable_no_word (kept_key k) (subst (HasWord d.tokens) raw has)), variables_are_apart refer ks)
 
     -- with the variables, no name in scope hides one
-    pub with_variables_apart : (outer : List Binding) (look : Look) (ks : List Kept) → AllByRecursion (IsApart d.tokens) outer → AllByRecursion (IsApart d.tokens) (with_variables outer prefix look ks)
-    with_variables_apart outer look ks each = each_joined (IsApart d.tokens) outer (map (own_binding prefix look) ks) each (variables_are_apart look ks)
+    pub with_variables_apart : (outer : List Binding) (refer : Refer) (ks : List Kept) → AllByRecursion (IsApart d.tokens) outer → AllByRecursion (IsApart d.tokens) (with_variables outer prefix refer ks)
+    with_variables_apart outer refer ks each = each_joined (IsApart d.tokens) outer (map (own_binding prefix refer) ks) each (variables_are_apart refer ks)
 
     -- behind the variables a chosen name stands for what it does outside
-    pub chosen_found : (outer : List Binding) (look : Look) (ks : List Kept) (name : List ℕ) → In name names → look_up (with_variables outer prefix look ks) name ≡ look_up outer name
-    chosen_found outer look ks name found =
-        look_up-outer outer (map (own_binding prefix look) ks) name (unbound prefix look ks name (each_variable (λ t. t ≢ name) prefix ks (variable_not_chosen name found)))
+    pub chosen_found : (outer : List Binding) (refer : Refer) (ks : List Kept) (name : List ℕ) → In name names → look_up (with_variables outer prefix refer ks) name ≡ look_up outer name
+    chosen_found outer refer ks name found =
+        look_up-outer outer (map (own_binding prefix refer) ks) name (unbound prefix refer ks name (each_variable (λ t. t ≢ name) prefix ks (variable_not_chosen name found)))
 
     -- none of the variables is a chosen name
     none_chosen : (ks : List Kept) (name : List ℕ) → In name names → AllByRecursion (λ t. name ≢ t) (map (variable prefix) ks)
@@ -298,122 +310,111 @@ module _ (d : DeriveInput) (plain names : List (List ℕ)) (are : AreChosenFor d
     no_words = chosen_no_words;
   }
 
--- what the variable of a field that takes part stands for: the value of the field
-pub variable_found : (outer : List Binding) (prefix : List ℕ) (look : Look) (ks : List Kept) → AreDifferent (map kept_key ks) → (k : Kept) → In k ks
-    → look_up (with_variables outer prefix look ks) (variable prefix k) ≡ Some (Bound (value_in look k))
-variable_found outer prefix look ks differ k found =
-    look_up-inner outer (map (own_binding prefix look) ks) (variable prefix k) (Bound (value_in look k)) (bound_at prefix look ks k (variables_different prefix ks differ) found)
+-- what the variable of a field that takes part stands for
+pub variable_found : (outer : List Binding) (prefix : List ℕ) (refer : Refer) (ks : List Kept) → AreDifferent (map kept_key ks) → (k : Kept) → In k ks
+    → look_up (with_variables outer prefix refer ks) (variable prefix k) ≡ Some (refer k.place k.field)
+variable_found outer prefix refer ks differ k found =
+    look_up-inner outer (map (own_binding prefix refer) ks) (variable prefix k) (refer k.place k.field) (bound_at prefix refer ks k (variables_different prefix ks differ) found)
+
+-- ---- two prefixes
+
+module _ (d : DeriveInput) (plain names : List (List ℕ)) (are : AreChosenFor d plain names) (fit : ArePlain plain) (tail other_tail own others : List ℕ) (own_is : IsPrefix (are.words ++ names) (95 ∷ tail) own)
+    (others_is : IsPrefix (are.words ++ names) (95 ∷ other_tail) others) (letters : are_letters_apart (95 ∷ tail) (95 ∷ other_tail) ≡ true) where
+  -- a variable behind the one is none behind the other
+  variables_differ : (key other : List ℕ) → own ++ key ≢ others ++ other
+  variables_differ key other = lawful_names.prefixes (are.words ++ names) (are.words ++ names) (95 ∷ tail) (95 ∷ other_tail) own others key other own_is others_is letters
+
+  module _ (kept : List Kept) (differ : AreDifferent (map kept_key kept)) where
+    -- the variables behind both
+    abbrev both : List (List ℕ)
+    both = map (variable own) kept ++ map (variable others) kept
+
+    -- what holds behind either prefix of each key holds of each of them
+    each_of_both : (P : List ℕ → Type 0) → ((key : List ℕ) → P (own ++ key)) → ((key : List ℕ) → P (others ++ key)) → AllByRecursion P both
+    each_of_both P first second = each_joined P (map (variable own) kept) (map (variable others) kept) (each_variable P own kept first) (each_variable P others kept second)
+
+    both_different : AreDifferent both
+    both_different =
+        different_joined (map (variable own) kept) (map (variable others) kept) (variables_different own kept differ) (variables_different others kept differ)
+        (each_variable (λ x. AllByRecursion (λ y. x ≢ y) (map (variable others) kept)) own kept (λ key. each_variable (λ y. own ++ key ≢ y) others kept (variables_differ key)))
+
+    -- none of them is a chosen name
+    neither_chosen : (name : List ℕ) → In name names → AllByRecursion (λ t. name ≢ t) both
+    neither_chosen name found =
+        each_of_both (λ t. name ≢ t) (λ key same. variable_not_chosen d plain names are fit tail own own_is name found key (sym same))
+        (λ key same. variable_not_chosen d plain names are fit other_tail others others_is name found key (sym same))
+
+    -- no two of some chosen names and of the variables are the same, none is `self`, and none is a word of the definition
+    pub both_scoped : (some : List (List ℕ)) → AreApart some → AllByRecursion (λ name. In name names) some → AreScoped d (some ++ both)
+    both_scoped some differing inside =
+        let not_self : (name : List ℕ) → In name names → name ≢ codes "self" = name_not_self d plain names are fit in
+        let no_word : (name : List ℕ) → In name names → HasWord d.tokens name → ⊥ = λ name found. In-all (λ name. HasWord d.tokens name → ⊥) names name (chosen_no_words d plain names are fit) found in
+        record {
+          apart = apart_joined some both differing both_different (each_weaker (λ name. In name names) (λ name. AllByRecursion (λ t. name ≢ t) both) neither_chosen some inside);
+          not_self = not_held (some ++ both) (codes "self") (
+              each_joined (λ t. t ≢ codes "self") some both (each_weaker (λ name. In name names) (λ t. t ≢ codes "self") not_self some inside)
+              (each_of_both (λ t. t ≢ codes "self") (variable_not_self d plain names are fit tail own own_is) (variable_not_self d plain names are fit other_tail others others_is))
+              );
+          no_words = each_joined (λ t. HasWord d.tokens t → ⊥) some both (each_weaker (λ name. In name names) (λ t. HasWord d.tokens t → ⊥) no_word some inside)
+              (each_of_both (λ t. HasWord d.tokens t → ⊥) (variable_no_word d plain names are fit tail own own_is) (variable_no_word d plain names are fit other_tail others others_is));
+        }
+
+    -- behind both a variable of the first stands for what it does
+    pub first_found : (outer : List Binding) (refer_a refer_b : Refer) (k : Kept) → In k kept
+        → look_up (with_variables (with_variables outer own refer_a kept) others refer_b kept) (variable own k) ≡ Some (refer_a k.place k.field)
+    first_found outer refer_a refer_b k found =
+        look_up-outer (with_variables outer own refer_a kept) (map (own_binding others refer_b) kept) (variable own k)
+        (unbound others refer_b kept (variable own k) (each_variable (λ t. t ≢ variable own k) others kept (λ key same. variables_differ (kept_key k) key (sym same))))
+        ∙ variable_found outer own refer_a kept differ k found
 
 -- ---- the names of an enum's comparison
 
 module _ (d : DeriveInput) (names : Names) (are : AreNames d names) where
-  -- a variable for the one value is none for the other
-  variables_differ : (key other : List ℕ) → names.own ++ key ≢ names.others ++ other
-  variables_differ key other =
-      let words = are.are.words ++ chosen_names names in
-      lawful_names.prefixes words words (codes "_s_") (codes "_o_") names.own names.others key other are.own_is are.others_is refl
-
   -- the names around a match hide no word of the definition
   pub around_apart : (outer : List Binding) → AllByRecursion (IsOwnName (chosen_names names)) outer → AllByRecursion (IsApart d.tokens) outer
   around_apart = outer_apart d plain_names (chosen_names names) are.are are_plain
 
-  -- neither is a chosen name
-  own_not_chosen : (name : List ℕ) → In name (chosen_names names) → (key : List ℕ) → names.own ++ key ≢ name
-  own_not_chosen = variable_not_chosen d plain_names (chosen_names names) are.are are_plain (codes "s_") names.own are.own_is
-
-  others_not_chosen : (name : List ℕ) → In name (chosen_names names) → (key : List ℕ) → names.others ++ key ≢ name
-  others_not_chosen = variable_not_chosen d plain_names (chosen_names names) are.are are_plain (codes "o_") names.others are.others_is
-
-  -- ---- the scope of an arm
+  -- the second value and the key function have different names
+  first_apart : AreApart (names.other ∷ names.discriminant ∷ [])
+  first_apart =
+      let both = or_parts (bytes_eq names.discriminant names.other) (is_held (names.this ∷ names.base ∷ []) names.other) (lawful_names.apart are.are.words plain_names (chosen_names names) are.are.chosen).0 in
+      (ap (λ b. b || false) both.0, (refl, tt))
 
   module _ (kept : List Kept) (differ : AreDifferent (map kept_key kept)) where
-    -- the variables for both values
-    abbrev both : List (List ℕ)
-    both = map (variable names.own) kept ++ map (variable names.others) kept
-
-    -- what holds behind either prefix of each key holds of each of them
-    each_of_both : (P : List ℕ → Type 0) → ((key : List ℕ) → P (names.own ++ key)) → ((key : List ℕ) → P (names.others ++ key)) → AllByRecursion P both
-    each_of_both P own others = each_joined P (map (variable names.own) kept) (map (variable names.others) kept) (each_variable P names.own kept own) (each_variable P names.others kept others)
-
-    -- no two of them are the same
-    both_different : AreDifferent both
-    both_different =
-        different_joined (map (variable names.own) kept) (map (variable names.others) kept) (variables_different names.own kept differ) (variables_different names.others kept differ)
-        (each_variable (λ x. AllByRecursion (λ y. x ≢ y) (map (variable names.others) kept)) names.own kept
-        (λ key. each_variable (λ y. names.own ++ key ≢ y) names.others kept (variables_differ key)))
-
-    -- none of them is a chosen name
-    neither_chosen : (name : List ℕ) → In name (chosen_names names) → AllByRecursion (λ t. name ≢ t) both
-    neither_chosen name found =
-        each_of_both (λ t. name ≢ t) (λ key same. own_not_chosen name found key (sym same)) (λ key same. others_not_chosen name found key (sym same))
-
-    -- the second value and the key function have different names
-    other_not_discriminant : names.other ≢ names.discriminant
-    other_not_discriminant same =
-        false≢true (sym (lawful_names.apart are.are.words plain_names (chosen_names names) are.are.chosen).0
-        ∙ held_in (names.discriminant ∷ names.this ∷ names.base ∷ []) names.other (inl (sym same)))
-
     -- no two names in the scope of an arm are the same, and none but `self` is a word of the definition
-    names_scoped : AreScoped d (names.other ∷ names.discriminant ∷ both)
+    names_scoped : AreScoped d (names.other ∷ names.discriminant ∷ map (variable names.own) kept ++ map (variable names.others) kept)
     names_scoped =
-        let other : In names.other (chosen_names names) = inl refl in
-        let discriminant : In names.discriminant (chosen_names names) = inr (inl refl) in
-        let not_self = chosen_not_self d plain_names (chosen_names names) are.are are_plain in
-        let no_words = chosen_no_words d plain_names (chosen_names names) are.are are_plain in
-        record {
-          apart = apart_from_different (names.other ∷ names.discriminant ∷ both) (
-            (other_not_discriminant, neither_chosen names.other other),
-            (neither_chosen names.discriminant discriminant, both_different),
-          );
-          not_self = not_held (names.other ∷ names.discriminant ∷ both) (codes "self") (
-            not_self.0,
-            (
-              not_self.1.0,
-              each_of_both (λ t. t ≢ codes "self") (variable_not_self d plain_names (chosen_names names) are.are are_plain (codes "s_") names.own are.own_is)
-                  (variable_not_self d plain_names (chosen_names names) are.are are_plain (codes "o_") names.others are.others_is),
-            ),
-          );
-          no_words = (
-            no_words.0,
-            (
-              no_words.1.0,
-              each_of_both (λ t. HasWord d.tokens t → ⊥) (variable_no_word d plain_names (chosen_names names) are.are are_plain (codes "s_") names.own are.own_is)
-                  (variable_no_word d plain_names (chosen_names names) are.are are_plain (codes "o_") names.others are.others_is),
-            ),
-          );
-        }
+        both_scoped d plain_names (chosen_names names) are.are are_plain (codes "s_") (codes "o_") names.own names.others are.own_is are.others_is refl kept differ (names.other ∷ names.discriminant ∷ []) first_apart
+        (inl refl, (inr (inl refl), tt))
 
     -- ---- what the names in an arm stand for
 
-    module _ (outer : List Binding) (around : IsOuter names outer) (look_a look_b : Look) where
+    module _ (outer : List Binding) (around : IsOuter names outer) (refer_a refer_b : Refer) where
       -- the names behind the pattern for the first value, and behind that for the second
       abbrev own_names : List Binding
-      own_names = with_variables outer names.own look_a kept
+      own_names = with_variables outer names.own refer_a kept
 
       abbrev arm_names : List Binding
-      arm_names = with_variables own_names names.others look_b kept
+      arm_names = with_variables own_names names.others refer_b kept
 
       -- behind the variables for the first value, the name of the second stands for it
       pub other_found : look_up own_names names.other ≡ Some Other
-      other_found = chosen_found d plain_names (chosen_names names) are.are are_plain (codes "s_") names.own are.own_is outer look_a kept names.other (inl refl) ∙ around.other
+      other_found = chosen_found d plain_names (chosen_names names) are.are are_plain (codes "s_") names.own are.own_is outer refer_a kept names.other (inl refl) ∙ around.other
 
-      -- a variable for the first value stands for the value of its field in that
-      pub own_found : (k : Kept) → In k kept → look_up arm_names (variable names.own k) ≡ Some (Bound (value_in look_a k))
+      -- a variable for the first value stands for its field in that
+      pub own_found : (k : Kept) → In k kept → look_up arm_names (variable names.own k) ≡ Some (refer_a k.place k.field)
       own_found k found =
-          look_up-outer own_names (map (own_binding names.others look_b) kept) (variable names.own k)
-          (unbound names.others look_b kept (variable names.own k)
-          (each_variable (λ t. t ≢ variable names.own k) names.others kept (λ key same. variables_differ (kept_key k) key (sym same))))
-          ∙ variable_found outer names.own look_a kept differ k found
+          first_found d plain_names (chosen_names names) are.are are_plain (codes "s_") (codes "o_") names.own names.others are.own_is are.others_is refl kept differ outer refer_a refer_b k found
 
       -- one for the second value stands for that in the second
-      pub others_found : (k : Kept) → In k kept → look_up arm_names (variable names.others k) ≡ Some (Bound (value_in look_b k))
-      others_found k found = variable_found own_names names.others look_b kept differ k found
+      pub others_found : (k : Kept) → In k kept → look_up arm_names (variable names.others k) ≡ Some (refer_b k.place k.field)
+      others_found k found = variable_found own_names names.others refer_b kept differ k found
 
       -- none of these names hides a word of the definition
       pub arm_apart : AllByRecursion (IsApart d.tokens) arm_names
       arm_apart =
-          with_variables_apart d plain_names (chosen_names names) are.are are_plain (codes "o_") names.others are.others_is own_names look_b kept
-          (with_variables_apart d plain_names (chosen_names names) are.are are_plain (codes "s_") names.own are.own_is outer look_a kept
+          with_variables_apart d plain_names (chosen_names names) are.are are_plain (codes "o_") names.others are.others_is own_names refer_b kept
+          (with_variables_apart d plain_names (chosen_names names) are.are are_plain (codes "s_") names.own are.own_is outer refer_a kept
           (around_apart outer around.known))
 
 -- the names in the scope of an arm of an enum's function are apart, and none but `self` is a word of the definition

@@ -1,5 +1,5 @@
 -- What the block of a derived trait holds.
-use Rattle.std.specs.Prelude.{ℕ, ◌≡◌, ◌<◌, Bool, true, false, List, [], ◌∷◌, ◌++◌, Option, Some, None, codes}
+use Rattle.std.specs.Prelude.{ℕ, ◌≡◌, ◌<◌, Bool, true, false, List, [], ◌∷◌, ◌++◌, map, Option, Some, None, codes}
 use Rattle.std.specs.List.{AllByRecursion}
 use Rattle.educe_tokens.specs.declared.word.Word.{Word}
 use Rattle.educe_tokens.specs.WrittenLexemes.{written_lexemes}
@@ -25,8 +25,10 @@ use Rattle.educe_body.specs.declared.body.CheckItem.{CheckItem}
 use Rattle.educe_body.specs.declared.body.Function.{Function}
 use Rattle.educe_body.specs.declared.body.ImplItem.{ImplItem}
 use Rattle.educe_body.specs.declared.body.Item.{Item}
-use Rattle.educe_body.specs.declared.body.Item.TheVariants.{Impl, New, FieldCheck}
+use Rattle.educe_body.specs.declared.body.MarkerItem.{MarkerItem}
+use Rattle.educe_body.specs.declared.body.Item.TheVariants.{Impl, New, FieldCheck, Marker}
 use Rattle.educe_body.specs.declared.answers.Answers.{Answers}
+use Rattle.educe_body.specs.declared.evaluator.Outcome.{Outcome}
 use Rattle.educe_body.specs.declared.evaluator.Outcome.TheVariants.{Parts}
 use Rattle.educe_body.specs.declared.value.Value.{Value}
 use Rattle.educe_body.specs.Chosen.{underscored}
@@ -34,16 +36,20 @@ use Rattle.educe_body.specs.Meaning.{Scene, value}
 use Rattle.educe_body.specs.Words.{HasWord}
 use Rattle.educe_laws.specs.Arms.{Names, AreNames, IsEnumBlock}
 use Rattle.educe_laws.specs.Checks.{IsCheck}
+use Rattle.educe_laws.specs.CloneBodies.{CloneNames, AreCloneNames, IsCloneBody, IsFromBody}
+use Rattle.educe_laws.specs.Cloning.{clone_of, clone_from_of}
 use Rattle.educe_laws.specs.Comparisons.{trait_of}
+use Rattle.educe_laws.specs.Copying.{copies_whole}
 use Rattle.educe_laws.specs.HashBodies.{IsHashBody}
 use Rattle.educe_laws.specs.Hashing.{hash_of, HashCovers}
-use Rattle.educe_laws.specs.Headers.{AreCopied, IsHeader, bound_for, AreTight}
+use Rattle.educe_laws.specs.Headers.{AreCopied, IsHeader, AreTight}
 use Rattle.educe_laws.specs.Listed.{listed_in_order}
-use Rattle.educe_laws.specs.Making.{IsDefaultBody, MakesDefault, has_new, IsNewBody, MakesNew}
-use Rattle.educe_laws.specs.Settings.{Kept, kept_fields}
+use Rattle.educe_laws.specs.Markers.{AreMarkers}
+use Rattle.educe_laws.specs.Making.{HasOneForm, IsDefaultBody, MakesDefault, has_new, IsNewBody, MakesNew}
+use Rattle.educe_laws.specs.Settings.{Kept, kept_fields, bound_for}
 use Rattle.educe_laws.specs.Steps.{Reading, of_base, AreSteps, IsInOrder}
 use Rattle.educe_laws.specs.Types.{checked_types}
-use Rattle.educe_laws.specs.Comparing.{neutral, Covers, meaning}
+use Rattle.educe_laws.specs.Comparing.{neutral, HasShape, Covers, meaning}
 
 -- the name is the one that is chosen for this one: it, behind the fewest `_` that make it no word of the input
 pub record IsParameter (definition : DeriveInput) (plain name : List ℕ) : Type 0 where
@@ -180,8 +186,41 @@ IsEqBlockWith false definition items = IsImplBlock trait.Eq definition AreNone i
 abbrev pub IsEqBlock : DeriveInput → List Item → Type 0
 IsEqBlock definition items = IsEqBlockWith (has_check (bound_for trait.Eq definition) (checked_types definition)) definition items
 
--- the items of the block of a trait; only those of comparisons, of `Eq`, of `Hash` and of `Default` are built so far
+-- the block of `Copy`: one impl, which has no functions
+abbrev pub IsCopyBlock : DeriveInput → List Item → Type 0
+IsCopyBlock definition items = IsImplBlock trait.Copy definition AreNone items
+
+-- `clone` alone, which copies the value as a whole: `* self`
+abbrev pub AreCopying : List Function → Type 0
+AreCopying functions = IsFunction (codes "clone") (HasOneForm (λ x. x ≡ form.WholeCopy)) functions
+
+-- `clone`, and `clone_from`
+pub record AreCloning (definition : DeriveInput) (names : CloneNames) (functions : List Function) : Type 0 where
+  pub first : List Function
+  pub second : List Function
+  pub are : functions ≡ first ++ second
+  pub clone_is : IsFunction (codes "clone") (IsCloneBody definition names) first
+  pub clone_from_is : IsFunction (codes "clone_from") (IsFromBody definition names) second
+
+-- the functions of the impl of `Clone`: with true, where values are copied as a whole, that one, and else both
+abbrev pub AreCloneFunctions : Bool → DeriveInput → CloneNames → List Function → Type 0
+AreCloneFunctions true definition names functions = AreCopying functions
+AreCloneFunctions false definition names functions = AreCloning definition names functions
+
+-- the block of `Clone`: its impl, and behind it a marker for each field with a method
+pub record IsCloneBlock (definition : DeriveInput) (items : List Item) : Type 0 where
+  pub names : CloneNames
+  pub names_are : AreCloneNames definition names
+  pub item : ImplItem
+  pub markers : List MarkerItem
+  pub are : items ≡ Impl item ∷ map Marker markers
+  pub impl_is : IsImpl trait.Clone definition (AreCloneFunctions (copies_whole definition) definition names) item
+  pub markers_are : AreMarkers trait.Clone definition item.generics (names.function ∷ names.value ∷ []) markers
+
+-- the items of the block of a trait; that of `Debug` is not built yet
 abbrev pub IsBlock : Trait → DeriveInput → List Item → Type 0
+IsBlock trait.Clone definition items = IsCloneBlock definition items
+IsBlock trait.Copy definition items = IsCopyBlock definition items
 IsBlock trait.PartialEq definition items = IsComparisonBlock PartialEq definition items
 IsBlock trait.Eq definition items = IsEqBlock definition items
 IsBlock trait.PartialOrd definition items = IsComparisonBlock PartialOrd definition items
@@ -210,33 +249,53 @@ Compares which definition body =
     (table : Answers) (a b : Value) → Covers which table definition a b → value body (scene_of definition a b table) ≡ meaning which table definition a b
 
 -- `self` is the value, whatever the other one is
-abbrev pub hash_scene : DeriveInput → Value → Option Value → Answers → Scene
-hash_scene definition a other table = record { definition = definition; this = Some a; other = other; answers = table; field = None }
+abbrev pub scene_with : DeriveInput → Value → Option Value → Answers → Scene
+scene_with definition a other table = record { definition = definition; this = Some a; other = other; answers = table; field = None }
 
 -- over each table and any value that it covers, the function feeds what the value feeds to a hasher
 abbrev pub Hashes : DeriveInput → Body → Type 0
 Hashes definition body =
-    (table : Answers) (a : Value) (other : Option Value) → HashCovers table definition a → value body (hash_scene definition a other table) ≡ Parts (hash_of table definition a)
+    (table : Answers) (a : Value) (other : Option Value) → HashCovers table definition a → value body (scene_with definition a other table) ≡ Parts (hash_of table definition a)
 
--- the function evaluates to what the trait means; only comparisons, `Hash` and `Default` have a meaning so far
-abbrev pub Evaluates : Trait → DeriveInput → Body → Type 0
-Evaluates trait.PartialEq definition body = Compares PartialEq definition body
-Evaluates trait.PartialOrd definition body = Compares PartialOrd definition body
-Evaluates trait.Ord definition body = Compares Ord definition body
-Evaluates trait.Hash definition body = Hashes definition body
-Evaluates trait.Default definition body = MakesDefault definition body
-Evaluates _ definition body = ⊥
+-- over each table by which each of its calls makes a value, the function evaluates to what `clone` means of a value of the
+-- definition's shape
+abbrev pub Clones : DeriveInput → Body → Type 0
+Clones definition body =
+    (table : Answers) (a : Value) (other : Option Value) (outcome : Outcome) → HasShape definition a → clone_of table definition a ≡ Some outcome
+    → value body (scene_with definition a other table) ≡ outcome
 
--- each function of the item evaluates to what the item's trait means, or `new` to the default value; the functions of a check are never
--- called
+-- so it does to what `clone_from` means of two such values, where fields are read by copies or not
+abbrev pub ClonesFrom : DeriveInput → Body → Type 0
+ClonesFrom definition body =
+    (table : Answers) (a b : Value) (copied : Bool) (outcome : Outcome) → AreCopied definition copied → HasShape definition a → HasShape definition b
+    → clone_from_of table copied definition a b ≡ Some outcome → value body (scene_of definition a b table) ≡ outcome
+
+-- the function evaluates to what one of this name means, if it has this name
+abbrev pub MeansIfNamed : List ℕ → (Body → Type 0) → Function → Type 0
+MeansIfNamed name Means f = f.name.text ≡ name → Means f.body
+
+-- the function evaluates to what the trait means by it; those of `Debug` are not built yet, and `Copy` and `Eq` have none
+abbrev pub Evaluates : Trait → DeriveInput → Function → Type 0
+Evaluates trait.Clone definition f = MeansIfNamed (codes "clone") (Clones definition) f × MeansIfNamed (codes "clone_from") (ClonesFrom definition) f
+Evaluates trait.PartialEq definition f = Compares PartialEq definition f.body
+Evaluates trait.PartialOrd definition f = Compares PartialOrd definition f.body
+Evaluates trait.Ord definition f = Compares Ord definition f.body
+Evaluates trait.Hash definition f = Hashes definition f.body
+Evaluates trait.Default definition f = MakesDefault definition f.body
+Evaluates _ definition f = ⊥
+
+-- each function of the item evaluates to what the item's trait means, or `new` to the default value; the functions of checks and of
+-- markers are never called
 abbrev pub EachEvaluates : DeriveInput → Item → Type 0
-EachEvaluates definition (Impl item) = AllByRecursion (λ f. Evaluates item.which definition f.body) item.functions
+EachEvaluates definition (Impl item) = AllByRecursion (Evaluates item.which definition) item.functions
 EachEvaluates definition (New item) = AllByRecursion (λ f. MakesNew definition f.body) item.functions
 EachEvaluates definition (FieldCheck check) = Unit {0}
+EachEvaluates definition (Marker marker) = Unit {0}
 
--- where the bound of the item's trait is the automatic one, its own predicates suffice, and none of them can be dropped; a check has
--- those of its impl
+-- where the bound of the item's trait is the automatic one, its own predicates suffice, and none of them can be dropped; checks and
+-- markers have those of their impls
 abbrev pub HasTightBounds : DeriveInput → Item → Type 0
 HasTightBounds definition (Impl item) = bound_for item.which definition ≡ Auto → AreTight item.which definition (keys_of item.generics.predicates)
 HasTightBounds definition (New item) = bound_for item.which definition ≡ Auto → AreTight item.which definition (keys_of item.generics.predicates)
 HasTightBounds definition (FieldCheck check) = Unit {0}
+HasTightBounds definition (Marker marker) = Unit {0}

@@ -7,6 +7,7 @@ use Rattle.std.specs.Ordering.{int_cmp}
 use Rattle.educe_syntax.specs.Field.{Field}
 use Rattle.educe_syntax.specs.DeriveInput.{DeriveInput}
 use Rattle.educe_syntax.specs.Few.{all_fields}
+use Rattle.educe_bound.specs.declared.traits.Trait.{Trait}
 use Rattle.educe_body.specs.declared.comparison.Comparison.{Comparison}
 use Rattle.educe_body.specs.declared.comparison.Comparison.TheVariants.{PartialEq, PartialOrd, Ord}
 use Rattle.educe_body.specs.declared.value.FieldValue.{FieldValue}
@@ -48,24 +49,28 @@ pub record HasShape (definition : DeriveInput) (value : Value) : Type 0 where
 
 -- ---- what a field says
 
--- a field that takes part, with its values in the two that are compared
+-- a field that takes part, with its values in two values
 pub record Compared : Type 0 where
   pub kept : Kept
   pub first : FieldValue
   pub second : FieldValue
 
 -- those that take part among fields of which the first has this place, with their values, in written order
-abbrev pub compared_from : Comparison → DeriveInput → ℕ → List Field → List FieldValue → List FieldValue → List Compared
-compared_from which definition place [] xs ys = []
-compared_from which definition place (f ∷ fs) [] ys = []
-compared_from which definition place (f ∷ fs) (x ∷ xs) [] = []
-compared_from which definition place (f ∷ fs) (x ∷ xs) (y ∷ ys) =
-    if is_kept (trait_of which) definition f then record { kept = kept_at (trait_of which) definition place f; first = x; second = y } ∷ compared_from which definition (place + 1) fs xs ys
-    else compared_from which definition (place + 1) fs xs ys
+abbrev pub paired_from : Trait → DeriveInput → ℕ → List Field → List FieldValue → List FieldValue → List Compared
+paired_from which definition place [] xs ys = []
+paired_from which definition place (f ∷ fs) [] ys = []
+paired_from which definition place (f ∷ fs) (x ∷ xs) [] = []
+paired_from which definition place (f ∷ fs) (x ∷ xs) (y ∷ ys) =
+    if is_kept which definition f then record { kept = kept_at which definition place f; first = x; second = y } ∷ paired_from which definition (place + 1) fs xs ys
+    else paired_from which definition (place + 1) fs xs ys
 
--- the fields that take part in a comparison of two values of one case, with their values
+-- the fields that take part in what a trait does with two values of one case, with their values
+abbrev pub paired : Trait → DeriveInput → Value → Value → List Compared
+paired which definition a b = paired_from which definition 0 (case_of definition a) a.fields b.fields
+
+-- those that take part in a comparison
 abbrev pub compared : Comparison → DeriveInput → Value → Value → List Compared
-compared which definition a b = compared_from which definition 0 (case_of definition a) a.fields b.fields
+compared which definition a b = paired (trait_of which) definition a b
 
 -- the function of the core library by which a trait compares two values of a field
 abbrev pub comparison : Comparison → BuiltIn

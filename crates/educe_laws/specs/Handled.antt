@@ -1,15 +1,19 @@
 -- Why the handlers of the listed traits refuse a definition.
-use Rattle.std.specs.Prelude.{◌≡◌, ◌⊎◌, ℤ, IsTrue, List, [], ◌∷◌, ◌++◌}
+use Rattle.std.specs.Prelude.{◌≡◌, ◌⊎◌, ℤ, Bool, true, false, ◌&&◌, Some, IsTrue, List, [], ◌∷◌, ◌++◌}
 use Rattle.educe_tokens.specs.declared.error.EduceError.{EduceError}
-use Rattle.educe_tokens.specs.declared.error.Kind.TheVariants.{ReuseARank}
+use Rattle.educe_tokens.specs.declared.error.Kind.TheVariants.{NotBuilt, ReuseARank}
 use Rattle.educe_tokens.specs.declared.span.Span.{Span}
+use Rattle.educe_tokens.specs.Refusals.{placeless}
 use Rattle.educe_syntax.specs.Attribute.{Attribute}
 use Rattle.educe_syntax.specs.DeriveInput.{DeriveInput}
+use Rattle.educe_syntax.specs.ExprPath.{ExprPath}
 use Rattle.educe_syntax.specs.Field.{Field}
 use Rattle.educe_syntax.specs.Shape.{Shape}
 use Rattle.educe_syntax.specs.Shape.TheVariants.{Struct, Enum}
 use Rattle.educe_bound.specs.declared.traits.Trait.{Trait}
+use Rattle.educe_syntax_self.specs.Selves.{has_plain_self, have_plain_self}
 use Rattle.educe_bound.specs.declared.traits.Trait.TheVariants as trait
+use Rattle.educe_bound.specs.Traits.{is_listed}
 use Rattle.educe_attrs.specs.Among.{IsAmong}
 use Rattle.educe_attrs.specs.Causes.{Cause}
 use Rattle.educe_attrs.specs.Fields.{OfFields, HaveNoCauses}
@@ -22,7 +26,7 @@ use Rattle.educe_laws.specs.Cases.{fields_in, cases_of, variant_attributes, fiel
 use Rattle.educe_laws.specs.Defaults.{IsDefaultCause}
 use Rattle.educe_laws.specs.Listed.{listed}
 use Rattle.educe_laws.specs.Rows.{is_order, type_row, variant_row, field_row}
-use Rattle.educe_laws.specs.Settings.{Kept, kept_fields, ReusesARank}
+use Rattle.educe_laws.specs.Settings.{Kept, settings_of, kept_fields, ReusesARank}
 
 -- the error for a repeated rank
 abbrev pub reuse_of : ℤ → Span → EduceError
@@ -51,8 +55,27 @@ pub record IsRankCause (which : Trait) (definition : DeriveInput) (fields : List
   pub read : HaveNoCauses which (field_row which) (listed definition) fields
   pub reuse : IsReuse (kept_fields which definition fields) e
 
+-- the trait has markers, which call the methods of fields
+abbrev pub has_markers : Trait → Bool
+has_markers trait.Clone = true
+has_markers _ = false
+
+-- each `Self` in the generics of the definition, the type of the field and this method is plain, so that the head of the definition may
+-- stand in its place
+abbrev pub has_plain_marker : DeriveInput → Field → ExprPath → Bool
+has_plain_marker definition field path =
+    have_plain_self definition.generics && (has_plain_self field.ty.written.tokens && has_plain_self path.written.tokens)
+
+-- the field has a method, and its marker is not built
+pub record IsUnbuiltMarker (which : Trait) (definition : DeriveInput) (field : Field) : Type 0 where
+  pub marks : has_markers which ≡ true
+  pub path : ExprPath
+  pub method : (settings_of which definition field).values.method ≡ Some path
+  pub unplain : has_plain_marker definition field path ≡ false
+
 -- why a trait is refused whose attributes are read field by field: what the type says of it is; what a variant says of it is; what a
--- field says of it is; or, where it is an order, two fields of one case that take part have one rank
+-- field says of it is; where it is an order, two fields of one case that take part have one rank; where it is `Clone`, what the type
+-- says of `Copy` is, if that is listed; or a marker is not built yet
 pub data IsFieldwiseCause (which : Trait) (definition : DeriveInput) : EduceError → Type 0 where
   by_type : {e : EduceError} → IsSaidCause which (type_row which) definition.attrs e → IsFieldwiseCause which definition e
   by_variant : {e : EduceError} (variant : Variant) → IsAmong variant (variants_of definition)
@@ -61,6 +84,10 @@ pub data IsFieldwiseCause (which : Trait) (definition : DeriveInput) : EduceErro
       → IsFieldCause which (field_row which) (listed definition) field.attrs e → IsFieldwiseCause which definition e
   by_rank : {e : EduceError} (fields : List Field) → IsAmong fields (cases_of definition) → IsRankCause which definition fields e
       → IsFieldwiseCause which definition e
+  by_copy : {e : EduceError} → which ≡ trait.Clone → is_listed (listed definition) trait.Copy ≡ true
+      → IsSaidCause trait.Copy (type_row trait.Copy) definition.attrs e → IsFieldwiseCause which definition e
+  by_marker : (field : Field) → IsAmong field (all_fields definition) → IsUnbuiltMarker which definition field
+      → IsFieldwiseCause which definition (placeless NotBuilt)
 
 -- why the fields of a case are refused: one of them is, or a rank
 abbrev pub OfCase : Trait → DeriveInput → List Field → Cause
@@ -78,6 +105,8 @@ OfShape which definition (Enum variants) = λ e. (variant : Variant) × IsAmong 
 
 -- why a trait is refused; the others are not built yet
 abbrev pub IsTraitCause : DeriveInput → Trait → Cause
+IsTraitCause definition trait.Clone = IsFieldwiseCause trait.Clone definition
+IsTraitCause definition trait.Copy = IsFieldwiseCause trait.Copy definition
 IsTraitCause definition trait.PartialEq = IsFieldwiseCause trait.PartialEq definition
 IsTraitCause definition trait.Eq = IsFieldwiseCause trait.Eq definition
 IsTraitCause definition trait.PartialOrd = IsFieldwiseCause trait.PartialOrd definition

@@ -1,5 +1,5 @@
 -- The headers of impls: their generic parameters, and the predicates of their where clauses (documentation of `educe`, Bounds).
-use Rattle.std.specs.Prelude.{◌≡◌, ◌↔◌, Bool, true, false, ◌&&◌, IsTrue, List, [], ◌∷◌, ◌++◌, Option, Some, None}
+use Rattle.std.specs.Prelude.{◌≡◌, ◌↔◌, Bool, true, false, ◌&&◌, IsTrue, List, [], ◌∷◌, ◌++◌}
 use Rattle.educe_syntax.specs.DeriveInput.{DeriveInput}
 use Rattle.educe_syntax.specs.Generics.{Generics}
 use Rattle.educe_syntax.specs.Ty.{Ty}
@@ -10,27 +10,16 @@ use Rattle.educe_bound.specs.declared.bound.Bound.{Bound}
 use Rattle.educe_bound.specs.declared.bound.Bound.TheVariants.{Disabled, Auto, All, Custom}
 use Rattle.educe_bound.specs.declared.traits.Trait.{Trait}
 use Rattle.educe_bound.specs.declared.traits.Trait.TheVariants as trait
-use Rattle.educe_bound.specs.Bounds.{bound_of}
 use Rattle.educe_bound.specs.Predicates.{Key, keys_of, exceptions_of, asks_for, AreByBound, AreCopies, lifetimes_first}
 use Rattle.educe_bound.specs.Traits.{is_listed}
 use Rattle.educe_attrs.specs.Packed.{IsPacked}
-use Rattle.educe_attrs.specs.WherePredicatesOrBool.{WherePredicatesOrBool}
 use Rattle.educe_laws.specs.Built.{is_struct}
 use Rattle.educe_laws.specs.Listed.{listed}
 use Rattle.educe_laws.specs.Rows.{reads_fields}
-use Rattle.educe_laws.specs.Settings.{type_settings}
+use Rattle.educe_laws.specs.Settings.{bound_for}
 use Rattle.educe_laws.specs.Types.{AreTypes}
 
 -- ---- the predicates that are added
-
--- the bound that is said; where nothing is, the automatic one
-abbrev pub bound_said : Option WherePredicatesOrBool → Bound
-bound_said None = Auto
-bound_said (Some value) = bound_of value
-
--- the bound that the type says for a trait
-abbrev pub bound_for : Trait → DeriveInput → Bound
-bound_for which definition = bound_said (type_settings which definition).bound
 
 -- whether fields are read by copies: in a packed struct
 pub record AreCopied (definition : DeriveInput) (copied : Bool) : Type 0 where

@@ -8,6 +8,7 @@ pub mod Discriminants
 -- What attributes say of a field, and the order of ranks.
 pub mod Ranks
 pub mod Settings
+pub mod Copying
 pub mod Defaults
 pub mod Said
 -- What a comparison means of two values.
@@ -20,8 +21,12 @@ pub mod Types
 pub mod Headers
 pub mod Arms
 pub mod Making
+-- What `Clone` means of values.
+pub mod Cloning
 pub mod HashBodies
+pub mod CloneBodies
 pub mod Checks
+pub mod Markers
 pub mod Blocks
 -- The form of definitions that is built so far, and why a trait is refused.
 pub mod Built
@@ -34,3 +39,4 @@ pub mod Laws
 pub mod HashLaws
 pub mod DefaultLaws
 pub mod EqLaws
+pub mod CloneLaws

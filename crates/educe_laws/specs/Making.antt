@@ -1,5 +1,5 @@
 -- What `default` means, and the forms of its body.
-use Rattle.std.specs.Prelude.{ℕ, ◌≡◌, Bool, true, false, List, [], ◌∷◌, ◌++◌, map, Option, Some, None, if◌then◌else◌, unwrap_or, codes}
+use Rattle.std.specs.Prelude.{ℕ, ◌^◌, nat_lt, ◌≡◌, Bool, false, List, [], ◌∷◌, ◌++◌, map, Option, Some, None, if◌then◌else◌, unwrap_or, codes}
 use Rattle.std.specs.Cmp.Lexicographic.{pointwise}
 use Rattle.std.specs.List.{AllZip}
 use Rattle.std.specs.Option.{option_map}
@@ -88,6 +88,10 @@ fields_made table definition (f ∷ fs) = made_with (made_by table (called_for d
 abbrev pub value_of : ℕ → Option (List FieldValue) → Option Outcome
 value_of place None = None
 value_of place (Some values) = Some (Made (record { variant = place; fields = values }))
+
+-- the same where values have this place, which is one below 2^32
+abbrev pub placed_value : ℕ → Option (List FieldValue) → Option Outcome
+placed_value place values = if nat_lt place (2 ^ 32) then value_of place values else None
 
 -- the same of a case, where values have its place
 abbrev pub case_made : Answers → DeriveInput → Option (ℕ × List Field) → Option Outcome

@@ -4,6 +4,7 @@ use Rattle.educe_bound.specs.declared.traits.Trait.{Trait}
 use Rattle.educe_bound.specs.declared.traits.Trait.TheVariants as trait
 use Rattle.educe_attrs.specs.Row.{Row}
 use Rattle.educe_attrs.specs.Bounds.{bound_row}
+use Rattle.educe_attrs.specs.Cloned.{clone_row}
 use Rattle.educe_attrs.specs.Compared.{compared_row}
 use Rattle.educe_attrs.specs.Default as default
 
@@ -15,6 +16,8 @@ is_order _ = false
 
 -- what the trait allows at variants and at fields is the same in all definitions, so that its attributes are read field by field
 abbrev pub is_fieldwise : Trait → Bool
+is_fieldwise trait.Clone = true
+is_fieldwise trait.Copy = true
 is_fieldwise trait.PartialEq = true
 is_fieldwise trait.Eq = true
 is_fieldwise trait.PartialOrd = true
@@ -39,8 +42,9 @@ type_row _ = bound_row true true
 abbrev pub variant_row : Trait → Row
 variant_row which = bound_row false false
 
--- at a field of such a trait: `ignore` and `method`, for the orders also `rank`; for `Eq` nothing
+-- at a field of such a trait: `ignore` and `method`, for the orders also `rank`; for `Clone` `method` alone, for `Copy` and `Eq` nothing
 abbrev pub field_row : Trait → Row
+field_row trait.Clone = clone_row true
 field_row trait.PartialEq = compared_row true true false
 field_row trait.PartialOrd = compared_row true true true
 field_row trait.Ord = compared_row true true true

@@ -10,6 +10,8 @@ use Rattle.educe_laws.specs.Settings.{AreSaid}
 
 -- the settings of a trait are what the attributes say of it
 abbrev pub AreSaidOf : Trait → DeriveInput → Type 0
+AreSaidOf trait.Clone definition = AreSaid trait.Clone definition
+AreSaidOf trait.Copy definition = AreSaid trait.Copy definition
 AreSaidOf trait.PartialEq definition = AreSaid trait.PartialEq definition
 AreSaidOf trait.Eq definition = AreSaid trait.Eq definition
 AreSaidOf trait.PartialOrd definition = AreSaid trait.PartialOrd definition

@@ -7,6 +7,10 @@ use Rattle.educe_syntax.specs.Field.{Field}
 use Rattle.educe_syntax.specs.DeriveInput.{DeriveInput}
 use Rattle.educe_syntax.specs.Variant.{Variant}
 use Rattle.educe_attrs.specs.Values.{Values}
+use Rattle.educe_attrs.specs.WherePredicatesOrBool.{WherePredicatesOrBool}
+use Rattle.educe_bound.specs.declared.bound.Bound.{Bound}
+use Rattle.educe_bound.specs.declared.bound.Bound.TheVariants.{Auto}
+use Rattle.educe_bound.specs.Bounds.{bound_of}
 use Rattle.educe_attrs.specs.FieldSettings.{FieldSettings}
 use Rattle.educe_attrs.specs.Fields.{settings_at}
 use Rattle.educe_attrs.specs.Compared.{number_of, place_of}
@@ -30,6 +34,15 @@ variant_settings which definition variant = place_settings which (variant_row wh
 -- those of a field
 abbrev pub settings_of : Trait → DeriveInput → Field → FieldSettings
 settings_of which definition = settings_at which (field_row which) (listed definition)
+
+-- the bound that is said; where nothing is, the automatic one
+abbrev pub bound_said : Option WherePredicatesOrBool → Bound
+bound_said None = Auto
+bound_said (Some value) = bound_of value
+
+-- the bound that the type says for a trait
+abbrev pub bound_for : Trait → DeriveInput → Bound
+bound_for which definition = bound_said (type_settings which definition).bound
 
 -- The settings of the type, among them its bound, and those of each variant are what their attributes say of the trait. Those of
 -- each field are what its attributes say of it, or, where both orders are listed and an order has none of its own, of the other.

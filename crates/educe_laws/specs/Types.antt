@@ -9,6 +9,7 @@ use Rattle.educe_bound.specs.declared.traits.Trait.{Trait}
 use Rattle.educe_bound.specs.declared.traits.Trait.TheVariants as trait
 use Rattle.educe_bound.specs.Traits.{is_listed}
 use Rattle.educe_laws.specs.Cases.{cases_of}
+use Rattle.educe_laws.specs.Copying.{copies_whole}
 use Rattle.educe_laws.specs.Defaults.{default_types}
 use Rattle.educe_laws.specs.Listed.{listed}
 use Rattle.educe_laws.specs.Settings.{Kept, How, plainly, by_method, by_order, kept_fields}
@@ -65,8 +66,16 @@ pub record AreUnread (types read touched : List Ty) : Type 0 where
   pub none_read : read ≡ []
   pub touched_are : touched ≡ types
 
--- the types of the fields that the functions of a trait read, and the types that have to have the trait; the others are not built yet
+-- with true, where values are copied as a whole, none are read; and else those of all fields that take part
+abbrev pub AreCloneTypes : Bool → DeriveInput → List Ty → List Ty → Type 0
+AreCloneTypes true definition read touched = AreUnread [] read touched
+AreCloneTypes false definition read touched = AreOfFields trait.Clone definition read touched
+
+-- the types of the fields that the functions of a trait read, and the types that have to have the trait; those of `Debug` are not
+-- built yet
 abbrev pub AreTypes : Trait → DeriveInput → List Ty → List Ty → Type 0
+AreTypes trait.Clone definition read touched = AreCloneTypes (copies_whole definition) definition read touched
+AreTypes trait.Copy definition read touched = AreUnread (map (λ (f : Field). f.ty) (all_fields definition)) read touched
 AreTypes trait.PartialEq definition read touched = AreOfFields trait.PartialEq definition read touched
 AreTypes trait.Eq definition read touched = AreUnread (checked_types definition) read touched
 AreTypes trait.PartialOrd definition read touched = AreOfFields trait.PartialOrd definition read touched

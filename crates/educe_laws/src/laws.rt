@@ -1,5 +1,6 @@
 //! Laws of what is derived that hold with no call: the functions do nothing, and their contracts are the
 //! laws.
+ghost use Rattle.educe_laws.specs.CloneLaws.{CloneLaws};
 ghost use Rattle.educe_laws.specs.DefaultLaws.{DefaultLaws};
 ghost use Rattle.educe_laws.specs.EqLaws.{EqLaws};
 ghost use Rattle.educe_laws.specs.HashLaws.{HashLaws};
@@ -41,4 +42,13 @@ pub fn default_laws()
 /// evaluate.
 pub fn eq_laws()
     ensures { EqLaws }
+{}
+
+/// Where no field says something wrong of `Clone`, each takes part, and the functions of its block
+/// evaluate, over each table by which each of their calls makes a value, to a value that has what is made
+/// of each field, methods included: `clone` to such a value, or to the value itself where that is copied as
+/// a whole; `clone_from` to what `self` becomes. The names in the scope of the arms of an enum's functions
+/// and of a marker are apart from each other and, `self` aside, no words of the input.
+pub fn clone_laws()
+    ensures { CloneLaws }
 {}
