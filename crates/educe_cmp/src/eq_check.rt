@@ -3,27 +3,16 @@ ghost use Rattle.std.specs.Prelude.{◌≡◌, IfOk};
 ghost use Rattle.std.specs.List.{AllByRecursion, AllZip};
 ghost use Rattle.educe_syntax_self.specs.Heads.{AreNamed};
 ghost use Rattle.educe_syntax_self.specs.Visits.{MayVisitType};
-ghost use Rattle.educe_tokens.specs.WrittenLexemes.{written_lexemes};
-ghost use Rattle.educe_attrs.specs.Lints as lints;
-ghost use Rattle.educe_cmp.specs.EqTypes.{behind};
+ghost use Rattle.educe_handlers.specs.EveryType.{behind};
 ghost use Rattle.educe_laws.specs.Arms.{AreChosenFor};
 ghost use Rattle.educe_laws.specs.Checks as spec;
 
-use educe_attrs::generated_lint_attributes;
 use educe_body::{CheckItem, Names, UsedIdents};
-use educe_handlers::select;
+use educe_handlers::{lint_attributes, select};
 use educe_syntax::{DeriveInput, Generics, Ty, Types};
 use educe_syntax_self::ReplaceSelf;
-use educe_tokens::{Seq, TokenSlice, Word, Written};
+use educe_tokens::{Seq, Word};
 use std::alloc::{AllocError, Global};
-
-/// The attributes of a check: the lints of the type.
-fn attributes(alloc: Global, ast: &DeriveInput) -> Result<Written, AllocError>
-    ensures { IfOk result (λ attributes. written_lexemes attributes ≡ lints.lints ast.now.attrs) }
-{
-    let tokens = generated_lint_attributes(alloc, &ast.attrs)?;
-    Ok(Written::new(TokenSlice::new(alloc, tokens)?))
-}
 
 /// The names that a check declares: its function, the inner one, and the parameter of that.
 fn names(alloc: Global, ast: &DeriveInput) -> Result<Names, AllocError>
@@ -69,7 +58,7 @@ pub fn check_item(
 {
     let replace = ReplaceSelf::new(alloc, ast)?;
     Ok(CheckItem {
-        attributes: attributes(alloc, ast)?,
+        attributes: lint_attributes(alloc, ast)?,
         generics: replace.visit_generics(alloc, generics)?,
         types: replaced_types(alloc, &replace, types)?,
         names: names(alloc, ast)?,

@@ -1,14 +1,11 @@
 //! The types of which `Eq` is checked.
-ghost use Rattle.std.specs.Prelude.{◌≡◌, ◌++◌, [], ◌∷◌, true, false, map, OnOk, IfOk, IfErr};
-ghost use Rattle.std.specs.List.{flat_map};
-ghost use Rattle.educe_syntax.specs.Few.{all_fields};
-ghost use Rattle.educe_syntax.specs.Field.{Field};
+ghost use Rattle.std.specs.Prelude.{◌≡◌, [], ◌∷◌, true, map, OnOk, IfOk, IfErr};
 ghost use Rattle.educe_syntax.specs.Shape.TheVariants.{Enum};
 ghost use Rattle.educe_attrs.specs.Causes.{NoCause, OfStop};
 ghost use Rattle.educe_attrs.specs.Stop.TheVariants.{Memory};
 ghost use Rattle.educe_bound.specs.declared.traits.Trait.TheVariants.{PartialEq};
 ghost use Rattle.educe_bound.specs.Traits as traits;
-ghost use Rattle.educe_cmp.specs.EqTypes.{behind, types_of};
+ghost use Rattle.educe_handlers.specs.EveryType.{behind};
 ghost use Rattle.educe_handlers.specs.SeenTypes.{read_of, touched_of, Sees};
 ghost use Rattle.educe_laws.specs.Cases.{fields_in, cases_of};
 ghost use Rattle.educe_laws.specs.Handled.{OfCase, OfVariant, OfShape};
@@ -19,10 +16,11 @@ ghost use Rattle.educe_laws.specs.Types.{checked_with, AreUnread};
 use educe_attrs::Stop;
 use educe_bound::{Trait, is_listed};
 use educe_handlers::{
-    SeenTypes, Task, case_fields, field_settings, no_types, variant_fields, variant_settings,
+    SeenTypes, Task, all_types, case_fields, field_settings, no_types, variant_fields,
+    variant_settings,
 };
-use educe_syntax::{DeriveInput, Field, Shape, Ty, Variant};
-use std::alloc::{AllocError, Global};
+use educe_syntax::{Field, Shape, Ty, Variant};
+use std::alloc::Global;
 
 /// Sees the types of the fields of a case that take part. It is refused exactly where an attribute of a
 /// field or a rank is wrong, or memory fails.
@@ -102,38 +100,6 @@ fn compared_types<'d>(alloc: Global, task: Task<'d, '_>) -> Result<Vec<&'d Ty>, 
     let mut types = no_types(alloc);
     see_fields(alloc, task, &mut types)?;
     Ok(types.touched)
-}
-
-/// Adds the types of fields.
-fn push_types<'d>(fields: &'d [Field], types: &mut Vec<&'d Ty>) -> Result<(), AllocError>
-    ensures { OnOk result (behind types.new.items ≡ behind types.old.items ++ types_of fields.now) }
-{
-    for field in fields {
-        types.push(&field.ty)?;
-    }
-    Ok(())
-}
-
-/// Adds the types of the fields of each variant.
-fn push_variants<'d>(variants: &'d [Variant], types: &mut Vec<&'d Ty>) -> Result<(), AllocError>
-    ensures { OnOk result (behind types.new.items ≡ behind types.old.items ++ types_of (flat_map fields_in variants.now)) }
-{
-    for variant in variants {
-        push_types(variant.fields.fields.as_slice(), types)?;
-    }
-    Ok(())
-}
-
-/// The types of all fields.
-fn all_types(alloc: Global, ast: &DeriveInput) -> Result<Vec<&Ty>, AllocError>
-    ensures { IfOk result (λ types. behind types.items ≡ checked_with false ast.now) }
-{
-    let mut types = Vec::new(alloc);
-    match &ast.shape {
-        Shape::Struct(shape) => push_types(shape.fields.as_slice(), &mut types)?,
-        Shape::Enum(variants) => push_variants(variants.as_slice(), &mut types)?,
-    }
-    Ok(types)
 }
 
 /// The types of which `Eq` is checked: those of the fields that `PartialEq` compares by its own function,

@@ -3,11 +3,11 @@ use crate::handling::compare;
 use educe_attrs::Stop;
 use educe_body::{Comparison, Items};
 use educe_bound::Trait;
-use educe_handlers::{TraitHandler, TraitHandlerContext};
-use educe_syntax::{DeriveInput, Shape};
+use educe_handlers::{EnumPart, StructPart, TraitHandler, TraitHandlerContext};
+use educe_syntax::DeriveInput;
 use std::alloc::Global;
 
-/// The handler of `Ord`: its part for structs, or its part for enums.
+/// The handler of `Ord`, for structs and for enums.
 pub struct OrdHandler;
 
 impl TraitHandler for OrdHandler {
@@ -27,59 +27,12 @@ impl TraitHandler for OrdHandler {
         items: &mut Items,
         traits: &[Trait],
     ) -> Result<(), Stop> {
-        match &ast.shape {
-            Shape::Struct(_) => {
-                OrdStructHandler::trait_meta_handler(alloc, ast, ctx, items, traits)
-            }
-            Shape::Enum(_) => OrdEnumHandler::trait_meta_handler(alloc, ast, ctx, items, traits),
-        }
-    }
-}
-
-/// The part of the handler of `Ord` that takes structs.
-pub struct OrdStructHandler;
-
-impl TraitHandler for OrdStructHandler {
-    ghost use Rattle.educe_bound.specs.declared.traits.Trait.TheVariants.{Ord};
-    ghost use Rattle.educe_laws.specs.Built.{is_struct};
-
-    const TRAIT: Trait = Trait::Ord;
-
-    ghost TRAIT = { Ord };
-
-    ghost takes = { is_struct };
-
-    fn trait_meta_handler(
-        alloc: Global,
-        ast: &DeriveInput,
-        ctx: &mut TraitHandlerContext,
-        items: &mut Items,
-        traits: &[Trait],
-    ) -> Result<(), Stop> {
         compare(alloc, Comparison::Ord, ast, ctx, items, traits)
     }
 }
 
-/// The part of the handler of `Ord` that takes enums.
-pub struct OrdEnumHandler;
+/// Its part that takes structs.
+pub type OrdStructHandler = StructPart<OrdHandler>;
 
-impl TraitHandler for OrdEnumHandler {
-    ghost use Rattle.educe_bound.specs.declared.traits.Trait.TheVariants.{Ord};
-    ghost use Rattle.educe_laws.specs.Built.{is_enum};
-
-    const TRAIT: Trait = Trait::Ord;
-
-    ghost TRAIT = { Ord };
-
-    ghost takes = { is_enum };
-
-    fn trait_meta_handler(
-        alloc: Global,
-        ast: &DeriveInput,
-        ctx: &mut TraitHandlerContext,
-        items: &mut Items,
-        traits: &[Trait],
-    ) -> Result<(), Stop> {
-        compare(alloc, Comparison::Ord, ast, ctx, items, traits)
-    }
-}
+/// Its part that takes enums.
+pub type OrdEnumHandler = EnumPart<OrdHandler>;

@@ -3,11 +3,11 @@ use crate::handling::compare;
 use educe_attrs::Stop;
 use educe_body::{Comparison, Items};
 use educe_bound::Trait;
-use educe_handlers::{TraitHandler, TraitHandlerContext};
-use educe_syntax::{DeriveInput, Shape};
+use educe_handlers::{EnumPart, StructPart, TraitHandler, TraitHandlerContext};
+use educe_syntax::DeriveInput;
 use std::alloc::Global;
 
-/// The handler of `PartialEq`: its part for structs, or its part for enums.
+/// The handler of `PartialEq`, for structs and for enums.
 pub struct PartialEqHandler;
 
 impl TraitHandler for PartialEqHandler {
@@ -27,61 +27,12 @@ impl TraitHandler for PartialEqHandler {
         items: &mut Items,
         traits: &[Trait],
     ) -> Result<(), Stop> {
-        match &ast.shape {
-            Shape::Struct(_) => {
-                PartialEqStructHandler::trait_meta_handler(alloc, ast, ctx, items, traits)
-            }
-            Shape::Enum(_) => PartialEqEnumHandler::trait_meta_handler(
-                alloc, ast, ctx, items, traits,
-            ),
-        }
-    }
-}
-
-/// The part of the handler of `PartialEq` that takes structs.
-pub struct PartialEqStructHandler;
-
-impl TraitHandler for PartialEqStructHandler {
-    ghost use Rattle.educe_bound.specs.declared.traits.Trait.TheVariants.{PartialEq};
-    ghost use Rattle.educe_laws.specs.Built.{is_struct};
-
-    const TRAIT: Trait = Trait::PartialEq;
-
-    ghost TRAIT = { PartialEq };
-
-    ghost takes = { is_struct };
-
-    fn trait_meta_handler(
-        alloc: Global,
-        ast: &DeriveInput,
-        ctx: &mut TraitHandlerContext,
-        items: &mut Items,
-        traits: &[Trait],
-    ) -> Result<(), Stop> {
         compare(alloc, Comparison::PartialEq, ast, ctx, items, traits)
     }
 }
 
-/// The part of the handler of `PartialEq` that takes enums.
-pub struct PartialEqEnumHandler;
+/// Its part that takes structs.
+pub type PartialEqStructHandler = StructPart<PartialEqHandler>;
 
-impl TraitHandler for PartialEqEnumHandler {
-    ghost use Rattle.educe_bound.specs.declared.traits.Trait.TheVariants.{PartialEq};
-    ghost use Rattle.educe_laws.specs.Built.{is_enum};
-
-    const TRAIT: Trait = Trait::PartialEq;
-
-    ghost TRAIT = { PartialEq };
-
-    ghost takes = { is_enum };
-
-    fn trait_meta_handler(
-        alloc: Global,
-        ast: &DeriveInput,
-        ctx: &mut TraitHandlerContext,
-        items: &mut Items,
-        traits: &[Trait],
-    ) -> Result<(), Stop> {
-        compare(alloc, Comparison::PartialEq, ast, ctx, items, traits)
-    }
-}
+/// Its part that takes enums.
+pub type PartialEqEnumHandler = EnumPart<PartialEqHandler>;

@@ -12,3 +12,5 @@ pub mod Visited
 pub mod Headed
 pub mod Formed
 pub mod CalledPaths
+pub mod AllTypes
+pub mod SettingLists

@@ -1,21 +1,21 @@
 -- The types of fields that bounds speak of, behind the references.
-use Rattle.std.specs.Prelude.{◌≡◌, List, [], ◌∷◌, ◌++◌, map}
-use Rattle.std.specs.Borrow.{Bor}
+use Rattle.std.specs.Prelude.{◌≡◌, List, [], ◌∷◌, ◌++◌}
 use Rattle.educe_syntax.specs.DeriveInput.{DeriveInput}
 use Rattle.educe_syntax.specs.Field.{Field}
 use Rattle.educe_syntax.specs.Ty.{Ty}
 use Rattle.educe_bound.specs.declared.traits.Trait.{Trait}
+use Rattle.educe_handlers.specs.EveryType.{behind}
 use Rattle.educe_handlers.specs.declared.seen_types.SeenTypes.{SeenTypes}
 use Rattle.educe_laws.specs.Settings.{Kept, How, plainly, by_method, by_order}
 use Rattle.educe_laws.specs.Types.{AreVisited, read_types, touched_types}
 
 -- the types of the fields that are read
 abbrev pub read_of : SeenTypes → List Ty
-read_of types = map (λ (t : Bor Ty). t.now) types.read.items
+read_of types = behind types.read.items
 
 -- the types of those on which the trait's own function is called
 abbrev pub touched_of : SeenTypes → List Ty
-touched_of types = map (λ (t : Bor Ty). t.now) types.touched.items
+touched_of types = behind types.touched.items
 
 -- the type of a field on which the trait's own function is called, and none where it isn't
 abbrev pub touched_one : How → Ty → List Ty

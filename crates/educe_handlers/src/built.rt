@@ -14,6 +14,8 @@ fn are_built(listed: &[Trait]) -> bool
     ensures { result ≡ spec.are_built listed.now }
 {
     let built = [
+        Trait::Clone,
+        Trait::Copy,
         Trait::PartialEq,
         Trait::Eq,
         Trait::PartialOrd,

@@ -9,6 +9,7 @@ ghost use Rattle.educe_laws.specs.Handlers.{IsReady, inherited_from};
 ghost use Rattle.educe_laws.specs.Headers as spec;
 ghost use Rattle.educe_laws.specs.Listed as listing;
 ghost use Rattle.educe_laws.specs.Rows as rows;
+ghost use Rattle.educe_laws.specs.Settings as settings;
 ghost use Rattle.educe_laws.specs.Types.{AreTypes};
 
 use crate::context::TraitHandlerContext;
@@ -34,7 +35,7 @@ pub struct Header {
 
 /// The bound that is said; where none is, the automatic one (documentation of `educe`, Bounds).
 pub fn bound_said(said: Option<WherePredicatesOrBool>) -> Bound
-    ensures { result ≡ spec.bound_said said }
+    ensures { result ≡ settings.bound_said said }
 {
     match said {
         Some(value) => Bound::from_value(value),
@@ -46,7 +47,7 @@ pub fn bound_said(said: Option<WherePredicatesOrBool>) -> Bound
 /// wrong, or memory fails.
 pub fn bound_of_type(alloc: Global, task: Task<'_, '_>) -> Result<Bound, Stop>
     requires { task.listed.now ≡ listing.listed task.ast.now }
-    ensures ok { IfOk result (λ bound. bound ≡ spec.bound_for task.entry.which task.entry.ast.now) }
+    ensures ok { IfOk result (λ bound. bound ≡ settings.bound_for task.entry.which task.entry.ast.now) }
     ensures uncaused { IfOk result (λ _. NoCause (OfPlace task.entry.which (rows.type_row task.entry.which) (listing.listed task.entry.ast.now) task.entry.ast.now.attrs)) }
     ensures err { IfErr result (λ s. OfStop (OfPlace task.entry.which (rows.type_row task.entry.which) (listing.listed task.entry.ast.now) task.entry.ast.now.attrs) s) }
 {
@@ -138,7 +139,7 @@ fn added(
     copied: bool,
     ctx: &TraitHandlerContext,
 ) -> Result<Predicates, AllocError>
-    requires bound { bound.now ≡ spec.bound_for task.which task.ast.now }
+    requires bound { bound.now ≡ settings.bound_for task.which task.ast.now }
     requires types { AreTypes task.which task.ast.now (read_of types.now) (touched_of types.now) }
     requires copied { spec.AreCopied task.ast.now copied }
     ensures { IfOk result (λ all. Adds task.entry.which task.entry.ast.now (inherited_from ctx.now (spec.prerequisites task.entry.which)) (keys_of all)) }
@@ -175,7 +176,7 @@ pub fn header_of(
     ctx: &TraitHandlerContext,
 ) -> Result<Header, AllocError>
     requires ready { IsReady task.which task.ast.now task.listed.now ctx.now }
-    requires bound { bound.now ≡ spec.bound_for task.which task.ast.now }
+    requires bound { bound.now ≡ settings.bound_for task.which task.ast.now }
     requires types { AreTypes task.which task.ast.now (read_of types.now) (touched_of types.now) }
     requires copied { spec.AreCopied task.ast.now copied }
     ensures generics { IfOk result (λ header. spec.IsHeader task.entry.which task.entry.ast.now header.generics) }

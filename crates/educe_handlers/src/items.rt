@@ -2,11 +2,11 @@
 ghost use Rattle.std.specs.Prelude.{◌≡◌, IsTrue, IfOk};
 ghost use Rattle.educe_tokens.specs.Quote.{is_ascii_name};
 ghost use Rattle.educe_tokens.specs.WrittenLexemes.{written_lexemes};
-ghost use Rattle.educe_attrs.specs.Lints.{impl_attributes};
+ghost use Rattle.educe_attrs.specs.Lints.{lints, impl_attributes};
 ghost use Rattle.educe_laws.specs.Blocks.{IsFunction, IsImpl};
 ghost use Rattle.educe_laws.specs.Headers.{IsHeader};
 
-use educe_attrs::generated_impl_attributes;
+use educe_attrs::{generated_impl_attributes, generated_lint_attributes};
 use educe_body::{Body, Function, Functions, ImplItem};
 use educe_bound::Trait;
 use educe_syntax::{DeriveInput, Duplicate, Generics};
@@ -18,6 +18,14 @@ fn attributes(alloc: Global, ast: &DeriveInput) -> Result<Written, AllocError>
     ensures { IfOk result (λ attributes. written_lexemes attributes ≡ impl_attributes ast.now.attrs) }
 {
     let tokens = generated_impl_attributes(alloc, &ast.attrs)?;
+    Ok(Written::new(TokenSlice::new(alloc, tokens)?))
+}
+
+/// Those of items that are no impls of traits: the attributes that set the levels of lints.
+pub fn lint_attributes(alloc: Global, ast: &DeriveInput) -> Result<Written, AllocError>
+    ensures { IfOk result (λ attributes. written_lexemes attributes ≡ lints ast.now.attrs) }
+{
+    let tokens = generated_lint_attributes(alloc, &ast.attrs)?;
     Ok(Written::new(TokenSlice::new(alloc, tokens)?))
 }
 

@@ -4,13 +4,15 @@
 
 mod built;
 mod calling;
-mod checks;
+mod cases;
 mod context;
+mod field_types;
 mod fields;
 mod handler;
 mod header;
 mod items;
 mod naming;
+mod parts;
 mod patterns;
 mod prerequisites;
 mod ranked;
@@ -24,16 +26,18 @@ mod task;
 
 pub use built::is_built;
 pub use calling::called;
-pub use checks::check_places;
+pub use cases::{CaseSettings, check_places, settings_of_cases};
 pub use context::TraitHandlerContext;
+pub use field_types::all_types;
 pub use fields::{case_fields, variant_fields, variant_settings};
 pub use handler::TraitHandler;
 pub use header::{Header, bound_of_type, bound_said, header_of, is_copied};
-pub use items::{function, impl_item};
+pub use items::{function, impl_item, lint_attributes};
 pub use naming::{parameter, select, select_prefix};
+pub use parts::{EnumPart, StructPart};
 pub use patterns::{bare_pattern, has_brackets, key, pattern};
 pub use ranked::{How, Ranked};
-pub use ranks::fields_in_order;
+pub use ranks::{fields_in_order, kept_fields};
 pub use reading::{Reading, read};
 pub use rows::{is_order, reads_fields};
 pub use said::{field_settings, type_values, variant_values};

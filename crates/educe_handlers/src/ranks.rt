@@ -22,7 +22,7 @@ use educe_tokens::{EduceError, Kind};
 use std::alloc::{AllocError, Global};
 
 /// The fields that take part by their settings, in written order.
-fn kept_fields<'f, 's>(
+pub fn kept_fields<'f, 's>(
     alloc: Global,
     fields: &'f [Field],
     settings: &'s [FieldSettings],

@@ -2,6 +2,7 @@
 ghost use Rattle.std.specs.Prelude.{◌≡◌};
 ghost use Rattle.educe_laws.specs.Rows as spec;
 
+use educe_attrs::clone::FieldAttributeBuilder;
 use educe_attrs::default::TypeAttributeBuilder;
 use educe_attrs::{AttributeBuilder, Row, bound_row, compared_row};
 use educe_bound::Trait;
@@ -59,6 +60,12 @@ pub fn field_row(which: Trait) -> Row
     ensures { result ≡ spec.field_row which }
 {
     match which {
+        Trait::Clone => {
+            let builder = FieldAttributeBuilder {
+                enable_method: true,
+            };
+            builder.row()
+        }
         Trait::PartialEq => compared_row(true, true, false),
         Trait::PartialOrd => compared_row(true, true, true),
         Trait::Ord => compared_row(true, true, true),

@@ -6,7 +6,7 @@ use Rattle.educe_syntax.specs.Ty.{Ty}
 use Rattle.educe_syntax_self.specs.Visits.{MayVisitType}
 use Rattle.educe_handlers.proofs.Lists.{zip_more, zip_mapped}
 use Rattle.educe_laws.specs.Checks.{IsReplacedType}
-use Rattle.educe_cmp.specs.EqTypes.{behind}
+use Rattle.educe_handlers.specs.EveryType.{behind}
 use Rattle.educe_cmp.proofs.CheckedTypes.{at_index}
 use Rattle.educe_cmp.proofs.eq_check.replaced_types.Goals as goal
 

@@ -1,4 +1,4 @@
-use Rattle.std.proofs.Common.{◌≡◌, true, refl, sym, subst}
+use Rattle.std.proofs.Common.{◌≡◌, true, false, refl, ap, sym, subst}
 use Rattle.std.specs.Prelude.{IsTrue, IfErr}
 use Rattle.std.specs.List.{AllByRecursion}
 use Rattle.educe_syntax_self.specs.Visits.{MayVisitType}
@@ -8,8 +8,8 @@ use Rattle.educe_attrs.specs.Places.{OfPlace}
 use Rattle.educe_bound.specs.declared.traits.Trait.{Trait}
 use Rattle.educe_bound.specs.declared.traits.Trait.TheVariants.{PartialEq, Eq}
 use Rattle.educe_bound.specs.Traits.{is_listed}
-use Rattle.educe_handlers.proofs.Refused.{handler_uncaused}
-use Rattle.educe_laws.specs.Handled.{OfShape, handling}
+use Rattle.educe_handlers.proofs.Refused.{other_clear, handler_uncaused}
+use Rattle.educe_laws.specs.Handled.{has_markers, OfShape, handling}
 use Rattle.educe_laws.specs.Listed.{listed}
 use Rattle.educe_laws.specs.Rows.{is_fieldwise, type_row}
 use Rattle.educe_laws.proofs.Refused.{type_refused, shape_refused}
@@ -20,6 +20,10 @@ use Rattle.educe_cmp.proofs.eq_handling.block.Goals as goal
 -- `Eq` is read field by field
 fieldwise : (own : Trait) → own ≡ Eq → IsTrue (is_fieldwise own)
 fieldwise own same = subst (λ of. IsTrue (is_fieldwise of)) (sym same) refl
+
+-- and has no markers
+unmarked : (own : Trait) → own ≡ Eq → has_markers own ≡ false
+unmarked own same = ap has_markers same
 
 pub returns-in_err-bound-clause-err : goal.returns-in_err-bound-clause-err
 returns-in_err-bound-clause-err c =
@@ -40,7 +44,7 @@ returns-in_err-check_places-clause-err c =
 
 pub checked_types-requires-clause-uncaused : goal.checked_types-requires-clause-uncaused
 checked_types-requires-clause-uncaused c = λ lists. record {
-  none_stands = λ e cause. (c.requires.ready.uncaused.0 lists).none_stands e (shape_refused PartialEq refl c.args.task.ast.now e cause);
+  none_stands = λ e cause. (c.requires.ready.uncaused.1.1.0 lists).none_stands e (shape_refused PartialEq refl c.args.task.ast.now e cause);
 }
 
 pub eq_items-requires-clause-named : goal.eq_items-requires-clause-named
@@ -59,4 +63,4 @@ returns-clause-uncaused c =
     let lists : is_listed (listed ast) Eq ≡ true = rw (← c.requires.ready.traits_are) c.requires.ready.lists in
     let own = subst (λ own. is_listed (listed ast) own ≡ true) (sym c.requires.equality) lists in
     subst (λ own. NoCause (OfHandler (handling ast) own)) c.requires.equality
-    (handler_uncaused which ast c.in_ok-check_places.ensures.uncaused c.in_ok-bound.ensures.uncaused (fieldwise which c.requires.equality) own)
+    (handler_uncaused which ast c.in_ok-check_places.ensures.uncaused c.in_ok-bound.ensures.uncaused (other_clear which ast (unmarked which c.requires.equality)) (fieldwise which c.requires.equality) own)

@@ -1,12 +1,13 @@
-use Rattle.std.proofs.Common.{◌≡◌, sym, subst, true}
+use Rattle.std.proofs.Common.{◌≡◌, ◌∙◌, true, false, refl, ap, sym, subst}
 use Rattle.std.specs.Prelude.{IsTrue}
 use Rattle.educe_attrs.specs.Phases.{OfHandler}
 use Rattle.educe_attrs.specs.Places.{OfPlace}
 use Rattle.educe_bound.specs.declared.traits.Trait.{Trait}
 use Rattle.educe_bound.specs.Traits.{is_listed}
 use Rattle.educe_body.specs.declared.comparison.Comparison.{Comparison}
+use Rattle.educe_body.specs.declared.comparison.Comparison.TheVariants.{PartialEq, PartialOrd, Ord}
 use Rattle.educe_laws.specs.Comparisons.{trait_of}
-use Rattle.educe_laws.specs.Handled.{OfShape, handling}
+use Rattle.educe_laws.specs.Handled.{has_markers, OfShape, handling}
 use Rattle.educe_laws.specs.Headers.{IsHeader}
 use Rattle.educe_laws.specs.Listed.{listed}
 use Rattle.educe_laws.specs.Rows.{is_fieldwise, type_row}
@@ -14,7 +15,7 @@ use Rattle.educe_laws.specs.Types.{AreTypes, AreOfFields}
 use Rattle.educe_laws.proofs.Stops.{stop_passed}
 use Rattle.educe_laws.proofs.Refused.{comparison_fieldwise, type_refused, shape_refused}
 use Rattle.educe_handlers.specs.SeenTypes.{read_of, touched_of}
-use Rattle.educe_handlers.proofs.Refused.{fields_uncaused, handler_uncaused}
+use Rattle.educe_handlers.proofs.Refused.{other_clear, fields_uncaused, handler_uncaused}
 use Rattle.educe_handlers.proofs.Visited.{sees_all}
 use Rattle.educe_cmp.proofs.Added.{types_are}
 use Rattle.educe_cmp.proofs.handling.block.Goals as goal
@@ -22,6 +23,12 @@ use Rattle.educe_cmp.proofs.handling.block.Goals as goal
 -- the trait of a comparison is read field by field
 fieldwise : (which : Comparison) (own : Trait) → own ≡ trait_of which → IsTrue (is_fieldwise own)
 fieldwise which own same = subst (λ of. IsTrue (is_fieldwise of)) (sym same) (comparison_fieldwise which)
+
+-- and has no markers
+unmarked : (which : Comparison) → has_markers (trait_of which) ≡ false
+unmarked PartialEq = refl
+unmarked PartialOrd = refl
+unmarked Ord = refl
 
 pub returns-in_err-bound-clause-err : goal.returns-in_err-bound-clause-err
 returns-in_err-bound-clause-err c =
@@ -58,4 +65,5 @@ returns-clause-uncaused c =
     let which = c.args.task.which in
     let ast = c.args.task.ast.now in
     let is_one : is_listed (listed ast) which ≡ true = rw (← c.requires.ready.traits_are) c.requires.ready.lists in
-    handler_uncaused which ast c.in_ok-body.ensures.uncaused c.in_ok-bound.ensures.uncaused (fieldwise c.args.which which c.requires.same) is_one
+    let clear = other_clear which ast (ap has_markers c.requires.same ∙ unmarked c.args.which) in
+    handler_uncaused which ast c.in_ok-body.ensures.uncaused c.in_ok-bound.ensures.uncaused clear (fieldwise c.args.which which c.requires.same) is_one
