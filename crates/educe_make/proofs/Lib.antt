@@ -8,3 +8,13 @@ pub mod Uncaused
 pub mod Forms
 -- The arms of enums.
 pub mod ArmLists
+pub mod KeptLists
+pub mod Matched
+pub mod Bitwise
+pub mod Methods
+pub mod Visiting
+pub mod SettingsAt
+pub mod Marking
+pub mod UnmarkedCases
+pub mod Assigning
+pub mod Unbuilt

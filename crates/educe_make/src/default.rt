@@ -3,11 +3,11 @@ use crate::default_handling::derive_default;
 use educe_attrs::Stop;
 use educe_body::Items;
 use educe_bound::Trait;
-use educe_handlers::{TraitHandler, TraitHandlerContext};
-use educe_syntax::{DeriveInput, Shape};
+use educe_handlers::{EnumPart, StructPart, TraitHandler, TraitHandlerContext};
+use educe_syntax::DeriveInput;
 use std::alloc::Global;
 
-/// The handler of `Default`: its part for structs, or its part for enums.
+/// The handler of `Default`, for structs and for enums.
 pub struct DefaultHandler;
 
 impl TraitHandler for DefaultHandler {
@@ -27,61 +27,12 @@ impl TraitHandler for DefaultHandler {
         items: &mut Items,
         traits: &[Trait],
     ) -> Result<(), Stop> {
-        match &ast.shape {
-            Shape::Struct(_) => {
-                DefaultStructHandler::trait_meta_handler(alloc, ast, ctx, items, traits)
-            }
-            Shape::Enum(_) => {
-                DefaultEnumHandler::trait_meta_handler(alloc, ast, ctx, items, traits)
-            }
-        }
-    }
-}
-
-/// The part of the handler of `Default` that takes structs.
-pub struct DefaultStructHandler;
-
-impl TraitHandler for DefaultStructHandler {
-    ghost use Rattle.educe_bound.specs.declared.traits.Trait.TheVariants.{Default};
-    ghost use Rattle.educe_laws.specs.Built.{is_struct};
-
-    const TRAIT: Trait = Trait::Default;
-
-    ghost TRAIT = { Default };
-
-    ghost takes = { is_struct };
-
-    fn trait_meta_handler(
-        alloc: Global,
-        ast: &DeriveInput,
-        ctx: &mut TraitHandlerContext,
-        items: &mut Items,
-        traits: &[Trait],
-    ) -> Result<(), Stop> {
         derive_default(alloc, ast, ctx, items, traits)
     }
 }
 
-/// The part of the handler of `Default` that takes enums.
-pub struct DefaultEnumHandler;
+/// Its part that takes structs.
+pub type DefaultStructHandler = StructPart<DefaultHandler>;
 
-impl TraitHandler for DefaultEnumHandler {
-    ghost use Rattle.educe_bound.specs.declared.traits.Trait.TheVariants.{Default};
-    ghost use Rattle.educe_laws.specs.Built.{is_enum};
-
-    const TRAIT: Trait = Trait::Default;
-
-    ghost TRAIT = { Default };
-
-    ghost takes = { is_enum };
-
-    fn trait_meta_handler(
-        alloc: Global,
-        ast: &DeriveInput,
-        ctx: &mut TraitHandlerContext,
-        items: &mut Items,
-        traits: &[Trait],
-    ) -> Result<(), Stop> {
-        derive_default(alloc, ast, ctx, items, traits)
-    }
-}
+/// Its part that takes enums.
+pub type DefaultEnumHandler = EnumPart<DefaultHandler>;

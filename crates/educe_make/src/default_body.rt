@@ -18,13 +18,14 @@ ghost use Rattle.educe_syntax.specs.Shape.TheVariants.{Struct, Enum};
 ghost use Rattle.educe_syntax.specs.Ty.{Ty};
 ghost use Rattle.educe_make.specs.Defaults.{settings_by, AreMarksRead, AreRead, IsTyped, IsMadeForm};
 
+use crate::bodies::name_of;
 use crate::default_marks::{chosen_place, marks_of};
 use crate::default_texts::{field_text, value_text};
 use crate::default_values::{values_of, values_of_variants};
 use educe_attrs::{FieldSettings, Stop, Values};
 use educe_body::{Form, Init, Inits};
 use educe_handlers::{Task, key};
-use educe_syntax::{Duplicate, Expr, Field, FieldShape, Ident, Ty, Variant};
+use educe_syntax::{Expr, Field, FieldShape, Ident, Ty, Variant};
 use educe_tokens::{Seq, Span};
 use std::alloc::{AllocError, Global};
 
@@ -83,16 +84,6 @@ fn default_types<'d>(
         add_type(field, &settings[place].values.expression, &mut types)?;
     }
     Ok(types)
-}
-
-/// The name of a variant, if there is one.
-fn name_of(alloc: Global, name: Option<&Ident>) -> Result<Option<Ident>, AllocError>
-    ensures { IfOk result (λ copy. copy ≡ option_copied name.entry) }
-{
-    match name {
-        Some(name) => Ok(Some(name.duplicate(alloc)?)),
-        None => Ok(None),
-    }
 }
 
 /// A struct, or with a name that variant, each field of which is written by what its attributes say.

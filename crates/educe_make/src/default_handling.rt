@@ -2,11 +2,9 @@
 ghost use Rattle.std.specs.Prelude.{◌≡◌, true, ◌++◌, ◌∷◌, [], map, is_none, unwrap_or, false, OnOk, OnErr, IfOk, IfErr};
 ghost use Rattle.std.specs.Borrow.{Bor};
 ghost use Rattle.educe_tokens.specs.Prefix.{HasPrefix};
-ghost use Rattle.educe_tokens.specs.WrittenLexemes.{written_lexemes};
 ghost use Rattle.educe_syntax.specs.Refusal.{IsDefinition};
 ghost use Rattle.educe_syntax.specs.Ty.{Ty};
 ghost use Rattle.educe_attrs.specs.Causes.{NoCause, OfStop};
-ghost use Rattle.educe_attrs.specs.Lints.{lints};
 ghost use Rattle.educe_attrs.specs.Phases.{OfHandler};
 ghost use Rattle.educe_bound.specs.declared.traits.Trait.TheVariants as derived;
 ghost use Rattle.educe_bound.specs.Predicates.{keys_of};
@@ -15,43 +13,23 @@ ghost use Rattle.educe_laws.specs.Blocks.{IsDefaultBlock, AreNew, IsNew};
 ghost use Rattle.educe_laws.specs.Defaults as said;
 ghost use Rattle.educe_laws.specs.Handled.{handling};
 ghost use Rattle.educe_laws.specs.Handlers.{IsReady, AddsBlock, AddsMeaning, AreNoted, traits_through};
-ghost use Rattle.educe_laws.specs.Headers as headers;
 ghost use Rattle.educe_laws.specs.Headers.{IsHeader, AreOf};
 ghost use Rattle.educe_laws.specs.Making as spec;
+ghost use Rattle.educe_laws.specs.Settings as settings;
 ghost use Rattle.educe_make.specs.Defaults.{IsTyped, IsMadeForm, new_items};
 
+use crate::bodies::body_of;
 use crate::default_body::{Made, enum_form, struct_form};
-use educe_attrs::{Stop, Values, generated_lint_attributes};
-use educe_body::{Body, Form, ImplItem, Item, Items};
+use educe_attrs::{Stop, Values};
+use educe_body::{Form, ImplItem, Item, Items};
 use educe_bound::{Bound, Trait};
 use educe_handlers::{
     Header, SeenTypes, Task, TraitHandlerContext, bound_said, function, header_of, impl_item,
-    is_copied, type_values,
+    is_copied, lint_attributes, type_values,
 };
 use educe_syntax::{DeriveInput, Duplicate, Expr, Generics, Predicates, Shape};
-use educe_tokens::{Seq, Span, TokenSlice, Written};
+use educe_tokens::{Span, Written};
 use std::alloc::{AllocError, Global};
-
-/// The attributes of the impl that holds `new`: those that set the levels of lints.
-fn attributes(alloc: Global, ast: &DeriveInput) -> Result<Written, AllocError>
-    ensures { IfOk result (λ attributes. written_lexemes attributes ≡ lints ast.now.attrs) }
-{
-    let tokens = generated_lint_attributes(alloc, &ast.attrs)?;
-    Ok(Written::new(TokenSlice::new(alloc, tokens)?))
-}
-
-/// The body with no parameter whose block is this form.
-fn body_of(alloc: Global, form: Form) -> Result<Body, AllocError>
-    ensures params { IfOk result (λ body. body.params ≡ []) }
-    ensures block { IfOk result (λ body. body.block ≡ form ∷ []) }
-{
-    let mut block = Seq::new(alloc);
-    block.push(form)?;
-    Ok(Body {
-        params: Seq::new(alloc),
-        block,
-    })
-}
 
 /// The impl that holds `new`, which returns the default value, with these generics.
 fn new_item(alloc: Global, ast: &DeriveInput, generics: Generics) -> Result<ImplItem, AllocError>
@@ -63,7 +41,7 @@ fn new_item(alloc: Global, ast: &DeriveInput, generics: Generics) -> Result<Impl
     )?;
     let body = body_of(alloc, Form::Pasted(text))?;
     let functions = function(alloc, "new", body)?;
-    let attributes = attributes(alloc, ast)?;
+    let attributes = lint_attributes(alloc, ast)?;
     let ident = ast.ident.duplicate(alloc)?;
     Ok(ImplItem {
         which: Trait::Default,
@@ -154,7 +132,7 @@ struct Own {
 
 /// The same, of these settings.
 fn own_of(values: Values) -> Own
-    ensures bound { result.bound ≡ headers.bound_said values.bound }
+    ensures bound { result.bound ≡ settings.bound_said values.bound }
     ensures new { result.has_new ≡ unwrap_or values.new false }
     ensures value { result.value ≡ values.expression }
     ensures span { result.span ≡ values.span }

@@ -5,7 +5,7 @@ use Rattle.educe_attrs.specs.Places.{OfPlace}
 use Rattle.educe_bound.specs.Traits.{is_listed}
 use Rattle.educe_bound.specs.declared.traits.Trait.TheVariants.{Hash}
 use Rattle.educe_handlers.proofs.Formed.{function_with, impl_with}
-use Rattle.educe_handlers.proofs.Refused.{fields_uncaused, handler_uncaused}
+use Rattle.educe_handlers.proofs.Refused.{other_clear, fields_uncaused, handler_uncaused}
 use Rattle.educe_handlers.proofs.Visited.{sees_all}
 use Rattle.educe_laws.specs.Blocks.{IsFunction}
 use Rattle.educe_laws.specs.Handled.{OfShape, handling}
@@ -49,4 +49,4 @@ pub returns-clause-uncaused : goal.returns-clause-uncaused
 returns-clause-uncaused c =
     let ast = c.args.ast.now in
     let is_one : is_listed (listed ast) Hash ≡ true = rw (← c.requires.traits_are) c.requires.lists in
-    handler_uncaused Hash ast c.in_ok-body.ensures.uncaused c.in_ok-bound.ensures.uncaused refl is_one
+    handler_uncaused Hash ast c.in_ok-body.ensures.uncaused c.in_ok-bound.ensures.uncaused (other_clear Hash ast refl) refl is_one

@@ -1,0 +1,7 @@
+-- The laws of `Clone` and `Copy` as terms, which proofs cite with no call.
+use Rattle.educe_laws.specs.CloneLaws.{CloneLaws}
+use Rattle.educe_laws.proofs.CloneEvaluating as evaluating
+
+-- the functions of the block of `Clone` evaluate to what they mean
+pub lawful_clones : CloneLaws
+lawful_clones = evaluating.lawful_clones
