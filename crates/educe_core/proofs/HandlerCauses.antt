@@ -46,8 +46,8 @@ each_listed d Q lists fieldwise defaults e (inr cause) = own cause.0 cause.2
     own trait.Hash cause = fieldwise trait.Hash e cause
     own trait.Default cause = defaults e cause
     own trait.Debug cause = absurd cause
-    own trait.Clone cause = absurd cause
-    own trait.Copy cause = absurd cause
+    own trait.Clone cause = fieldwise trait.Clone e cause
+    own trait.Copy cause = fieldwise trait.Copy e cause
 
 -- ---- messages
 
@@ -60,6 +60,8 @@ module _ (d : DeriveInput) where
   fieldwise_message which e (IsFieldwiseCause.by_variant variant among cause) = lawful_reports.said_message which (variant_row which) variant.attrs e cause
   fieldwise_message which e (IsFieldwiseCause.by_field field among cause) = lawful_reports.field_message which (field_row which) (listed d) field.attrs e cause
   fieldwise_message which e (IsFieldwiseCause.by_rank fields among cause) = subst HasMessage (sym cause.reuse.is) (record { kind = λ same. cc; words = refl })
+  fieldwise_message which e (IsFieldwiseCause.by_copy is_clone lists cause) = lawful_reports.said_message trait.Copy (type_row trait.Copy) d.attrs e cause
+  fieldwise_message which _ (IsFieldwiseCause.by_marker field among unmarked) = record { kind = λ same. cc; words = refl }
 
   default_message : (e : EduceError) → IsDefaultCause d e → HasMessage e
   default_message e (IsDefaultCause.by_type cause) = lawful_reports.said_message trait.Default (type_row trait.Default) d.attrs e cause
@@ -154,6 +156,8 @@ module _ (tokens : List Token) (d : DeriveInput) (placed : IsDefinitionPlaced to
       let here = one_among (IsFieldPlaced tokens) (all_fields d) field placed.fields among in
       lawful_reports.field_placed tokens field.attrs here.attrs which (field_row which) (listed d) e cause
   fieldwise_placed which e (IsFieldwiseCause.by_rank fields among cause) = rank_placed which fields among e cause.reuse
+  fieldwise_placed which e (IsFieldwiseCause.by_copy is_clone lists cause) = lawful_reports.said_placed tokens d.attrs placed.attrs trait.Copy (type_row trait.Copy) e cause
+  fieldwise_placed which _ (IsFieldwiseCause.by_marker field among unmarked) = IsBoundary.beginning
 
   -- the fields of a case whose attributes `Default` reads stand among the tokens
   case_placed : (fields : List Field) (written : Bool) → IsCase d fields written → AreFieldsPlaced tokens fields

@@ -17,7 +17,7 @@ use educe_body::Items;
 use educe_bound::{Trait, is_listed};
 use educe_cmp::{EqHandler, OrdHandler, PartialEqHandler, PartialOrdHandler};
 use educe_handlers::{TraitHandler, TraitHandlerContext};
-use educe_make::{DefaultHandler, HashHandler};
+use educe_make::{CloneHandler, CopyHandler, DefaultHandler, HashHandler};
 use educe_syntax::DeriveInput;
 use educe_tokens::Seq;
 use std::alloc::Global;
@@ -60,6 +60,8 @@ pub fn blocks(alloc: Global, ast: &DeriveInput, listed: &[Trait]) -> Result<Item
 {
     let mut ctx = TraitHandlerContext::new(alloc);
     let mut items = Seq::new(alloc);
+    handle::<CloneHandler>(alloc, ast, &mut ctx, &mut items, listed)?;
+    handle::<CopyHandler>(alloc, ast, &mut ctx, &mut items, listed)?;
     handle::<PartialEqHandler>(alloc, ast, &mut ctx, &mut items, listed)?;
     handle::<EqHandler>(alloc, ast, &mut ctx, &mut items, listed)?;
     handle::<PartialOrdHandler>(alloc, ast, &mut ctx, &mut items, listed)?;
