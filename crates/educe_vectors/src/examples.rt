@@ -1,108 +1,20 @@
 //! The worked examples: a name, a text, and what is answered to it.
 
-use crate::examples::checks::check_all;
 use crate::program::ONE_FIELD;
-use educe_body::Comparison;
 use educe_tokens::Kind;
+use educe_vectors_runs::{Answer, Example, Outcome, check_all};
 use std::cmp::Ordering;
 use std::test::Fail;
 
-mod bounds;
 mod builders;
-mod checks;
-mod defaults;
 mod devices;
-mod enum_orders;
 mod enums;
 mod equalities;
 mod fields;
-mod generics;
-mod hashes;
 mod impls;
 mod listings;
-mod methods;
 mod names;
-mod outcomes;
-mod packed;
 mod phases;
-
-pub(crate) use outcomes::Outcome;
-
-/// What a method answers where it is called on fields of two numbers, under the text of its path.
-pub(crate) type Called = (&'static str, i128, i128, educe_body::Answer);
-
-/// What makes a value.
-#[derive(Clone, Copy)]
-pub(crate) enum Maker {
-    /// `Default::default` of the type at this place.
-    Type(u32),
-    /// The expression of this text.
-    Text(&'static str),
-}
-
-/// What a table is told.
-#[derive(Clone, Copy)]
-pub(crate) enum Told {
-    Nothing,
-    /// What methods answer.
-    Calls(&'static [Called]),
-    /// The numbers of expressions, under their texts.
-    Numbers(&'static [(&'static str, i128)]),
-    /// What methods feed to a hasher for a field of a number, under the text of their path.
-    Parts(&'static [(&'static str, i128, i128)]),
-    /// The numbers of values that are made.
-    Makers(&'static [(Maker, i128)]),
-}
-
-/// The place of a variant, and the numbers of its fields.
-pub(crate) type Held = (u32, &'static [i128]);
-
-/// Two values, and what a function evaluates to over them.
-pub(crate) type Pair = (Held, Held, Outcome);
-
-/// What is answered to a text.
-#[derive(Clone, Copy)]
-pub(crate) enum Answer {
-    /// `expand` writes this text.
-    Text(&'static str),
-    /// `expand` writes a text that contains this one.
-    Holds(&'static str),
-    /// `expand` writes a text that contains each of these.
-    HoldsEach(&'static [&'static str]),
-    /// `expand` writes a text.
-    Expanded,
-    /// The function of the first impl evaluates so over values whose fields have these numbers.
-    Value([i128; 2], [i128; 2], Outcome),
-    /// The function of this trait evaluates so over values whose fields have these numbers, where
-    /// methods answer as these calls of them say, and fields without a method compare as their
-    /// numbers do.
-    Called(Comparison, &'static [Called], &'static [i128], &'static [i128], Outcome),
-    /// The function of this trait evaluates so over each of these pairs of values, where a table is
-    /// told this, and fields without a method compare as their numbers do.
-    Pairs(Comparison, Told, &'static [Pair]),
-    /// The function of `Hash` feeds a hasher these parts for each of these values, where a table is
-    /// told this, and fields without a method feed their numbers.
-    Hashes(Told, &'static [(Held, &'static [i128])]),
-    /// The function of `Default` evaluates so, where a table is told this.
-    Made(Told, Outcome),
-    /// `expand` refuses with this line.
-    Line(&'static str),
-    /// `expand` refuses with one of these lines.
-    OneOf(&'static [&'static str]),
-    /// The tokens print as this text.
-    Printed(&'static str),
-    /// So many tokens are read.
-    Count(usize),
-    /// The one token has this integer value.
-    Integer(u128),
-    /// The one token has this string value.
-    String(&'static str),
-    /// `lex` refuses so, and cites this word where it is not empty.
-    Refusal(Kind, &'static str),
-}
-
-/// A name, a text, and what is answered to it.
-pub(crate) type Example = (&'static str, &'static str, Answer);
 
 const TWO_PLACES: &str =
     "# [ automatically_derived ] impl :: core :: cmp :: PartialEq for S { fn eq ( & self , other : & Self ) -> :: core :: primitive :: bool { if :: core :: cmp :: PartialEq :: ne ( & self . 0 , & other . 0 ) { return false ; } if :: core :: cmp :: PartialEq :: ne ( & self . 1 , & other . 1 ) { return false ; } true } }\n";

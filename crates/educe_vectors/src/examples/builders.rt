@@ -1,11 +1,11 @@
 //! A worked example of a trait that `expand` does not build yet, read by its builder (documentation of
 //! `educe`, Clone).
 
-use crate::examples::checks::cites;
 use educe_attrs::{Trait, TypeBuilder, clone};
 use educe_syntax::{Attributes, DeriveInput, Shape};
 use educe_tokens::{EduceError, Kind, Span};
 use educe_vectors_checks::{check_at, definition};
+use educe_vectors_runs::cites;
 use std::alloc::Global;
 use std::test::Fail;
 

@@ -1,7 +1,8 @@
 //! Worked examples of words that are no command, inputs past the limit or not UTF-8, and devices that
 //! fail.
 
-use crate::program::{Case, ONE_FIELD};
+use crate::program::ONE_FIELD;
+use educe_vectors_runs::Case;
 use std::alloc::Global;
 use std::test::Fail;
 

@@ -1,8 +1,7 @@
 //! Worked examples of enums: the text of their comparisons, and where and why they are refused
 //! (documentation of `educe`, PartialEq; PartialOrd; Ord; Rust Reference, Enumerations).
 
-use super::{Answer, Example};
-use crate::examples::checks::check_all;
+use educe_vectors_runs::{Answer, Example, check_all};
 use std::test::Fail;
 
 /// What the three comparisons of a unit, a tuple and a named variant are expanded to, where a field is

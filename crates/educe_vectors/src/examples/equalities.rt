@@ -1,8 +1,7 @@
 //! Worked examples of `Eq`: its impl, and the check of the types of fields (documentation of `educe`,
 //! Eq).
 
-use super::{Answer, Example};
-use crate::examples::checks::check_all;
+use educe_vectors_runs::{Answer, Example, check_all};
 use std::test::Fail;
 
 const ONE_FIELD: &str =

@@ -1,8 +1,7 @@
 //! Worked examples of what is said of a comparison at its type and at a field (documentation of
 //! `educe`, PartialEq; PartialOrd; Ord).
 
-use super::{Answer, Example, Outcome};
-use crate::examples::checks::check_all;
+use educe_vectors_runs::{Answer, Example, Outcome, check_all};
 use std::cmp::Ordering;
 use std::test::Fail;
 

@@ -1,9 +1,8 @@
 //! Worked examples of impls: the attributes that they take from the type, and what is left unread
 //! (Rust Reference, Lint check attributes; documentation of `educe`, Traits).
 
-use super::{Answer, Example};
-use crate::examples::checks::check_all;
 use crate::program::ONE_FIELD;
+use educe_vectors_runs::{Answer, Example, check_all};
 use std::test::Fail;
 
 const ALLOWED: &str =

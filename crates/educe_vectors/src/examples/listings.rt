@@ -1,8 +1,8 @@
 //! Worked examples of what a type lists: the traits, and why a listing is refused (documentation of
 //! `educe`, Traits).
 
-use super::{Answer, Example, NOT_SET_UP};
-use crate::examples::checks::check_all;
+use super::NOT_SET_UP;
+use educe_vectors_runs::{Answer, Example, check_all};
 use std::test::Fail;
 
 /// The line of a trait that is not supported.

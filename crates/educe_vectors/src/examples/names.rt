@@ -1,8 +1,7 @@
 //! Worked examples of the text of user-written functions, and of inputs that have the name of the second
 //! value as a word (documentation of `educe`, PartialEq; PartialOrd; Ord).
 
-use super::{Answer, Example};
-use crate::examples::checks::check_all;
+use educe_vectors_runs::{Answer, Example, check_all};
 use std::test::Fail;
 
 /// What both orders are expanded to where the method is one of `Ord`.

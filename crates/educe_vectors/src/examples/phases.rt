@@ -2,8 +2,7 @@
 //! cause of an earlier phase is reported before one of a later phase: the text, the names, what the
 //! type lists, the form, the attributes.
 
-use super::{Answer, Example};
-use crate::examples::checks::check_all;
+use educe_vectors_runs::{Answer, Example, check_all};
 use std::test::Fail;
 
 /// The line of a definition that is not built yet.
@@ -143,7 +142,7 @@ static SEVERAL: [Example; 15] = [
     ),
     (
         "then the form",
-        "#[educe(Clone)] struct S<T> { #[educe(Clone)] a: u8, b: u8 }",
+        "#[educe(Debug)] struct S<T> { #[educe(Debug)] a: u8, b: u8 }",
         Answer::Line(NOT_BUILT),
     ),
     (
@@ -175,23 +174,13 @@ static NOT_BUILT_YET: [Example; 10] = [
         Answer::Line(NOT_BUILT),
     ),
     (
-        "`Clone`",
-        "#[educe(Clone)] struct S { a: u8 }",
-        Answer::Line(NOT_BUILT),
-    ),
-    (
-        "`Copy`",
-        "#[educe(Copy)] struct S { a: u8 }",
-        Answer::Line(NOT_BUILT),
-    ),
-    (
         "another trait of an enum",
-        "#[educe(PartialEq, Clone)] enum E { A, B }",
+        "#[educe(PartialEq, Debug)] enum E { A, B }",
         Answer::Line(NOT_BUILT),
     ),
     (
         "another trait beside one that is built",
-        "#[educe(PartialEq)] #[educe(Copy)] struct S { a: u8 }",
+        "#[educe(PartialEq)] #[educe(Debug)] struct S { a: u8 }",
         Answer::Line(NOT_BUILT),
     ),
     (
@@ -201,7 +190,7 @@ static NOT_BUILT_YET: [Example; 10] = [
     ),
     (
         "another trait of a packed struct",
-        "#[educe(Clone)] #[repr(packed)] struct S<T>(T);",
+        "#[educe(Debug)] #[repr(packed)] struct S<T>(T);",
         Answer::Line(NOT_BUILT),
     ),
     (
@@ -211,12 +200,22 @@ static NOT_BUILT_YET: [Example; 10] = [
     ),
     (
         "another trait with bounds that are none",
-        "#[educe(Clone(bound))] enum E<T> { A(T) }",
+        "#[educe(Debug(bound))] enum E<T> { A(T) }",
         Answer::Line(NOT_BUILT),
     ),
     (
         "`Self` with arguments, where `Eq` is listed",
         "#[educe(Eq)] struct S<T>(T, Option<Box<Self<T>>>);",
+        Answer::Line(NOT_BUILT),
+    ),
+    (
+        "`Self` with arguments in the type of a field with a method of `Clone`",
+        "#[educe(Clone)] struct S<T>(T, #[educe(Clone(method = m))] Option<Box<Self<T>>>);",
+        Answer::Line(NOT_BUILT),
+    ),
+    (
+        "`Self` behind `::` in such a method",
+        "#[educe(Clone)] struct S(#[educe(Clone(method = own::Self::m))] u8);",
         Answer::Line(NOT_BUILT),
     ),
 ];

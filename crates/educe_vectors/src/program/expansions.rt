@@ -1,6 +1,7 @@
 //! Definitions that are expanded.
 
-use super::{ONE_FIELD, check_expanded, check_notes};
+use super::ONE_FIELD;
+use educe_vectors_runs::{check_expanded, check_notes};
 use std::alloc::{AllocError, Global};
 use std::test::Fail;
 
@@ -87,8 +88,9 @@ fn types_nest_so_far(rt: HostRuntime) -> Result<(), Fail> {
                 "u8);",
                 "1:157: nested too deeply\n",
             ),
+            ("#[educe(Clone)] struct S { a: ", 127, "u8 }", ""),
             (
-                "#[educe(Clone)] struct S { a: ",
+                "#[educe(Debug)] struct S { a: ",
                 127,
                 "u8 }",
                 "1:1: not built yet\n",

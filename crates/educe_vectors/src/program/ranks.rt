@@ -1,6 +1,6 @@
 //! Ranks of fields: those that take part have ranks that differ.
 
-use super::{check_notes, check_refused};
+use educe_vectors_runs::{check_notes, check_refused};
 use std::alloc::Global;
 use std::test::Fail;
 

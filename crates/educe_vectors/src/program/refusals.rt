@@ -1,6 +1,6 @@
 //! The line that says where and why a definition is refused.
 
-use super::check_refused;
+use educe_vectors_runs::check_refused;
 use std::alloc::Global;
 use std::test::Fail;
 
