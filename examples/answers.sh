@@ -4,7 +4,7 @@
 #
 # Usage: examples/answers.sh PROGRAM
 #
-# First the rows with values of five files in crates/educe_vectors/src/examples, which rt ci has the evaluator
+# First the rows with values of five files in crates/educe_vectors_values/src/examples, which rt ci has the evaluator
 # answer: here compiled code answers them. It is each definition without its `educe` attributes, what the built
 # program prints for it, and functions that answer as the rows say. A call that no row names panics. `Ord` and
 # `PartialOrd` ask for other traits, which are added where they are not listed. Rows without an outcome are left
@@ -13,6 +13,8 @@
 #
 # Then the enums of enums.py, on all pairs of a few values: the answers are those that the traits mean, by the
 # discriminants that rustc computes. evaluated.py prints the same enums as rows for the evaluator.
+#
+# Then the definitions of clones.py, on all pairs of a few values: what is made and what is called is what `Clone` means.
 #
 # Where rustc is missing, nothing is done.
 set -eu
@@ -29,10 +31,11 @@ fi
 
 folder=$(mktemp -d)
 trap 'rm -rf "$folder"' EXIT
-tables=../crates/educe_vectors/src/examples
+tables=../crates/educe_vectors_values/src/examples
 status=0
 PYTHONDONTWRITEBYTECODE=1
 export PYTHONDONTWRITEBYTECODE
 python3 answers.py "$program" "$folder" $tables/methods.rt $tables/enum_orders.rt $tables/packed.rt $tables/hashes.rt $tables/defaults.rt || status=1
 python3 pairs.py "$program" "$folder" || status=1
+python3 clones.py "$program" "$folder" || status=1
 exit $status

@@ -2,7 +2,7 @@
 
 Usage: evaluated.py PROGRAM FOLDER > TABLE
 
-The table has the form of crates/educe_vectors/src/examples/enum_orders.rt, so the evaluator can be asked what
+The table has the form of crates/educe_vectors_values/src/examples/enum_orders.rt, so the evaluator can be asked what
 compiled code is asked by pairs.py. Its values are fewer: a variant with fields has two or three.
 """
 
