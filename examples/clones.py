@@ -70,7 +70,7 @@ CLONES = [
     ("a copied struct with a lifetime", "#[educe(Clone, Copy)] struct S<'a>(N, ::core::marker::PhantomData<&'a u8>);", [["copied", "phantom"]]),
     ("a method keeps from copying", f"#[educe(Clone, Copy)] struct S({TWICE} N, N);", [["twice", ""]]),
     ("a parameter keeps from copying", "#[educe(Clone, Copy)] struct S<T>(T, N);", [["", ""]]),
-    ("predicates of `Copy` keep from copying", "#[educe(Clone, Copy(bound(T: ::core::marker::Copy)))] struct S<T>(N, ::core::marker::PhantomData<[T; 0]>);", [["", "phantom"]]),
+    ("predicates of `Copy` keep from copying", "#[educe(Clone, Copy(bound(N: ::core::marker::Copy)))] struct S<'a>(N, ::core::marker::PhantomData<&'a u8>);", [["", "phantom"]]),
     ("a packed struct that is copied", "#[educe(Clone, Copy)] #[repr(packed)] struct S(N, N);", [["copied", "copied"]]),
     ("an enum with a parameter that can be copied", "#[educe(Clone, Copy)] enum E<T> { A(T), B(N) }", [[""], [""]]),
     # Beside other traits.

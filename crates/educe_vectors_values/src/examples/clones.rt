@@ -9,10 +9,7 @@ static STRUCTS: [Example; 9] = [
         "each field is cloned",
         "#[educe(Clone)] struct S { a: u8, b: u16 }",
         Answer::Clones(
-            Told::Clones(&[
-                (Cloner::Clone, 1, None, 11),
-                (Cloner::Clone, 2, None, 12),
-            ]),
+            Told::Clones(&[(Cloner::Clone, 1, None, 11), (Cloner::Clone, 2, None, 12)]),
             &[
                 ((0, &[1, 2]), Outcome::Made(0, &[11, 12])),
                 ((0, &[2, 1]), Outcome::Made(0, &[12, 11])),
@@ -60,10 +57,7 @@ static STRUCTS: [Example; 9] = [
         "a packed struct clones copies",
         "#[educe(Clone)] #[repr(packed)] struct S { a: u8, b: u32 }",
         Answer::Clones(
-            Told::Clones(&[
-                (Cloner::Clone, 1, None, 11),
-                (Cloner::Clone, 2, None, 12),
-            ]),
+            Told::Clones(&[(Cloner::Clone, 1, None, 11), (Cloner::Clone, 2, None, 12)]),
             &[((0, &[1, 2]), Outcome::Made(0, &[11, 12]))],
         ),
     ),
@@ -71,10 +65,7 @@ static STRUCTS: [Example; 9] = [
         "a name behind `r#`",
         "#[educe(Clone)] struct S { r#type: u8, kind: u8 }",
         Answer::Clones(
-            Told::Clones(&[
-                (Cloner::Clone, 1, None, 11),
-                (Cloner::Clone, 2, None, 12),
-            ]),
+            Told::Clones(&[(Cloner::Clone, 1, None, 11), (Cloner::Clone, 2, None, 12)]),
             &[((0, &[1, 2]), Outcome::Made(0, &[11, 12]))],
         ),
     ),
@@ -92,10 +83,7 @@ static COPIES: [Example; 7] = [
     (
         "where `Copy` is listed the value is copied as a whole",
         "#[educe(Copy, Clone)] struct S { a: u8, b: u8 }",
-        Answer::Clones(
-            Told::Nothing,
-            &[((0, &[1, 2]), Outcome::Made(0, &[1, 2]))],
-        ),
+        Answer::Clones(Told::Nothing, &[((0, &[1, 2]), Outcome::Made(0, &[1, 2]))]),
     ),
     (
         "and so is one of an enum",
@@ -152,10 +140,7 @@ static ENUMS: [Example; 5] = [
         "the variant of the value is made",
         "#[educe(Clone)] enum E { A, B(u8, u8), C { x: u8 }, D() }",
         Answer::Clones(
-            Told::Clones(&[
-                (Cloner::Clone, 1, None, 11),
-                (Cloner::Clone, 2, None, 12),
-            ]),
+            Told::Clones(&[(Cloner::Clone, 1, None, 11), (Cloner::Clone, 2, None, 12)]),
             &[
                 ((0, &[]), Outcome::Made(0, &[])),
                 ((1, &[1, 2]), Outcome::Made(1, &[11, 12])),
@@ -191,10 +176,7 @@ static ENUMS: [Example; 5] = [
         "a field whose name begins as the prefix of variables",
         "#[educe(Clone)] enum E { A { _s_: u8, _s_a: u8 } }",
         Answer::Clones(
-            Told::Clones(&[
-                (Cloner::Clone, 1, None, 11),
-                (Cloner::Clone, 2, None, 12),
-            ]),
+            Told::Clones(&[(Cloner::Clone, 1, None, 11), (Cloner::Clone, 2, None, 12)]),
             &[((0, &[1, 2]), Outcome::Made(0, &[11, 12]))],
         ),
     ),
@@ -235,10 +217,7 @@ static SOURCES: [Example; 8] = [
         "the fields of a packed struct become clones of copies",
         "#[educe(Clone)] #[repr(C, packed(2))] struct S { a: u8, b: u32 }",
         Answer::ClonesFrom(
-            Told::Clones(&[
-                (Cloner::Clone, 3, None, 13),
-                (Cloner::Clone, 4, None, 14),
-            ]),
+            Told::Clones(&[(Cloner::Clone, 3, None, 13), (Cloner::Clone, 4, None, 14)]),
             &[((0, &[1, 2]), (0, &[3, 4]), Outcome::Made(0, &[13, 14]))],
         ),
     ),
@@ -269,10 +248,7 @@ static SOURCES: [Example; 8] = [
         "a value of another variant is cloned as a whole",
         "#[educe(Clone)] enum E { A, B(u8), C { x: u8 } }",
         Answer::ClonesFrom(
-            Told::Clones(&[
-                (Cloner::Whole, 0, None, 7),
-                (Cloner::Whole, 2, None, 9),
-            ]),
+            Told::Clones(&[(Cloner::Whole, 0, None, 7), (Cloner::Whole, 2, None, 9)]),
             &[
                 ((1, &[1]), (0, &[]), Outcome::Whole(7)),
                 ((0, &[]), (2, &[1]), Outcome::Whole(9)),
