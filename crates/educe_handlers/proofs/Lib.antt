@@ -14,3 +14,5 @@ pub mod Formed
 pub mod CalledPaths
 pub mod AllTypes
 pub mod SettingLists
+pub mod SettingsAt
+pub mod Growing

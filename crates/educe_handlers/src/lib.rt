@@ -1,7 +1,8 @@
 //! What the handlers of all traits share: the trait that they implement, what they note for each other,
-//! what they read of a definition, and the headers of their impls.
+//! what they read of a definition, bodies of one form, and the headers of their impls.
 #![tactic(auto)]
 
+mod bodies;
 mod built;
 mod calling;
 mod cases;
@@ -24,6 +25,7 @@ mod seen_types;
 mod settings;
 mod task;
 
+pub use bodies::{block_of, body_of, name_of, same_name};
 pub use built::is_built;
 pub use calling::called;
 pub use cases::{CaseSettings, check_places, settings_of_cases};

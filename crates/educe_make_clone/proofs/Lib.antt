@@ -1,0 +1,4 @@
+pub mod KeptLists
+pub mod Matched
+pub mod Bitwise
+pub mod Assigning

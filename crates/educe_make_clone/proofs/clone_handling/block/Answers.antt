@@ -1,0 +1,84 @@
+use Rattle.std.proofs.Common.{◌≡◌, Bool, true, inl, inr, refl, sym, subst}
+use Rattle.educe_tokens.specs.declared.error.EduceError.{EduceError}
+use Rattle.educe_syntax.specs.DeriveInput.{DeriveInput}
+use Rattle.educe_syntax_self.proofs.Lawful.{lawful_definitions}
+use Rattle.educe_attrs.specs.Phases.{OfHandler}
+use Rattle.educe_attrs.specs.Places.{OfPlace}
+use Rattle.educe_bound.specs.declared.traits.Trait.TheVariants.{Clone}
+use Rattle.educe_bound.specs.Traits.{is_listed}
+use Rattle.educe_handlers.specs.SeenTypes.{read_of, touched_of}
+use Rattle.educe_handlers.proofs.Refused.{fields_uncaused, handler_uncaused}
+use Rattle.educe_laws.specs.Blocks.{AreCloneFunctions}
+use Rattle.educe_laws.specs.Handled.{IsFieldwiseCause, OfShape, handling}
+use Rattle.educe_laws.specs.Listed.{listed}
+use Rattle.educe_laws.specs.Rows.{type_row}
+use Rattle.educe_laws.specs.Types.{AreCloneTypes}
+use Rattle.educe_laws.proofs.Refused.{type_refused, shape_refused}
+use Rattle.educe_laws.proofs.Stops.{stop_passed}
+use Rattle.educe_make_clone.specs.Bitwise.{OfCopy}
+use Rattle.educe_make_clone.specs.CloneNames.{names_of}
+use Rattle.educe_make_markers.specs.MarkerChecks.{IsUnbuilt}
+use Rattle.educe_make_markers.proofs.Visiting.{none_unmarked, markers_visit}
+use Rattle.educe_make_clone.proofs.clone_handling.block.Goals as goal
+
+-- what the type says of `Copy` is a cause of `Clone`
+copy_refused : (d : DeriveInput) (e : EduceError) → OfCopy d e → OfHandler (handling d) Clone e
+copy_refused d e (lists, inl in_lists) = type_refused Clone refl d e (inl in_lists)
+copy_refused d e (lists, inr said) = inr (IsFieldwiseCause.by_copy refl lists said.1)
+
+-- so is a marker that is not built
+marker_refused : (d : DeriveInput) (e : EduceError) → IsUnbuilt Clone d e → OfHandler (handling d) Clone e
+marker_refused d e unbuilt = inr (subst (IsFieldwiseCause Clone d) (sym unbuilt.is) (IsFieldwiseCause.by_marker unbuilt.field unbuilt.among unbuilt.cause))
+
+pub returns-in_err-bound-clause-err : goal.returns-in_err-bound-clause-err
+returns-in_err-bound-clause-err c =
+    let ast = c.args.ast.now in
+    stop_passed (OfPlace Clone (type_row Clone) (listed ast) ast.attrs) (OfHandler (handling ast) Clone) (type_refused Clone refl ast)
+    c.from_residual.result c.in_err-bound.field-0.0 c.from_residual.ensures.1 c.in_err-bound.ensures.err
+
+pub returns-in_err-settings-clause-err : goal.returns-in_err-settings-clause-err
+returns-in_err-settings-clause-err c =
+    let ast = c.args.ast.now in
+    stop_passed (OfShape Clone ast ast.shape) (OfHandler (handling ast) Clone) (shape_refused Clone refl ast)
+    c.from_residual-in_err-settings.result c.in_err-settings.field-0.0 c.from_residual-in_err-settings.ensures.1 c.in_err-settings.ensures.err
+
+pub returns-in_err-copies-clause-err : goal.returns-in_err-copies-clause-err
+returns-in_err-copies-clause-err c =
+    let ast = c.args.ast.now in
+    stop_passed (OfCopy ast) (OfHandler (handling ast) Clone) (copy_refused ast)
+    c.from_residual-in_err-copies.result c.in_err-copies.field-0.0 c.from_residual-in_err-copies.ensures.1 c.in_err-copies.ensures.err
+
+pub returns-in_err-check_markers-clause-err : goal.returns-in_err-check_markers-clause-err
+returns-in_err-check_markers-clause-err c =
+    let ast = c.args.ast.now in
+    stop_passed (IsUnbuilt Clone ast) (OfHandler (handling ast) Clone) (marker_refused ast)
+    c.from_residual-in_err-check_markers.result c.in_err-check_markers.field-0.0 c.from_residual-in_err-check_markers.ensures.1 c.in_err-check_markers.ensures.err
+
+pub header_of-requires-clause-types : goal.header_of-requires-clause-types
+header_of-requires-clause-types c =
+    let types = c.functions.new.types in
+    subst (λ (b : Bool). AreCloneTypes b c.args.ast.now (read_of types) (touched_of types)) c.in_ok-copies.ensures.copies c.in_ok-functions.ensures.types
+
+pub clone_items-requires-clause-functions : goal.clone_items-requires-clause-functions
+clone_items-requires-clause-functions c =
+    subst (λ (b : Bool). AreCloneFunctions b c.args.ast.now (names_of c.in_ok-names.names) c.in_ok-functions.functions) c.in_ok-copies.ensures.copies c.in_ok-functions.ensures.are
+
+pub clone_items-requires-clause-named : goal.clone_items-requires-clause-named
+clone_items-requires-clause-named c = lawful_definitions.named c.args.ast.now.tokens c.args.ast.now c.requires.is_read.whole
+
+pub clone_items-requires-clause-marks : goal.clone_items-requires-clause-marks
+clone_items-requires-clause-marks c =
+    let ast = c.args.ast.now in
+    markers_visit Clone ast c.in_ok-check_markers.ensures.uncaused c.requires.is_read (fields_uncaused Clone ast c.in_ok-settings.ensures.uncaused)
+
+pub returns-clause-read : goal.returns-clause-read
+returns-clause-read c = fields_uncaused Clone c.args.ast.now c.in_ok-settings.ensures.uncaused
+
+pub returns-clause-uncaused : goal.returns-clause-uncaused
+returns-clause-uncaused c =
+    let ast = c.args.ast.now in
+    let is_one : is_listed (listed ast) Clone ≡ true = rw (← c.requires.traits_are) c.requires.lists in
+    handler_uncaused Clone ast c.in_ok-settings.ensures.uncaused c.in_ok-bound.ensures.uncaused (record {
+      copy = λ e clones lists said. (c.in_ok-copies.ensures.uncaused lists).none_stands e (inr (lists, said));
+      marked = none_unmarked Clone ast c.in_ok-check_markers.ensures.uncaused;
+    }) refl is_one

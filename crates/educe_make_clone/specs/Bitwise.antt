@@ -1,0 +1,41 @@
+-- What decides whether `clone` copies values as a whole.
+use Rattle.std.specs.Prelude.{◌≡◌, Bool, true, not, ◌||◌, List}
+use Rattle.std.specs.List.{list_all}
+use Rattle.educe_tokens.specs.declared.error.EduceError.{EduceError}
+use Rattle.educe_syntax.specs.DeriveInput.{DeriveInput}
+use Rattle.educe_syntax.specs.Field.{Field}
+use Rattle.educe_syntax.specs.GenericParam.{GenericParam}
+use Rattle.educe_syntax.specs.Shape.{Shape}
+use Rattle.educe_syntax.specs.Shape.TheVariants.{Struct, Enum}
+use Rattle.educe_bound_classes.specs.Questions.{uses_params}
+use Rattle.educe_attrs.specs.Causes.{NoCause}
+use Rattle.educe_attrs.specs.Places.{OfPlace}
+use Rattle.educe_bound.specs.declared.bound.Bound.{Bound}
+use Rattle.educe_bound.specs.declared.traits.Trait.TheVariants as trait
+use Rattle.educe_bound.specs.Traits.{is_listed}
+use Rattle.educe_laws.specs.Cases.{fields_in}
+use Rattle.educe_laws.specs.Copying.{is_empty, has_predicates}
+use Rattle.educe_laws.specs.Listed.{listed}
+use Rattle.educe_laws.specs.Rows.{type_row}
+
+-- the type of the field names none of the type and const parameters
+abbrev pub is_closed : List GenericParam → Field → Bool
+is_closed params field = not (uses_params params field.ty)
+
+-- so it is with the types of all fields
+abbrev pub is_closed_shape : List GenericParam → Shape → Bool
+is_closed_shape params (Struct shape) = list_all (is_closed params) shape.fields
+is_closed_shape params (Enum variants) = list_all (λ v. list_all (is_closed params) (fields_in v)) variants
+
+-- the definition has no generic parameter, or the bound lists no predicate
+abbrev pub is_unbounded : DeriveInput → Bound → Bool
+is_unbounded definition bound = is_empty definition.generics.params || not (has_predicates bound)
+
+-- where `Copy` is listed, nothing that the type says of it is wrong
+abbrev pub IsCopyUncaused : DeriveInput → Type 0
+IsCopyUncaused definition =
+    is_listed (listed definition) trait.Copy ≡ true → NoCause (OfPlace trait.Copy (type_row trait.Copy) (listed definition) definition.attrs)
+
+-- it is listed, and something is
+abbrev pub OfCopy : DeriveInput → EduceError → Type 0
+OfCopy definition e = (is_listed (listed definition) trait.Copy ≡ true) × OfPlace trait.Copy (type_row trait.Copy) (listed definition) definition.attrs e

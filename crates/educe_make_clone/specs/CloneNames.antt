@@ -1,0 +1,13 @@
+-- The names that the block of `Clone` declares, as texts.
+use Rattle.educe_make_clone.specs.declared.clone_names.CloneNames.{CloneNames}
+use Rattle.educe_laws.specs.CloneBodies as laws
+
+-- the texts of the names, and the prefixes
+abbrev pub names_of : CloneNames → laws.CloneNames
+names_of names = record {
+  source = names.source.text;
+  function = names.marker.function.text;
+  value = names.marker.value.text;
+  sources = names.sources;
+  own = names.own;
+}

@@ -1,0 +1,17 @@
+//! The handlers of `Clone` and `Copy`.
+#![tactic(auto)]
+
+mod clone;
+mod clone_body;
+mod clone_cases;
+mod clone_copying;
+mod clone_from_body;
+mod clone_handling;
+mod clone_names;
+mod clone_paths;
+mod copy;
+mod copy_handling;
+
+pub use clone::{CloneEnumHandler, CloneHandler, CloneStructHandler};
+pub use clone_copying::can_use_bitwise_copy;
+pub use copy::{CopyEnumHandler, CopyHandler, CopyStructHandler};

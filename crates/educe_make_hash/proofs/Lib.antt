@@ -1,0 +1,2 @@
+-- The arms of enums.
+pub mod ArmLists

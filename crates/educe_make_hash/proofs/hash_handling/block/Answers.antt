@@ -1,0 +1,52 @@
+use Rattle.std.proofs.Common.{◌≡◌, true, refl}
+use Rattle.std.specs.Prelude.{codes}
+use Rattle.educe_attrs.specs.Phases.{OfHandler}
+use Rattle.educe_attrs.specs.Places.{OfPlace}
+use Rattle.educe_bound.specs.Traits.{is_listed}
+use Rattle.educe_bound.specs.declared.traits.Trait.TheVariants.{Hash}
+use Rattle.educe_handlers.proofs.Formed.{function_with, impl_with}
+use Rattle.educe_handlers.proofs.Refused.{other_clear, fields_uncaused, handler_uncaused}
+use Rattle.educe_handlers.proofs.Visited.{sees_all}
+use Rattle.educe_laws.specs.Blocks.{IsFunction}
+use Rattle.educe_laws.specs.Handled.{OfShape, handling}
+use Rattle.educe_laws.specs.HashBodies.{IsHashBody}
+use Rattle.educe_laws.specs.Listed.{listed}
+use Rattle.educe_laws.specs.Rows.{type_row}
+use Rattle.educe_laws.proofs.Refused.{type_refused, shape_refused}
+use Rattle.educe_laws.proofs.Stops.{stop_passed}
+use Rattle.educe_make_hash.proofs.hash_handling.block.Goals as goal
+
+pub returns-in_err-bound-clause-err : goal.returns-in_err-bound-clause-err
+returns-in_err-bound-clause-err c =
+    let ast = c.args.ast.now in
+    stop_passed (OfPlace Hash (type_row Hash) (listed ast) ast.attrs) (OfHandler (handling ast) Hash) (type_refused Hash refl ast)
+    c.from_residual.result c.in_err-bound.field-0.0 c.from_residual.ensures.1 c.in_err-bound.ensures.err
+
+pub returns-in_err-body-clause-err : goal.returns-in_err-body-clause-err
+returns-in_err-body-clause-err c =
+    let ast = c.args.ast.now in
+    stop_passed (OfShape Hash ast ast.shape) (OfHandler (handling ast) Hash) (shape_refused Hash refl ast)
+    c.from_residual-in_err-body.result c.in_err-body.field-0.0 c.from_residual-in_err-body.ensures.1 c.in_err-body.ensures.err
+
+pub header_of-requires-clause-types : goal.header_of-requires-clause-types
+header_of-requires-clause-types c =
+    sees_all Hash c.args.ast.now c.no_types-types.result c.body.new.types c.no_types-types.ensures.read c.no_types-types.ensures.touched c.in_ok-body.ensures.types
+
+pub returns-clause-ok : goal.returns-clause-ok
+returns-clause-ok c =
+    let ast = c.args.ast.now in
+    record {
+      item = c.in_ok-item.item;
+      are = refl;
+      impl_is = impl_with Hash ast (IsFunction (codes "hash") (IsHashBody ast)) _ _ c.in_ok-item.ensures
+          (function_with (codes "hash") (IsHashBody ast) _ _ c.in_ok-functions.ensures c.in_ok-body.ensures.ok);
+    }
+
+pub returns-clause-read : goal.returns-clause-read
+returns-clause-read c = fields_uncaused Hash c.args.ast.now c.in_ok-body.ensures.uncaused
+
+pub returns-clause-uncaused : goal.returns-clause-uncaused
+returns-clause-uncaused c =
+    let ast = c.args.ast.now in
+    let is_one : is_listed (listed ast) Hash ≡ true = rw (← c.requires.traits_are) c.requires.lists in
+    handler_uncaused Hash ast c.in_ok-body.ensures.uncaused c.in_ok-bound.ensures.uncaused (other_clear Hash ast refl) refl is_one

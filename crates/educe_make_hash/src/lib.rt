@@ -1,0 +1,10 @@
+//! The handler of `Hash`.
+#![tactic(auto)]
+
+mod hash;
+mod hash_cases;
+mod hash_handling;
+mod hash_names;
+mod hash_steps;
+
+pub use hash::{HashEnumHandler, HashHandler, HashStructHandler};

@@ -1,0 +1,6 @@
+pub mod OwnMethods
+pub mod Visiting
+pub mod Variants
+pub mod Marking
+pub mod UnmarkedCases
+pub mod Unbuilt

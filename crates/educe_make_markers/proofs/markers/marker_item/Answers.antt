@@ -1,0 +1,14 @@
+use Rattle.std.proofs.Common.{refl}
+use Rattle.educe_make_markers.proofs.markers.marker_item.Goals as goal
+
+pub returns : goal.returns
+returns c = record {
+  which_is = refl;
+  attributes_are = c.in_ok-lint_attributes.ensures;
+  head = c.args.marking.now.replace.now.head;
+  head_is = c.requires.can;
+  generics_are = c.in_ok-visit_generics.ensures.replaced;
+  ty_is = c.in_ok-visit_type.ensures.tokens;
+  method_is = c.in_ok-visit_path.ensures.tokens;
+  names_are = c.in_ok-marker_names.ensures;
+}

@@ -1,0 +1,9 @@
+use Rattle.std.proofs.Common.{◌∙◌, ◌∷◌, [], ap}
+use Rattle.educe_handlers.proofs.Lists.{two_pushed}
+use Rattle.educe_laws.specs.Checks.{texts_of}
+use Rattle.educe_make_markers.proofs.markers.marker_names.Goals as goal
+
+pub returns : goal.returns
+returns c =
+    ap texts_of (two_pushed _ _ _ _ _ c.new-found.ensures c.in_ok-push.ensures.ok c.in_ok-push-2.ensures.ok)
+    ∙ (λ i. c.new.ensures i ∷ c.new-2.ensures i ∷ []) ∙ (λ i. c.in_ok-duplicate.ensures i ∷ c.in_ok-duplicate-2.ensures i ∷ [])

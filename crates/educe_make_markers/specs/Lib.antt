@@ -1,0 +1,5 @@
+-- Which fields have methods.
+pub mod Methods
+-- The markers of fields with methods.
+pub mod MarkerChecks
+pub mod Marking
