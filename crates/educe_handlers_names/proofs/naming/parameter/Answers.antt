@@ -9,7 +9,7 @@ use Rattle.educe_body.specs.Held.{AreWordsOf}
 use Rattle.educe_body.specs.NameLaws.{lawful_names}
 use Rattle.educe_body.specs.Words.{HasWord}
 use Rattle.educe_laws.specs.Blocks.{IsParameter}
-use Rattle.educe_handlers.proofs.naming.parameter.Goals as goal
+use Rattle.educe_handlers_names.proofs.naming.parameter.Goals as goal
 
 -- a name that is chosen apart from the words of the definition is that of the parameter
 chosen_is : (d : DeriveInput) (words : List (List ℕ)) (plain name : List ℕ) → AreWordsOf d.tokens words → IsChosen words plain name → IsParameter d plain name

@@ -1,7 +1,7 @@
-use Rattle.educe_handlers.proofs.Inherited.{inherited_more}
+use Rattle.educe_handlers_bounds.proofs.Inherited.{inherited_more}
 use Rattle.educe_bound_classes.specs.Deriving.{Extends}
 use Rattle.educe_bound.specs.Predicates.{keys_of}
-use Rattle.educe_handlers.proofs.context.TraitHandlerContext.inherit_from.Goals as goal
+use Rattle.educe_handlers_bounds.proofs.context.TraitHandlerContext.inherit_from.Goals as goal
 
 pub loop-which-init : goal.loop-which-init
 loop-which-init c = Extends.done (keys_of c.args.own.now)

@@ -5,7 +5,7 @@ use Rattle.educe_tokens.proofs.Quoting.{ascii_name_is}
 use Rattle.educe_tokens.specs.Spells.{IsWord}
 use Rattle.educe_body.specs.Chosen.{IsPrefix}
 use Rattle.educe_body.specs.NameLaws.{ascii_is_word}
-use Rattle.educe_handlers.proofs.naming.select_prefix.Goals as goal
+use Rattle.educe_handlers_names.proofs.naming.select_prefix.Goals as goal
 
 pub returns-clause-chosen : goal.returns-clause-chosen
 returns-clause-chosen c =

@@ -4,7 +4,7 @@ use Rattle.educe_tokens.proofs.Quoting.{ascii_name_is}
 use Rattle.educe_syntax.specs.Ident.{Ident}
 use Rattle.educe_body.specs.Chosen.{IsChosen}
 use Rattle.educe_body.specs.NameLaws.{ascii_is_word}
-use Rattle.educe_handlers.proofs.naming.select.Goals as goal
+use Rattle.educe_handlers_names.proofs.naming.select.Goals as goal
 
 pub select-requires : goal.select-requires
 select-requires c = ascii_is_word c.args.name.now c.requires

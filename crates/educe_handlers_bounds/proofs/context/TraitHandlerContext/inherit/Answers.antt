@@ -5,8 +5,8 @@ use Rattle.educe_bound_classes.specs.Deriving.{Extends}
 use Rattle.educe_bound.specs.Predicates.{keys_of}
 use Rattle.educe_laws.specs.Handlers.{noted_of}
 use Rattle.educe_syntax.specs.WherePredicate.{WherePredicate}
-use Rattle.educe_handlers.proofs.Inherited.{noted_passed, noted_found}
-use Rattle.educe_handlers.proofs.context.TraitHandlerContext.inherit.Goals as goal
+use Rattle.educe_handlers_bounds.proofs.Inherited.{noted_passed, noted_found}
+use Rattle.educe_handlers_bounds.proofs.context.TraitHandlerContext.inherit.Goals as goal
 
 pub returns-then-is_of : goal.returns-then-is_of
 returns-then-is_of c =
