@@ -8,7 +8,7 @@ use Rattle.educe_body.specs.declared.comparison.Comparison.{Comparison}
 use Rattle.educe_body.specs.declared.comparison.Comparison.TheVariants.{PartialEq, PartialOrd, Ord}
 use Rattle.educe_body.specs.declared.body.Item.{Item}
 use Rattle.educe_syntax.specs.Ty.{Ty}
-use Rattle.educe_cmp.specs.Laws.{lawful_comparisons}
+use Rattle.educe_cmp_keys.specs.Laws.{lawful_comparisons}
 use Rattle.educe_laws.specs.Blocks.{IsBlock, IsComparisonBlock}
 use Rattle.educe_laws.specs.Comparisons.{trait_of}
 use Rattle.educe_laws.specs.Handlers.{AddsBlock, AddsMeaning}

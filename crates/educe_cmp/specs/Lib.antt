@@ -1,6 +1,3 @@
--- The names that functions declare.
-pub mod Names
--- The impl of `Eq`.
-pub mod EqTypes
 -- The laws of comparisons and of `Eq` as terms.
-pub mod Laws
+pub use Rattle.educe_cmp_keys.specs.Laws
+pub use Rattle.educe_cmp_eq.specs.Laws as EqLaws

@@ -17,12 +17,12 @@ ghost use Rattle.educe_laws.specs.Headers.{AreCopied, AreOf};
 ghost use Rattle.educe_laws.specs.Listed as listing;
 ghost use Rattle.educe_laws.specs.Rows.{field_row};
 
-use crate::cases::{enum_case, struct_case};
-use crate::comparison::trait_of;
 use crate::items::comparison_item;
 use educe_attrs::Stop;
 use educe_body::{Body, Comparison, Item, Items};
 use educe_bound::Trait;
+use educe_cmp_bodies::{enum_case, struct_case};
+use educe_cmp_steps::trait_of;
 use educe_handlers::{
     Header, SeenTypes, Task, TraitHandlerContext, bound_of_type, header_of, is_copied, no_types,
 };

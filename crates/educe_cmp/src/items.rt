@@ -4,8 +4,8 @@ ghost use Rattle.educe_laws.specs.Blocks as spec;
 ghost use Rattle.educe_laws.specs.Comparisons as comparisons;
 ghost use Rattle.educe_laws.specs.Headers.{IsHeader};
 
-use crate::comparison::trait_of;
 use educe_body::{Body, Comparison, Functions, Item};
+use educe_cmp_steps::trait_of;
 use educe_handlers::{function, impl_item};
 use educe_syntax::{DeriveInput, Generics};
 use std::alloc::{AllocError, Global};

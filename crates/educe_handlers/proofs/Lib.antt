@@ -7,7 +7,6 @@ pub mod Earliest
 pub mod Repeats
 pub mod PatternFields
 pub mod Refused
-pub mod Inherited
 pub mod Visited
 pub mod Headed
 pub mod Formed

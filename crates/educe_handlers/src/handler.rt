@@ -9,10 +9,10 @@ ghost use Rattle.educe_attrs.specs.Phases.{OfHandler};
 ghost use Rattle.educe_laws.specs.Handled.{handling};
 ghost use Rattle.educe_laws.specs.Handlers.{IsReady, AddsBlock, AddsMeaning, AreNoted, traits_through};
 
-use crate::context::TraitHandlerContext;
 use educe_attrs::Stop;
 use educe_body::Items;
 use educe_bound::Trait;
+use educe_handlers_bounds::TraitHandlerContext;
 use educe_syntax::DeriveInput;
 use std::alloc::Global;
 

@@ -1,5 +1,5 @@
 //! The headers of impls: their generic parameters and where clauses.
-ghost use Rattle.std.specs.Prelude.{◌≡◌, ◌++◌, ◌&&◌, IfOk, IfErr, OnOk};
+ghost use Rattle.std.specs.Prelude.{◌≡◌, ◌++◌, ◌&&◌, IfOk, IfErr};
 ghost use Rattle.educe_attrs.specs.Causes.{NoCause, OfStop};
 ghost use Rattle.educe_attrs.specs.Places.{OfPlace};
 ghost use Rattle.educe_bound.specs.Predicates.{keys_of, exceptions_of, AreByBound, lifetimes_first};
@@ -12,16 +12,15 @@ ghost use Rattle.educe_laws.specs.Rows as rows;
 ghost use Rattle.educe_laws.specs.Settings as settings;
 ghost use Rattle.educe_laws.specs.Types.{AreTypes};
 
-use crate::context::TraitHandlerContext;
-use crate::prerequisites::prerequisites;
 use crate::rows::reads_fields;
 use crate::said::type_values;
 use crate::seen_types::SeenTypes;
 use crate::task::Task;
-use educe_attrs::{Stop, Values, WherePredicatesOrBool, is_packed};
+use educe_attrs::{Stop, Values, is_packed};
 use educe_bound::{
     Bound, Trait, exceptions_of, extend_where_predicates, lifetimes_first, with_predicates,
 };
+use educe_handlers_bounds::{TraitHandlerContext, bound_said, inherit};
 use educe_syntax::{DeriveInput, Generics, Predicates, Shape};
 use educe_tokens::Seq;
 use std::alloc::{AllocError, Global};
@@ -31,16 +30,6 @@ use std::alloc::{AllocError, Global};
 pub struct Header {
     pub generics: Generics,
     pub added: Predicates,
-}
-
-/// The bound that is said; where none is, the automatic one (documentation of `educe`, Bounds).
-pub fn bound_said(said: Option<WherePredicatesOrBool>) -> Bound
-    ensures { result ≡ settings.bound_said said }
-{
-    match said {
-        Some(value) => Bound::from_value(value),
-        None => Bound::Auto,
-    }
 }
 
 /// The bound that the type says for a trait. It is refused exactly where an attribute of the type is
@@ -108,24 +97,6 @@ fn copy_predicates(
         bound.packed_copy_predicates(alloc, &ast.generics.params, &types.read, &ast.ident)
     } else {
         Ok(Seq::new(alloc))
-    }
-}
-
-/// Adds the predicates that an impl inherits, under the automatic bound alone.
-fn inherit(
-    alloc: Global,
-    which: Trait,
-    bound: &Bound,
-    ctx: &TraitHandlerContext,
-    own: &mut Predicates,
-) -> Result<(), AllocError>
-    ensures { OnOk result (spec.Inherits bound.now (keys_of own.old) (inherited_from ctx.now (spec.prerequisites which)) (keys_of own.new)) }
-{
-    match bound {
-        Bound::Disabled => Ok(()),
-        Bound::Auto => ctx.inherit_from(alloc, prerequisites(which), own),
-        Bound::All => Ok(()),
-        Bound::Custom(_) => Ok(()),
     }
 }
 

@@ -1,9 +1,9 @@
 //! The parts of a handler, by the shape of the definition.
-use crate::context::TraitHandlerContext;
 use crate::handler::TraitHandler;
 use educe_attrs::Stop;
 use educe_body::Items;
 use educe_bound::Trait;
+use educe_handlers_bounds::TraitHandlerContext;
 use educe_syntax::DeriveInput;
 use std::alloc::Global;
 use std::marker::PhantomData;

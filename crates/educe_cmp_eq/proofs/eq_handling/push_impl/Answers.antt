@@ -1,0 +1,11 @@
+use Rattle.educe_bound.specs.declared.traits.Trait.TheVariants.{Eq}
+use Rattle.educe_handlers.proofs.Formed.{impl_with}
+use Rattle.educe_laws.specs.Blocks.{AreNone}
+use Rattle.educe_cmp_eq.proofs.eq_handling.push_impl.Goals as goal
+
+pub returns : goal.returns
+returns c = record {
+  item = c.in_ok-item.item;
+  is = c.in_ok-push.ensures.ok;
+  impl_is = impl_with Eq c.args.ast.now AreNone c.new.result c.in_ok-item.item c.in_ok-item.ensures c.new.ensures;
+}

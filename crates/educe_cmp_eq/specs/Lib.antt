@@ -1,0 +1,4 @@
+-- The impl of `Eq`.
+pub mod EqTypes
+-- The laws of `Eq` as terms.
+pub mod Laws

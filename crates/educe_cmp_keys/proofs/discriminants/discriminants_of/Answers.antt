@@ -1,0 +1,18 @@
+use Rattle.std.proofs.Common.{None, subst}
+use Rattle.std.specs.List.{AllZip}
+use Rattle.educe_laws.specs.Arms.{IsConstant}
+use Rattle.educe_laws.specs.Discriminants.{counted_from}
+use Rattle.educe_cmp_keys.specs.Laws.{lawful_comparisons}
+use Rattle.educe_cmp_keys.proofs.discriminants.discriminants_of.Goals as goal
+
+pub returns-clause-constants : goal.returns-clause-constants
+returns-clause-constants c = record {
+  base = c.in_ok-names.names.base.text;
+  each =
+      subst (λ variants. AllZip (IsConstant c.in_ok-ty.ty c.in_ok-names.names.base.text) (counted_from None 0 variants) c.in_ok-constants.constants)
+      c.variants_of.ensures c.in_ok-constants.ensures;
+}
+
+pub returns-clause-numbers : goal.returns-clause-numbers
+returns-clause-numbers c = λ table numbers have.
+    lawful_comparisons.constants table c.args.ast.now c.in_ok-ty.ty numbers c.in_ok-constants.constants have c.in_ok-ty.ensures.found (returns-clause-constants c)

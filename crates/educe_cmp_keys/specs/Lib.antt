@@ -1,0 +1,4 @@
+-- The names that functions declare.
+pub mod Names
+-- The laws of comparisons as terms.
+pub mod Laws

@@ -1,0 +1,42 @@
+//! The traits whose predicates an impl inherits.
+ghost use Rattle.std.specs.Prelude.{◌≡◌, OnOk};
+ghost use Rattle.educe_bound.specs.Predicates.{keys_of};
+ghost use Rattle.educe_laws.specs.Handlers.{inherited_from};
+ghost use Rattle.educe_laws.specs.Headers as spec;
+
+use crate::context::TraitHandlerContext;
+use educe_bound::{Bound, Trait};
+use educe_syntax::Predicates;
+use std::alloc::{AllocError, Global};
+
+/// The traits whose added predicates the impl of a trait inherits, where they are listed
+/// (documentation of `educe`, Bounds).
+fn prerequisites(which: Trait) -> &'static [Trait]
+    ensures { result.now ≡ spec.prerequisites which }
+{
+    match which {
+        Trait::Copy => &[Trait::Clone],
+        Trait::Eq => &[Trait::PartialEq],
+        Trait::PartialOrd => &[Trait::PartialEq],
+        Trait::Ord => &[Trait::Eq, Trait::PartialOrd],
+        _ => &[],
+    }
+}
+
+/// Adds the predicates that an impl inherits, under the automatic bound alone.
+pub fn inherit(
+    alloc: Global,
+    which: Trait,
+    bound: &Bound,
+    ctx: &TraitHandlerContext,
+    own: &mut Predicates,
+) -> Result<(), AllocError>
+    ensures { OnOk result (spec.Inherits bound.now (keys_of own.old) (inherited_from ctx.now (spec.prerequisites which)) (keys_of own.new)) }
+{
+    match bound {
+        Bound::Disabled => Ok(()),
+        Bound::Auto => ctx.inherit_from(alloc, prerequisites(which), own),
+        Bound::All => Ok(()),
+        Bound::Custom(_) => Ok(()),
+    }
+}
