@@ -1,7 +1,7 @@
 -- The laws of attributes as terms, which proofs cite with no call.
 use Rattle.std.specs.Prelude.{List, Contains}
 use Rattle.educe_tokens.specs.declared.error.EduceError.{EduceError}
-use Rattle.educe_bound.specs.declared.traits.Trait.{Trait}
+use Rattle.educe_bound_traits.specs.declared.traits.Trait.{Trait}
 use Rattle.educe_attrs_places.specs.Causes.{NoCause}
 use Rattle.educe_attrs_places.specs.Phases.{Handling, OfHandler, OfLast}
 use Rattle.educe_attrs_places.specs.Reports.{ReportLaws}

@@ -44,7 +44,7 @@ pub use Rattle.educe_attrs_generated.specs.Represented
 pub use Rattle.educe_attrs_generated.specs.Packed
 pub use Rattle.educe_attrs_generated.specs.Adjusted
 -- The types that clauses name.
-pub use Rattle.educe_bound.specs.declared.traits.Trait
+pub use Rattle.educe_bound_traits.specs.declared.traits.Trait
 pub use Rattle.educe_bound.specs.declared.bound.Bound
 pub use Rattle.educe_attrs_values.specs.declared.choices.IdentOrBool
 pub use Rattle.educe_attrs_values.specs.declared.choices.WherePredicatesOrBool

@@ -1,6 +1,6 @@
 //! What each builder does: it reads by the row of its switches.
 ghost use Rattle.std.specs.Prelude.{◌≡◌, IfOk, IfErr};
-ghost use Rattle.educe_bound.specs.declared.traits.Trait.{Trait};
+ghost use Rattle.educe_bound_traits.specs.declared.traits.Trait.{Trait};
 ghost use Rattle.educe_attrs_rows.specs.declared.row.Row.{Row};
 ghost use Rattle.educe_attrs_values.specs.Metas.{IsNamed};
 ghost use Rattle.educe_attrs_places.specs.declared.place.FieldSettings.{FieldSettings};

@@ -22,7 +22,6 @@ pub struct TypeAttributeBuilder {
 }
 
 impl AttributeBuilder for TypeAttributeBuilder {
-    ghost use Rattle.educe_bound.specs.declared.traits.Trait.TheVariants.{Clone};
     ghost use Rattle.educe_attrs.specs.Bounds.{bound_row, IsBound};
 
     type Attribute = TypeAttribute;
@@ -77,7 +76,7 @@ pub struct FieldAttributeBuilder {
 }
 
 impl AttributeBuilder for FieldAttributeBuilder {
-    ghost use Rattle.educe_bound.specs.declared.traits.Trait.TheVariants.{Clone};
+    ghost use Rattle.educe_bound_traits.specs.declared.traits.Trait.TheVariants.{Clone};
     ghost use Rattle.educe_attrs.specs.Cloned.{clone_row, IsCloned};
 
     type Attribute = FieldAttribute;

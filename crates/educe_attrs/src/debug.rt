@@ -109,7 +109,6 @@ pub struct TypeAttributeBuilder {
 }
 
 impl AttributeBuilder for TypeAttributeBuilder {
-    ghost use Rattle.educe_bound.specs.declared.traits.Trait.TheVariants.{Debug};
     ghost use Rattle.educe_attrs.specs.Debug.{type_row, IsTyped};
 
     type Attribute = TypeAttribute;
@@ -207,7 +206,7 @@ fn field_equals(enable_name: bool, enable_ignore: bool) -> Equals
 }
 
 impl AttributeBuilder for FieldAttributeBuilder {
-    ghost use Rattle.educe_bound.specs.declared.traits.Trait.TheVariants.{Debug};
+    ghost use Rattle.educe_bound_traits.specs.declared.traits.Trait.TheVariants.{Debug};
     ghost use Rattle.educe_attrs.specs.Debug.{field_row, IsField};
 
     type Attribute = FieldAttribute;

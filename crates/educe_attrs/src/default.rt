@@ -1,7 +1,7 @@
 //! The settings of `Default`.
 ghost use Rattle.std.specs.Prelude.{◌≡◌, IfOk, IfErr};
 ghost use Rattle.std.specs.Option.{option_copied};
-ghost use Rattle.educe_bound.specs.declared.traits.Trait.TheVariants as derived;
+ghost use Rattle.educe_bound_traits.specs.declared.traits.Trait.TheVariants as derived;
 ghost use Rattle.educe_tokens.specs.Refusals.{placeless};
 ghost use Rattle.educe_tokens.specs.declared.error.Kind.TheVariants.{Alloc};
 ghost use Rattle.educe_attrs_values.specs.Metas.{IsNamed};
@@ -59,7 +59,7 @@ fn adjusted(
 }
 
 impl AttributeBuilder for TypeAttributeBuilder {
-    ghost use Rattle.educe_bound.specs.declared.traits.Trait.TheVariants.{Default};
+    ghost use Rattle.educe_bound_traits.specs.declared.traits.Trait.TheVariants.{Default};
     ghost use Rattle.educe_attrs.specs.Default.{type_row, IsTyped};
 
     type Attribute = TypeAttribute;

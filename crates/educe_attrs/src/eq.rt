@@ -25,7 +25,6 @@ pub struct TypeAttributeBuilder {
 }
 
 impl AttributeBuilder for TypeAttributeBuilder {
-    ghost use Rattle.educe_bound.specs.declared.traits.Trait.TheVariants.{Eq};
     ghost use Rattle.educe_attrs.specs.Bounds.{bound_row, IsBound};
 
     type Attribute = TypeAttribute;
@@ -72,7 +71,7 @@ impl TypeAttributeBuilder {
 pub struct FieldAttributeBuilder;
 
 impl AttributeBuilder for FieldAttributeBuilder {
-    ghost use Rattle.educe_bound.specs.declared.traits.Trait.TheVariants.{Eq};
+    ghost use Rattle.educe_bound_traits.specs.declared.traits.Trait.TheVariants.{Eq};
     ghost use Rattle.educe_attrs.specs.NoField.{no_row, IsOfNothing};
 
     type Attribute = FieldAttribute;

@@ -25,7 +25,6 @@ pub struct TypeAttributeBuilder {
 }
 
 impl AttributeBuilder for TypeAttributeBuilder {
-    ghost use Rattle.educe_bound.specs.declared.traits.Trait.TheVariants.{PartialEq};
     ghost use Rattle.educe_attrs.specs.Bounds.{bound_row, IsBound};
 
     type Attribute = TypeAttribute;
@@ -75,7 +74,7 @@ pub struct FieldAttributeBuilder {
 }
 
 impl AttributeBuilder for FieldAttributeBuilder {
-    ghost use Rattle.educe_bound.specs.declared.traits.Trait.TheVariants.{PartialEq};
+    ghost use Rattle.educe_bound_traits.specs.declared.traits.Trait.TheVariants.{PartialEq};
     ghost use Rattle.std.specs.Prelude.{false};
     ghost use Rattle.educe_attrs.specs.Compared.{compared_row, IsCompared};
 

@@ -24,7 +24,6 @@ pub struct TypeAttributeBuilder {
 }
 
 impl AttributeBuilder for TypeAttributeBuilder {
-    ghost use Rattle.educe_bound.specs.declared.traits.Trait.TheVariants.{PartialOrd};
     ghost use Rattle.educe_attrs.specs.Bounds.{bound_row, IsBound};
 
     type Attribute = TypeAttribute;
@@ -89,7 +88,7 @@ pub struct FieldAttributeBuilder {
 }
 
 impl AttributeBuilder for FieldAttributeBuilder {
-    ghost use Rattle.educe_bound.specs.declared.traits.Trait.TheVariants.{PartialOrd};
+    ghost use Rattle.educe_bound_traits.specs.declared.traits.Trait.TheVariants.{PartialOrd};
     ghost use Rattle.educe_attrs.specs.Compared.{compared_row};
     ghost use Rattle.educe_attrs.specs.PartialOrdered.{IsOrdered};
 

@@ -6,7 +6,7 @@ use Rattle.educe_syntax.specs.Laws.{lawful_metas}
 use Rattle.educe_syntax.specs.Meta.{Meta}
 use Rattle.educe_syntax.specs.Meta.TheVariants as said
 use Rattle.educe_attrs_values.specs.Sources.{inside}
-use Rattle.educe_attrs_values.specs.Words.{is_one_word}
+use Rattle.educe_bound_traits.specs.OneWord.{is_one_word}
 use Rattle.educe_attrs_generated.specs.Represented.{HoldsMetas, HoldsIf, Represents, AreHeld}
 
 -- a bracket pair holds one list

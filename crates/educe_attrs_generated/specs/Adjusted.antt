@@ -13,7 +13,7 @@ use Rattle.educe_syntax.specs.Expr.{Expr}
 use Rattle.educe_syntax.specs.ExprForm.TheVariants.{Other}
 use Rattle.educe_syntax.specs.Ty.{Ty}
 use Rattle.educe_attrs_generated.specs.Types.{is_primitive, is_integer, is_text, is_bytes}
-use Rattle.educe_attrs_values.specs.Words.{is_word}
+use Rattle.educe_bound_traits.specs.OneWord.{is_word}
 
 -- ---- one literal or truth value
 

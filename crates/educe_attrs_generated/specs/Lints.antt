@@ -12,7 +12,7 @@ use Rattle.educe_syntax.specs.Meta.{Meta}
 use Rattle.educe_syntax.specs.Meta.TheVariants as said
 use Rattle.educe_syntax.specs.MetaPath.{MetaPath}
 use Rattle.educe_attrs_values.specs.Sources.{inside}
-use Rattle.educe_attrs_values.specs.Words.{is_one_word}
+use Rattle.educe_bound_traits.specs.OneWord.{is_one_word}
 
 -- ---- one attribute
 

@@ -5,7 +5,7 @@ use Rattle.educe_syntax.specs.Attribute.{Attribute}
 use Rattle.educe_syntax.specs.Meta.{Meta}
 use Rattle.educe_syntax.specs.Meta.TheVariants as said
 use Rattle.educe_syntax.specs.MetaPath.{MetaPath}
-use Rattle.educe_attrs_values.specs.Words.{is_one_word}
+use Rattle.educe_bound_traits.specs.OneWord.{is_one_word}
 use Rattle.educe_attrs_generated.specs.Represented.{AreHeld}
 
 -- the path is `packed`

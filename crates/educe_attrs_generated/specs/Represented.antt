@@ -12,7 +12,7 @@ use Rattle.educe_syntax.specs.Parsed.{IsWhole}
 use Rattle.educe_syntax.specs.Terminal.TheVariants.{AnyWord}
 use Rattle.educe_syntax.specs.Terminals.{accepts}
 use Rattle.educe_attrs_values.specs.Sources.{inside}
-use Rattle.educe_attrs_values.specs.Words.{is_one_word}
+use Rattle.educe_bound_traits.specs.OneWord.{is_one_word}
 use Rattle.educe_discriminants.specs.declared.discriminant_type.DiscriminantType.{DiscriminantType}
 use Rattle.educe_discriminants.specs.declared.discriminant_type.DiscriminantType.TheVariants.{ISize}
 use Rattle.educe_discriminants.specs.Types.{type_named}

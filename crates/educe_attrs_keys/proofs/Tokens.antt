@@ -12,7 +12,7 @@ use Rattle.educe_tokens.specs.Text.{is_written}
 use Rattle.educe_tokens.proofs.Printable.{printable-ident, printable-quoted}
 use Rattle.educe_tokens.proofs.Writing.{written-append}
 use Rattle.educe_syntax.specs.TokenLaws.{lawful_kinds}
-use Rattle.educe_body.proofs.Indices.{decimal_begins}
+use Rattle.educe_body_forms.proofs.Indices.{decimal_begins}
 use Rattle.educe_attrs_keys.specs.declared.ident_or_index.IdentOrIndex.{IdentOrIndex}
 use Rattle.educe_attrs_keys.specs.declared.ident_or_index.IdentOrIndex.TheVariants.{Ident, Index}
 use Rattle.educe_attrs_keys.specs.Keys.{key_lexeme, key_lexemes, name_lexemes, field_lexemes}

@@ -8,7 +8,7 @@ use Rattle.educe_tokens.specs.declared.word.Word.{Word}
 use Rattle.educe_tokens.specs.Lexes.{Lexeme}
 use Rattle.educe_tokens.proofs.Printable.{IsPrintable, printable-nil, printable-ident, printable-word}
 use Rattle.educe_syntax.specs.TokenLaws.{lawful_kinds}
-use Rattle.educe_body.proofs.Indices.{decimal_begins, decimal_is_index}
+use Rattle.educe_body_forms.proofs.Indices.{decimal_begins, decimal_is_index}
 use Rattle.educe_attrs_keys.specs.declared.ident_or_index.IdentOrIndex.{IdentOrIndex}
 use Rattle.educe_attrs_keys.specs.declared.ident_or_index.IdentOrIndex.TheVariants.{Ident, Index}
 use Rattle.educe_attrs_keys.specs.Keys.{key_lexeme, key_lexemes}

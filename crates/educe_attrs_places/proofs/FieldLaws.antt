@@ -3,7 +3,7 @@ use Rattle.std.proofs.Common.{◌≡◌, List, refl, sym, subst, ◌∙◌, ap, 
 use Rattle.std.specs.Prelude.{IfOk, IfErr}
 use Rattle.std.specs.Result.{result_unwrap_or}
 use Rattle.educe_tokens.specs.declared.error.EduceError.{EduceError}
-use Rattle.educe_bound.specs.declared.traits.Trait.{Trait}
+use Rattle.educe_bound_traits.specs.declared.traits.Trait.{Trait}
 use Rattle.educe_syntax.specs.Attribute.{Attribute}
 use Rattle.educe_syntax.specs.Meta.{Meta}
 use Rattle.educe_attrs_values.specs.Chains.{Gives, and_then}

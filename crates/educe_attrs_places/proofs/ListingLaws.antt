@@ -10,9 +10,9 @@ use Rattle.std.proofs.lemmas.Cmp.{nat_eq_equiv}
 use Rattle.std.specs.Cmp.{IsEquivalence}
 use Rattle.educe_tokens.specs.declared.error.EduceError.{EduceError}
 use Rattle.educe_tokens.specs.declared.error.Kind.TheVariants.{UnsupportedTrait, ReuseATrait}
-use Rattle.educe_bound.specs.declared.traits.Trait.{Trait}
-use Rattle.educe_bound.specs.Named.{trait_named}
-use Rattle.educe_bound.specs.Traits.{is_listed, place, same_trait}
+use Rattle.educe_bound_traits.specs.declared.traits.Trait.{Trait}
+use Rattle.educe_bound_traits.specs.Named.{trait_named}
+use Rattle.educe_bound_traits.specs.Traits.{is_listed, place, same_trait}
 use Rattle.educe_syntax.specs.Attribute.{Attribute}
 use Rattle.educe_syntax.specs.Meta.{Meta}
 use Rattle.educe_syntax.specs.Meta.TheVariants as said
@@ -29,7 +29,7 @@ use Rattle.educe_attrs_places.specs.Lists.{is_educe, all_metas, AreMetas}
 use Rattle.educe_attrs_places.specs.Named.{trait_of, is_trait, is_of, IsReused}
 use Rattle.educe_attrs_places.specs.Listing.{format_incorrect, checked_other, checked_list, checked_lists, with_trait, with_named, with_listed, traits_of, if_set_up, read_listing, listed_traits, IsListing, IsBareEduce, IsListingCause, IsNotSetUp, OfListing}
 use Rattle.educe_attrs_places.proofs.ListLaws.{metas_one, all_are, lists_cause, lists_uncaused, name_met, name_in}
-use Rattle.educe_bound.proofs.Apart.{same_is}
+use Rattle.educe_bound_traits.proofs.Apart.{same_is}
 use Rattle.educe_attrs_rows.proofs.Among.{among_none, among_first, among_more, among_cases}
 use Rattle.educe_attrs_rows.proofs.Chained.{ok_one, err_one, chained, refused_one}
 

@@ -3,10 +3,10 @@ use Rattle.std.proofs.Common.{◌≡◌, List, [], ◌∷◌, refl, sym, subst, 
 use Rattle.std.specs.Prelude.{if◌then◌else◌}
 use Rattle.educe_tokens.specs.declared.error.EduceError.{EduceError}
 use Rattle.educe_tokens.specs.declared.error.Kind.TheVariants.{UnsupportedTrait, TraitNotUsed}
-use Rattle.educe_bound.specs.declared.traits.Trait.{Trait}
-use Rattle.educe_bound.specs.Named.{trait_named}
-use Rattle.educe_bound.specs.Traits.{is_listed}
-use Rattle.educe_bound.proofs.Apart.{same_is}
+use Rattle.educe_bound_traits.specs.declared.traits.Trait.{Trait}
+use Rattle.educe_bound_traits.specs.Named.{trait_named}
+use Rattle.educe_bound_traits.specs.Traits.{is_listed}
+use Rattle.educe_bound_traits.proofs.Apart.{same_is}
 use Rattle.educe_syntax.specs.Attribute.{Attribute}
 use Rattle.educe_syntax.specs.Meta.{Meta}
 use Rattle.educe_syntax.specs.Meta.TheVariants as said

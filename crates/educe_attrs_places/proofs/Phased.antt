@@ -2,7 +2,7 @@
 use Rattle.std.proofs.Common.{List, inl, inr}
 use Rattle.std.specs.Prelude.{Contains}
 use Rattle.educe_tokens.specs.declared.error.EduceError.{EduceError}
-use Rattle.educe_bound.specs.declared.traits.Trait.{Trait}
+use Rattle.educe_bound_traits.specs.declared.traits.Trait.{Trait}
 use Rattle.educe_attrs_places.specs.Causes.{NoCause}
 use Rattle.educe_attrs_places.specs.Phases.{Handling, OfHandler, OfLast}
 

@@ -6,9 +6,9 @@ use Rattle.educe_tokens.specs.declared.error.EduceError.{EduceError}
 use Rattle.educe_tokens.specs.declared.error.Kind.TheVariants.{UnsupportedTrait, ReuseATrait, EduceFormatIncorrect, DeriveAttributeNotSetUpYet}
 use Rattle.educe_tokens.specs.declared.span.Span.{Span}
 use Rattle.educe_tokens.specs.declared.written.Written.{Written}
-use Rattle.educe_bound.specs.declared.traits.Trait.{Trait}
-use Rattle.educe_bound.specs.Named.{trait_named}
-use Rattle.educe_bound.specs.Traits.{is_listed, same_trait}
+use Rattle.educe_bound_traits.specs.declared.traits.Trait.{Trait}
+use Rattle.educe_bound_traits.specs.Named.{trait_named}
+use Rattle.educe_bound_traits.specs.Traits.{is_listed, same_trait}
 use Rattle.educe_syntax.specs.Attribute.{Attribute}
 use Rattle.educe_syntax.specs.Expr.{Expr}
 use Rattle.educe_syntax.specs.Meta.{Meta}

@@ -14,7 +14,7 @@ use Rattle.educe_syntax.specs.Parsed.{IsWhole, IsParseCause}
 use Rattle.educe_attrs_values.specs.Chains.{and_then}
 use Rattle.educe_attrs_values.specs.declared.stop.Stop.{Stop}
 use Rattle.educe_attrs_values.specs.Sources.{inside}
-use Rattle.educe_attrs_values.specs.Words.{is_one_word}
+use Rattle.educe_bound_traits.specs.OneWord.{is_one_word}
 use Rattle.educe_attrs_rows.specs.Among.{IsAmong}
 use Rattle.educe_attrs_values.specs.Metas.{IsNamed}
 use Rattle.educe_attrs_rows.specs.Metas.{metas_in}

@@ -1,6 +1,6 @@
 -- The handlers of the last phase of causes.
 use Rattle.std.specs.Prelude.{List, Contains, ◌⊎◌}
-use Rattle.educe_bound.specs.declared.traits.Trait.{Trait}
+use Rattle.educe_bound_traits.specs.declared.traits.Trait.{Trait}
 use Rattle.educe_attrs_places.specs.Causes.{Cause}
 
 -- what is asked of handlers: why the lists of the definition's places are refused, and why a trait is

@@ -2,7 +2,7 @@
 use Rattle.std.specs.Prelude.{ℕ, List, IfSome}
 use Rattle.educe_tokens.specs.declared.error.EduceError.{EduceError}
 use Rattle.educe_tokens.specs.declared.token.Token.{Token}
-use Rattle.educe_bound.specs.declared.traits.Trait.{Trait}
+use Rattle.educe_bound_traits.specs.declared.traits.Trait.{Trait}
 use Rattle.educe_syntax.specs.Attribute.{Attribute}
 use Rattle.educe_syntax.specs.Placed.{AreAttributesPlaced}
 use Rattle.educe_attrs_values.specs.Reports.{HasMessage, IsBoundary}

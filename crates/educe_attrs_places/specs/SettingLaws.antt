@@ -1,7 +1,7 @@
 -- The laws of the settings of a trait at a place.
 use Rattle.std.specs.Prelude.{◌≡◌, List, Contains, Some}
 use Rattle.educe_tokens.specs.declared.token.Token.{Token}
-use Rattle.educe_bound.specs.declared.traits.Trait.{Trait}
+use Rattle.educe_bound_traits.specs.declared.traits.Trait.{Trait}
 use Rattle.educe_syntax.specs.Attribute.{Attribute}
 use Rattle.educe_syntax.specs.ExprPath.{ExprPath}
 use Rattle.educe_syntax.specs.Within.{AttributesWithin}

@@ -1,7 +1,7 @@
 -- The forms that a place allows.
 use Rattle.std.specs.Prelude.{Bool, true, false, ◌&&◌, ◌||◌, not, Option, is_some, is_none, find}
 use Rattle.educe_syntax.specs.MetaPath.{MetaPath}
-use Rattle.educe_attrs_values.specs.Words.{is_one_word}
+use Rattle.educe_bound_traits.specs.OneWord.{is_one_word}
 use Rattle.educe_attrs_rows.specs.declared.param.Param.{Param}
 use Rattle.educe_attrs_rows.specs.declared.param.Param.TheVariants as param
 use Rattle.educe_attrs_rows.specs.declared.row.Row.{Row}

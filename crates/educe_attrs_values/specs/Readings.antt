@@ -31,7 +31,7 @@ use Rattle.educe_attrs_values.specs.Kinds.{ValueOf, bare}
 use Rattle.educe_attrs_values.specs.Refusals.{refusal, missing, wrong, not_carried}
 use Rattle.educe_attrs_values.specs.Sources.{value_source, value_place}
 use Rattle.educe_attrs_values.specs.Texts.{only_text}
-use Rattle.educe_attrs_values.specs.Words.{is_one_word}
+use Rattle.educe_bound_traits.specs.OneWord.{is_one_word}
 
 -- ---- by a rule
 

@@ -1,25 +1,12 @@
--- Words, and the names of metas.
-use Rattle.std.specs.Prelude.{ℕ, ◌-◌, Bool, true, false, ◌&&◌, List, [], ◌∷◌, length, slice_get, codes, Option, Some, None}
+-- The words of truth values, and the names of metas.
+use Rattle.std.specs.Prelude.{ℕ, ◌-◌, Bool, true, false, List, length, slice_get, codes, Option, Some, None}
 use Rattle.std.specs.List.{flat_map}
-use Rattle.std.specs.Str.{bytes_eq}
 use Rattle.educe_tokens.specs.declared.span.Span.{Span}
 use Rattle.educe_tokens.specs.declared.token.Token.{Token}
 use Rattle.educe_syntax.specs.Meta.{Meta}
 use Rattle.educe_syntax.specs.Meta.TheVariants as said
 use Rattle.educe_syntax.specs.MetaPath.{MetaPath}
-use Rattle.educe_syntax.specs.Terminal.TheVariants.{AnyWord}
 use Rattle.educe_syntax.specs.Attributes.{between}
-use Rattle.educe_syntax.specs.Terminals.{accepts}
-
--- an identifier that is spelled so, with no `r#`
-abbrev pub is_word : List ℕ → Token → Bool
-is_word text t = accepts AnyWord t && bytes_eq text t.spelling
-
--- the tokens are one identifier that is spelled so
-abbrev pub is_one_word : List ℕ → List Token → Bool
-is_one_word text [] = false
-is_one_word text (t ∷ []) = is_word text t
-is_one_word text (t ∷ u ∷ ts) = false
 
 -- the word of a truth value
 abbrev pub truth_word : Bool → List ℕ

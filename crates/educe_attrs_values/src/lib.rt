@@ -19,6 +19,7 @@ mod value;
 mod word;
 
 pub use choices::{IdentOrBool, WherePredicatesOrBool};
+pub use educe_bound_traits::{is_one_word, is_word};
 pub use kind::ValueKind;
 pub use laws::value_laws;
 pub use readers::{
@@ -31,4 +32,4 @@ pub use stop::{Stop, error_of};
 pub use value::{
     read_bound, read_expr, read_flag, read_ident, read_integer, read_name, read_path, read_truth,
 };
-pub use word::{is_one_word, is_word, meta_place, name_of, path_of, place_of};
+pub use word::{meta_place, name_of, path_of, place_of};

@@ -10,7 +10,7 @@ use crate::integer::{decimal_in, signed_in};
 use crate::opening::{ident_in, predicates_in};
 use crate::source::Source;
 use crate::text::only_text;
-use crate::word::is_one_word;
+use educe_bound_traits::is_one_word;
 use educe_syntax::{Terminal, is_spelled};
 use educe_tokens::{Spelling, Token, TokenSlice};
 use std::alloc::{AllocError, Global};

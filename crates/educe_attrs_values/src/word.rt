@@ -1,28 +1,11 @@
-//! Words, and the names of metas.
-ghost use Rattle.std.specs.Prelude.{◌≡◌, chars, IfOk};
+//! The names of metas, and their places.
+ghost use Rattle.std.specs.Prelude.{◌≡◌, IfOk};
 ghost use Rattle.std.specs.Option.{option_copied};
 ghost use Rattle.educe_attrs_values.specs.Words as spec;
 
-use educe_syntax::{Meta, MetaPath, Terminal, is_spelled, path_to_string};
+use educe_syntax::{Meta, MetaPath, path_to_string};
 use educe_tokens::{Span, Spelling, Token};
 use std::alloc::{AllocError, Global};
-
-/// Whether the token is the word as it is spelled, with no `r#`.
-pub fn is_word(token: &Token, word: &str) -> bool
-    ensures { result ≡ spec.is_word (chars word.now) token.now }
-{
-    Terminal::AnyWord.accepts(token) && is_spelled(&token.spelling, word)
-}
-
-/// Whether the tokens are the one word, as it is spelled, with no `r#`.
-pub fn is_one_word(tokens: &[Token], word: &str) -> bool
-    ensures { result ≡ spec.is_one_word (chars word.now) tokens.now }
-{
-    match tokens {
-        [token] => is_word(token, word),
-        _ => false,
-    }
-}
 
 /// From the first of the tokens to the last; 0 to 0 where there is none.
 pub fn place_of(tokens: &[Token]) -> Span

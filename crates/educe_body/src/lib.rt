@@ -1,59 +1,18 @@
-//! The bodies and items that are printed, what they are printed as, and what they evaluate to.
+//! Bodies and items: the forms, the functions and items that hold them, what these are printed as,
+//! and what bodies evaluate to. This crate has no code of its own: it passes on what users of bodies
+//! name.
 #![tactic(auto)]
 
-mod answers;
-mod assigning;
-mod bindings;
-mod body;
-mod built_in_paths;
-mod callee;
-mod calls;
-mod cases;
-mod comparison;
-mod environment;
-mod evaluator;
-mod flow;
-mod form;
-mod key_function;
-mod keys;
-mod laws;
-mod matching;
-mod numbers;
-mod pattern;
-mod position;
-mod print;
-mod print_checks;
-mod print_constructors;
-mod print_headers;
-mod print_heads;
-mod print_items;
-mod print_markers;
-mod print_orders;
-mod print_patterns;
-mod reading;
-mod scoping;
-mod shared;
-mod speller;
-mod stage;
-mod text;
-mod types;
-mod value;
-
-pub use answers::{Answer, Answers, Row, Rows};
-pub use bindings::{binding, index_binding, name_binding};
-pub use body::{Body, CheckItem, Function, Functions, ImplItem, Item, Items, MarkerItem, Names};
-pub use built_in_paths::built_in_path;
-pub use callee::{BuiltIn, Callee, built_in};
-pub use comparison::Comparison;
+pub use educe_body_forms::{
+    Arm, Arms, Body, Comparison, Constant, Distance, Form, Forms, Init, Inits, KeyArm, KeyArms,
+    Known, Names, Pattern, PatternField, PatternFields, Position, Shared, binding, index_binding,
+    index_word, key_word, name_binding,
+};
+pub use educe_body_items::{
+    CheckItem, Function, Functions, ImplItem, Item, Items, MarkerItem, spell,
+};
+pub use educe_body_values::{
+    Answer, Answers, BuiltIn, Callee, FieldValue, FieldValues, Outcome, Parts, Row, Rows, Scope,
+    Value, built_in, built_in_path, eval, form_laws, key_laws, scope_laws,
+};
 pub use educe_names::{UsedIdents, has_word, name_laws};
-pub use environment::Scope;
-pub use evaluator::{Outcome, eval};
-pub use form::{Arm, Arms, Form, Forms, Init, Inits, Known};
-pub use key_function::{Constant, Distance, KeyArm, KeyArms};
-pub use keys::{index_word, key_word};
-pub use laws::{form_laws, key_laws, scope_laws};
-pub use pattern::{Pattern, PatternField, PatternFields};
-pub use position::Position;
-pub use shared::Shared;
-pub use speller::spell;
-pub use value::{FieldValue, FieldValues, Parts, Value};

@@ -19,9 +19,10 @@ use Rattle.educe_syntax.specs.GenericParam.TheVariants as param
 use Rattle.educe_syntax.specs.TypeParam.{TypeParam}
 use Rattle.educe_bound_classes.specs.Classes.{type_name}
 use Rattle.educe_bound_classes.specs.Needs.{param_of}
-use Rattle.educe_bound.specs.declared.traits.Trait.{Trait}
-use Rattle.educe_bound.specs.declared.traits.Trait.TheVariants as trait
-use Rattle.educe_bound.specs.Predicates.{Key, trait_path, asks_for, on_each_param}
+use Rattle.educe_bound_traits.specs.declared.traits.Trait.{Trait}
+use Rattle.educe_bound_traits.specs.declared.traits.Trait.TheVariants as trait
+use Rattle.educe_bound.specs.Predicates.{Key, asks_for, on_each_param}
+use Rattle.educe_bound_traits.specs.Paths.{trait_path}
 
 -- what stands behind the type, jointness included
 abbrev pub behind : Trait → List Lexeme

@@ -1,3 +1,1 @@
-pub mod Words
-pub mod Apart
 pub mod Asking

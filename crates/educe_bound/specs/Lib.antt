@@ -1,4 +1,2 @@
-pub mod Traits
-pub mod Named
 pub mod Bounds
 pub mod Predicates

@@ -13,10 +13,11 @@ use Rattle.educe_bound_classes.specs.Classes.{type_name}
 use Rattle.educe_bound_classes.specs.Keys.{tokens_key}
 use Rattle.educe_bound_classes.specs.Exceptions.{Exceptions, clone_exceptions, copy_exceptions, debug_exceptions, equality_exceptions, order_exceptions, hash_exceptions, default_exceptions}
 use Rattle.educe_bound_classes.specs.Needs.{param_of, AreOwn}
+use Rattle.educe_bound_traits.specs.Paths.{trait_path}
 use Rattle.educe_bound.specs.declared.bound.Bound.{Bound}
 use Rattle.educe_bound.specs.declared.bound.Bound.TheVariants.{Disabled, Auto, All, Custom}
-use Rattle.educe_bound.specs.declared.traits.Trait.{Trait}
-use Rattle.educe_bound.specs.declared.traits.Trait.TheVariants as trait
+use Rattle.educe_bound_traits.specs.declared.traits.Trait.{Trait}
+use Rattle.educe_bound_traits.specs.declared.traits.Trait.TheVariants as trait
 
 -- ---- predicates
 
@@ -36,19 +37,7 @@ keys_of predicates = map key_of predicates
 abbrev pub number_of : WherePredicate → List ℕ
 number_of predicate = tokens_key predicate.written.tokens
 
--- ---- traits
-
--- the path of a trait, as generated code writes it
-abbrev pub trait_path : Trait → List ℕ
-trait_path trait.Debug = codes ":: core :: fmt :: Debug"
-trait_path trait.Clone = codes ":: core :: clone :: Clone"
-trait_path trait.Copy = codes ":: core :: marker :: Copy"
-trait_path trait.PartialEq = codes ":: core :: cmp :: PartialEq"
-trait_path trait.Eq = codes ":: core :: cmp :: Eq"
-trait_path trait.PartialOrd = codes ":: core :: cmp :: PartialOrd"
-trait_path trait.Ord = codes ":: core :: cmp :: Ord"
-trait_path trait.Hash = codes ":: core :: hash :: Hash"
-trait_path trait.Default = codes ":: core :: default :: Default"
+-- ---- what a trait asks for
 
 -- what stands behind the type in a predicate that asks for the trait
 abbrev pub asks_for : Trait → List Lexeme

@@ -5,13 +5,14 @@ ghost use Rattle.educe_tokens.specs.Copied.{unjoin};
 ghost use Rattle.educe_tokens.specs.Quote.{quoted};
 ghost use Rattle.educe_bound_classes.specs.Asked as needs;
 ghost use Rattle.educe_bound_classes.specs.Needs.{AreOwn};
+ghost use Rattle.educe_bound_traits.specs.Paths.{trait_path};
 ghost use Rattle.educe_bound.specs.Predicates as spec;
 
-use crate::traits::Trait;
 use educe_bound_classes::{
     Asked, Asker, BoundExceptions, clone_exceptions, copy_exceptions, debug_exceptions,
     default_exceptions, equality_exceptions, hash_exceptions, order_exceptions, own_needs,
 };
+use educe_bound_traits::{Trait, trait_path};
 use educe_syntax::{GenericParam, Ident, Params, Predicates, ToTokens, Ty, WherePredicate};
 use educe_tokens::{Seq, TokenSlice, TokenStream, Written, quote};
 use std::alloc::{AllocError, Global};
@@ -31,26 +32,9 @@ pub fn exceptions_of(which: Trait) -> BoundExceptions
     }
 }
 
-/// The path of the trait, as generated code writes it.
-fn trait_path(which: Trait) -> &'static str
-    ensures { result.now ≡ spec.trait_path which }
-{
-    match which {
-        Trait::Debug => ":: core :: fmt :: Debug",
-        Trait::Clone => ":: core :: clone :: Clone",
-        Trait::Copy => ":: core :: marker :: Copy",
-        Trait::PartialEq => ":: core :: cmp :: PartialEq",
-        Trait::Eq => ":: core :: cmp :: Eq",
-        Trait::PartialOrd => ":: core :: cmp :: PartialOrd",
-        Trait::Ord => ":: core :: cmp :: Ord",
-        Trait::Hash => ":: core :: hash :: Hash",
-        Trait::Default => ":: core :: default :: Default",
-    }
-}
-
 /// Appends what stands behind the type in a predicate that asks for the trait.
 fn push_bound(alloc: Global, tokens: &mut TokenStream, which: Trait) -> Result<(), AllocError>
-    ensures { OnOk result (Appends (quoted (codes ":") ++ quoted (spec.trait_path which)) tokens.old tokens.new) }
+    ensures { OnOk result (Appends (quoted (codes ":") ++ quoted (trait_path which)) tokens.old tokens.new) }
 {
     quote(alloc, tokens, ":")?;
     quote(alloc, tokens, trait_path(which))

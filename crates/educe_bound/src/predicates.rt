@@ -7,8 +7,8 @@ ghost use Rattle.educe_bound.specs.Predicates as spec;
 
 use crate::asked::{exceptions_of, needed_predicates, predicates_on_params};
 use crate::bound::Bound;
-use crate::traits::Trait;
 use educe_bound_classes::{BoundExceptions, key_of_tokens};
+use educe_bound_traits::Trait;
 use educe_syntax::{
     Duplicate, GenericParam, Generics, Ident, Params, Predicates, Ty, WherePredicate,
 };

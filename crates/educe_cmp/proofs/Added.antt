@@ -4,9 +4,9 @@ use Rattle.educe_syntax.specs.DeriveInput.{DeriveInput}
 use Rattle.educe_syntax.specs.Few.{all_fields}
 use Rattle.educe_syntax.specs.Refusal.{IsDefinition}
 use Rattle.educe_attrs.specs.Fields.{HaveNoCauses}
-use Rattle.educe_body.specs.declared.comparison.Comparison.{Comparison}
-use Rattle.educe_body.specs.declared.comparison.Comparison.TheVariants.{PartialEq, PartialOrd, Ord}
-use Rattle.educe_body.specs.declared.body.Item.{Item}
+use Rattle.educe_body_forms.specs.declared.comparison.Comparison.{Comparison}
+use Rattle.educe_body_forms.specs.declared.comparison.Comparison.TheVariants.{PartialEq, PartialOrd, Ord}
+use Rattle.educe_body_items.specs.declared.items.Item.{Item}
 use Rattle.educe_syntax.specs.Ty.{Ty}
 use Rattle.educe_cmp_keys.specs.Laws.{lawful_comparisons}
 use Rattle.educe_laws.specs.Blocks.{IsBlock, IsComparisonBlock}

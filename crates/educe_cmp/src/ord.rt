@@ -12,7 +12,7 @@ pub struct OrdHandler;
 
 impl TraitHandler for OrdHandler {
     ghost use Rattle.std.specs.Prelude.{true};
-    ghost use Rattle.educe_bound.specs.declared.traits.Trait.TheVariants.{Ord};
+    ghost use Rattle.educe_bound_traits.specs.declared.traits.Trait.TheVariants.{Ord};
 
     const TRAIT: Trait = Trait::Ord;
 

@@ -12,7 +12,7 @@ pub struct PartialEqHandler;
 
 impl TraitHandler for PartialEqHandler {
     ghost use Rattle.std.specs.Prelude.{true};
-    ghost use Rattle.educe_bound.specs.declared.traits.Trait.TheVariants.{PartialEq};
+    ghost use Rattle.educe_bound_traits.specs.declared.traits.Trait.TheVariants.{PartialEq};
 
     const TRAIT: Trait = Trait::PartialEq;
 

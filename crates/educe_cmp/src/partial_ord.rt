@@ -12,7 +12,7 @@ pub struct PartialOrdHandler;
 
 impl TraitHandler for PartialOrdHandler {
     ghost use Rattle.std.specs.Prelude.{true};
-    ghost use Rattle.educe_bound.specs.declared.traits.Trait.TheVariants.{PartialOrd};
+    ghost use Rattle.educe_bound_traits.specs.declared.traits.Trait.TheVariants.{PartialOrd};
 
     const TRAIT: Trait = Trait::PartialOrd;
 

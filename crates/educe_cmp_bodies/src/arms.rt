@@ -1,7 +1,7 @@
 //! The arms of the functions of enums.
 ghost use Rattle.std.specs.Prelude.{◌≡◌, List, length, map, IfOk};
 ghost use Rattle.std.specs.List.{AllZip};
-ghost use Rattle.educe_body.specs.BuiltIn.{IsBuiltIn};
+ghost use Rattle.educe_body_values.specs.BuiltIn.{IsBuiltIn};
 ghost use Rattle.educe_syntax.specs.DeriveInput.{DeriveInput};
 ghost use Rattle.educe_syntax.specs.Variant.{Variant};
 ghost use Rattle.educe_cmp_keys.specs.Names.{names_of};

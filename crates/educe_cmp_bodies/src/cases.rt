@@ -4,7 +4,7 @@ ghost use Rattle.std.specs.List.{AllZip};
 ghost use Rattle.educe_syntax.specs.Few as few;
 ghost use Rattle.educe_syntax.specs.Shape.TheVariants.{Enum};
 ghost use Rattle.educe_attrs.specs.Causes.{NoCause, OfStop};
-ghost use Rattle.educe_body.specs.BuiltIn.{IsBuiltIn};
+ghost use Rattle.educe_body_values.specs.BuiltIn.{IsBuiltIn};
 ghost use Rattle.educe_cmp_keys.specs.Names.{names_of};
 ghost use Rattle.educe_handlers.specs.SeenTypes.{Sees};
 ghost use Rattle.educe_laws.specs.Arms.{IsArm};

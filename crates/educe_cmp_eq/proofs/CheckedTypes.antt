@@ -8,7 +8,7 @@ use Rattle.educe_syntax.specs.Ty.{Ty}
 use Rattle.educe_attrs.specs.Causes.{Cause, NoCause, OfStop}
 use Rattle.educe_attrs.specs.Stop.{Stop}
 use Rattle.educe_attrs.specs.Stop.TheVariants.{Memory, Refused}
-use Rattle.educe_bound.specs.declared.traits.Trait.TheVariants.{PartialEq}
+use Rattle.educe_bound_traits.specs.declared.traits.Trait.TheVariants.{PartialEq}
 use Rattle.educe_handlers.specs.declared.seen_types.SeenTypes.{SeenTypes}
 use Rattle.educe_handlers.specs.EveryType.{behind}
 use Rattle.educe_handlers.specs.SeenTypes.{touched_of, Sees}

@@ -1,10 +1,10 @@
 -- The impl of `Eq` that is added.
 use Rattle.std.specs.Prelude.{◌≡◌, List, [], ◌∷◌, ◌++◌}
 use Rattle.educe_syntax.specs.DeriveInput.{DeriveInput}
-use Rattle.educe_bound.specs.declared.traits.Trait.TheVariants.{Eq}
-use Rattle.educe_body.specs.declared.body.ImplItem.{ImplItem}
-use Rattle.educe_body.specs.declared.body.Item.{Item}
-use Rattle.educe_body.specs.declared.body.Item.TheVariants.{Impl}
+use Rattle.educe_bound_traits.specs.declared.traits.Trait.TheVariants.{Eq}
+use Rattle.educe_body_items.specs.declared.items.ImplItem.{ImplItem}
+use Rattle.educe_body_items.specs.declared.items.Item.{Item}
+use Rattle.educe_body_items.specs.declared.items.Item.TheVariants.{Impl}
 use Rattle.educe_laws.specs.Blocks.{IsImpl, AreNone}
 
 -- behind the items before stands the impl of `Eq`

@@ -12,7 +12,7 @@ pub struct EqHandler;
 
 impl TraitHandler for EqHandler {
     ghost use Rattle.std.specs.Prelude.{true};
-    ghost use Rattle.educe_bound.specs.declared.traits.Trait.TheVariants.{Eq};
+    ghost use Rattle.educe_bound_traits.specs.declared.traits.Trait.TheVariants.{Eq};
 
     const TRAIT: Trait = Trait::Eq;
 

@@ -8,7 +8,7 @@ ghost use Rattle.educe_syntax.specs.Refusal.{IsDefinition};
 ghost use Rattle.educe_attrs.specs.Causes.{NoCause, OfStop};
 ghost use Rattle.educe_attrs.specs.Phases.{OfHandler};
 ghost use Rattle.educe_bound.specs.Predicates.{keys_of};
-ghost use Rattle.educe_bound.specs.declared.traits.Trait.TheVariants.{Eq};
+ghost use Rattle.educe_bound_traits.specs.declared.traits.Trait.TheVariants.{Eq};
 ghost use Rattle.educe_cmp_eq.specs.EqTypes.{AddsImpl};
 ghost use Rattle.educe_handlers.specs.EveryType.{behind};
 ghost use Rattle.educe_laws.specs.Blocks as spec;

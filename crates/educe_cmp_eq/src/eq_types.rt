@@ -3,8 +3,8 @@ ghost use Rattle.std.specs.Prelude.{◌≡◌, [], ◌∷◌, true, map, OnOk, I
 ghost use Rattle.educe_syntax.specs.Shape.TheVariants.{Enum};
 ghost use Rattle.educe_attrs.specs.Causes.{NoCause, OfStop};
 ghost use Rattle.educe_attrs.specs.Stop.TheVariants.{Memory};
-ghost use Rattle.educe_bound.specs.declared.traits.Trait.TheVariants.{PartialEq};
-ghost use Rattle.educe_bound.specs.Traits as traits;
+ghost use Rattle.educe_bound_traits.specs.declared.traits.Trait.TheVariants.{PartialEq};
+ghost use Rattle.educe_bound_traits.specs.Traits as traits;
 ghost use Rattle.educe_handlers.specs.EveryType.{behind};
 ghost use Rattle.educe_handlers.specs.SeenTypes.{read_of, touched_of, Sees};
 ghost use Rattle.educe_laws.specs.Cases.{fields_in, cases_of};

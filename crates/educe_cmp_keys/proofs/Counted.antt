@@ -5,8 +5,8 @@ use Rattle.std.proofs.lemmas.List.{append_assoc, append-nil, drop_more, drop_all
 use Rattle.educe_syntax.specs.Expr.{Expr}
 use Rattle.educe_syntax.specs.Variant.{Variant}
 use Rattle.educe_discriminants.specs.declared.discriminant_type.DiscriminantType.{DiscriminantType}
-use Rattle.educe_body.specs.declared.key_function.Constant.{Constant}
-use Rattle.educe_body.specs.declared.key_function.KeyArm.{KeyArm}
+use Rattle.educe_body_forms.specs.declared.key_function.Constant.{Constant}
+use Rattle.educe_body_forms.specs.declared.key_function.KeyArm.{KeyArm}
 use Rattle.educe_laws.specs.Arms.{IsBase, IsDistance, IsConstant, IsBarePattern, IsKeyArm}
 use Rattle.educe_laws.specs.Discriminants.{Counted, counted_from}
 

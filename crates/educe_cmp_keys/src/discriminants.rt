@@ -6,7 +6,7 @@ ghost use Rattle.educe_tokens.specs.Appends.{no_place};
 ghost use Rattle.educe_syntax.specs.Few as few;
 ghost use Rattle.educe_attrs.specs.Represented.{IsDiscriminantType};
 ghost use Rattle.educe_laws.specs.Arms as spec;
-ghost use Rattle.educe_body.specs.declared.answers.Answers.{Answers};
+ghost use Rattle.educe_body_values.specs.declared.answers.Answers.{Answers};
 ghost use Rattle.educe_laws.specs.Discriminants.{counted_from, HaveNumbers};
 
 use crate::names::Names;

@@ -1,6 +1,6 @@
 //! The steps of the traits that compare two values.
 ghost use Rattle.std.specs.Prelude.{◌≡◌, IfOk, map};
-ghost use Rattle.educe_body.specs.BuiltIn.{IsBuiltIn};
+ghost use Rattle.educe_body_values.specs.BuiltIn.{IsBuiltIn};
 ghost use Rattle.educe_handlers.specs.Ranked.{how_of, kept_of};
 ghost use Rattle.educe_handlers.specs.Readings.{reading_of, CanRead};
 ghost use Rattle.educe_laws.specs.Comparing as meaning;

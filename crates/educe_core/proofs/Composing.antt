@@ -8,15 +8,15 @@ use Rattle.std.proofs.lemmas.List.Folds.{list_any_at}
 use Rattle.std.proofs.lemmas.Map.Views.{Contains-from_any}
 use Rattle.educe_tokens.specs.declared.error.EduceError.{EduceError}
 use Rattle.educe_syntax.specs.DeriveInput.{DeriveInput}
-use Rattle.educe_bound.specs.declared.traits.Trait.{Trait}
-use Rattle.educe_bound.specs.Traits.{variants, place, same_trait, is_listed}
-use Rattle.educe_bound.proofs.Apart.{same_is}
+use Rattle.educe_bound_traits.specs.declared.traits.Trait.{Trait}
+use Rattle.educe_bound_traits.specs.Traits.{variants, place, same_trait, is_listed}
+use Rattle.educe_bound_traits.proofs.Apart.{same_is}
 use Rattle.educe_attrs.specs.Causes.{NoCause}
 use Rattle.educe_attrs.specs.Laws.{all_handled, one_refused}
 use Rattle.educe_attrs.specs.Listing.{IsListing}
 use Rattle.educe_attrs.specs.Phases.{OfHandler}
 use Rattle.educe_attrs.specs.Stop.{Stop}
-use Rattle.educe_body.specs.declared.body.Item.{Item}
+use Rattle.educe_body_items.specs.declared.items.Item.{Item}
 use Rattle.educe_handlers.specs.Laws.{lawful_traits}
 use Rattle.educe_laws.specs.Blocks.{IsBlock, Blocks, OneEach, EachEvaluates}
 use Rattle.educe_laws.specs.Built.{built_traits, IsBuilt}

@@ -15,8 +15,8 @@ use Rattle.educe_syntax.specs.Placed.{AreAttributesPlaced, IsFieldPlaced, AreFie
 use Rattle.educe_syntax.specs.Shape.{Shape}
 use Rattle.educe_syntax.specs.Shape.TheVariants.{Struct, Enum}
 use Rattle.educe_syntax.specs.Variant.{Variant}
-use Rattle.educe_bound.specs.declared.traits.Trait.{Trait}
-use Rattle.educe_bound.specs.declared.traits.Trait.TheVariants as trait
+use Rattle.educe_bound_traits.specs.declared.traits.Trait.{Trait}
+use Rattle.educe_bound_traits.specs.declared.traits.Trait.TheVariants as trait
 use Rattle.educe_attrs.specs.Among.{IsAmong}
 use Rattle.educe_attrs.specs.Compared.{place_of}
 use Rattle.educe_attrs.specs.Rank.{Rank}

@@ -1,6 +1,6 @@
 -- What an expansion holds.
 use Rattle.std.specs.Prelude.{ℕ, List, string_bytes}
-use Rattle.educe_body.specs.declared.body.Item.{Item}
+use Rattle.educe_body_items.specs.declared.items.Item.{Item}
 use Rattle.educe_core.specs.declared.expansion.Expansion.{Expansion}
 
 -- the bytes of the text

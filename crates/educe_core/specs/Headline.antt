@@ -13,8 +13,8 @@ use Rattle.educe_syntax.specs.Definitions as grammar
 use Rattle.educe_syntax.specs.Naming.{AreNamesApart}
 use Rattle.educe_syntax.specs.Parsed.{IsWhole}
 use Rattle.educe_syntax.specs.Refusal.{IsRefusalOf}
-use Rattle.educe_body.specs.declared.body.Item.{Item}
-use Rattle.educe_body.specs.Tokens.{tokens_of, spelling}
+use Rattle.educe_body_items.specs.declared.items.Item.{Item}
+use Rattle.educe_body_items.specs.Items.{tokens_of, spelling}
 use Rattle.educe_attrs.specs.Causes.{NoCause}
 use Rattle.educe_attrs.specs.Listing.{IsListing}
 use Rattle.educe_laws.specs.Blocks.{OneEach, EachEvaluates, HasTightBounds}

@@ -4,7 +4,7 @@ use Rattle.educe_tokens.specs.declared.error.EduceError.{EduceError}
 use Rattle.educe_tokens.specs.declared.error.Kind.TheVariants.{Alloc}
 use Rattle.educe_tokens.specs.Span.{line_of, column_of}
 use Rattle.educe_tokens.specs.Message.{message_of}
-use Rattle.educe_body.specs.declared.body.Item.{Item}
+use Rattle.educe_body_items.specs.declared.items.Item.{Item}
 use Rattle.educe_core_devices.specs.declared.status.Status.{Status}
 use Rattle.educe_core_devices.specs.declared.status.Status.TheVariants.{Done, Refused, Usage, ReadFault, WriteFault, TooLong, NotUtf8, NoMemory}
 use Rattle.educe_core_devices.specs.Devices.{Change, ahead, IsAtEnd, IsUnchanged, Fails, Gains, FailsWithin, RunsShortWithin}

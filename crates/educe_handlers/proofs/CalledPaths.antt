@@ -1,8 +1,8 @@
 -- The path that is called on a field.
 use Rattle.std.proofs.Common.{◌≡◌, subst, sym}
 use Rattle.educe_syntax.specs.ExprPath.{ExprPath}
-use Rattle.educe_body.specs.BuiltIn.{IsBuiltIn}
-use Rattle.educe_body.specs.declared.callee.BuiltIn.{BuiltIn}
+use Rattle.educe_body_values.specs.BuiltIn.{IsBuiltIn}
+use Rattle.educe_body_values.specs.declared.callee.BuiltIn.{BuiltIn}
 use Rattle.educe_handlers.specs.Ranked.{called_by}
 use Rattle.educe_laws.specs.Settings.{How, plainly, by_method, by_order}
 use Rattle.educe_laws.specs.Steps.{IsCalled}

@@ -1,10 +1,10 @@
 -- Functions and impls of which more is known.
 use Rattle.std.proofs.Common.{◌≡◌, ℕ, List, subst, sym}
 use Rattle.educe_syntax.specs.DeriveInput.{DeriveInput}
-use Rattle.educe_bound.specs.declared.traits.Trait.{Trait}
-use Rattle.educe_body.specs.declared.body.Body.{Body}
-use Rattle.educe_body.specs.declared.body.Function.{Function}
-use Rattle.educe_body.specs.declared.body.ImplItem.{ImplItem}
+use Rattle.educe_bound_traits.specs.declared.traits.Trait.{Trait}
+use Rattle.educe_body_forms.specs.declared.body.Body.{Body}
+use Rattle.educe_body_items.specs.declared.items.Function.{Function}
+use Rattle.educe_body_items.specs.declared.items.ImplItem.{ImplItem}
 use Rattle.educe_laws.specs.Blocks.{IsFunction, IsImpl}
 
 -- the one function with this body, where the body is as it is to be

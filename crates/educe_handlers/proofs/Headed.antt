@@ -3,8 +3,8 @@ use Rattle.std.proofs.Common.{◌≡◌, ◌∙◌, Bool, true, cond, List, [], 
 use Rattle.std.specs.List.{AllZip}
 use Rattle.std.proofs.lemmas.List.Elements.{filter-append}
 use Rattle.educe_syntax.specs.DeriveInput.{DeriveInput}
-use Rattle.educe_bound.specs.declared.traits.Trait.{Trait}
-use Rattle.educe_bound.specs.Traits.{is_listed}
+use Rattle.educe_bound_traits.specs.declared.traits.Trait.{Trait}
+use Rattle.educe_bound_traits.specs.Traits.{is_listed}
 use Rattle.educe_handlers.proofs.Lists.{zip_push}
 use Rattle.educe_laws.specs.Handlers.{Noted, IsNoted, AreNoted, handled_of, traits_before, traits_through}
 use Rattle.educe_laws.specs.Headers.{AreOf}

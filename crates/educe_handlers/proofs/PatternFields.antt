@@ -3,7 +3,7 @@ use Rattle.std.proofs.Common.{◌≡◌, ℕ, ◌+◌, ◌<◌, List, [], ◌∷
 use Rattle.std.proofs.lemmas.List.{take_more, length-take-le}
 use Rattle.educe_syntax.specs.Field.{Field}
 use Rattle.educe_attrs.specs.FieldSettings.{FieldSettings}
-use Rattle.educe_body.specs.declared.pattern.PatternField.{PatternField}
+use Rattle.educe_body_forms.specs.declared.pattern.PatternField.{PatternField}
 use Rattle.educe_laws.specs.Arms.{ArePatternFields, IsPatternField}
 
 -- one more field on all three sides

@@ -15,8 +15,8 @@ use Rattle.educe_syntax.specs.Field.{Field}
 use Rattle.educe_syntax.specs.Shape.{Shape}
 use Rattle.educe_syntax.specs.Shape.TheVariants.{Struct, Enum}
 use Rattle.educe_syntax.specs.Variant.{Variant}
-use Rattle.educe_bound.specs.Traits.{is_listed}
-use Rattle.educe_bound.specs.declared.traits.Trait.TheVariants as trait
+use Rattle.educe_bound_traits.specs.Traits.{is_listed}
+use Rattle.educe_bound_traits.specs.declared.traits.Trait.TheVariants as trait
 use Rattle.educe_attrs.specs.Among.{IsAmong}
 use Rattle.educe_attrs.specs.Causes.{NoCause, OfStop}
 use Rattle.educe_attrs.specs.Stop.{Stop}
@@ -26,7 +26,7 @@ use Rattle.educe_attrs.specs.Fields.{HaveNoCauses}
 use Rattle.educe_attrs.specs.Phases.{OfHandler}
 use Rattle.educe_attrs.specs.Places.{OfPlace, OfField}
 use Rattle.educe_attrs.specs.Said.{IsPlaceCause, IsSaidCause}
-use Rattle.educe_bound.specs.declared.traits.Trait.{Trait}
+use Rattle.educe_bound_traits.specs.declared.traits.Trait.{Trait}
 use Rattle.educe_laws.specs.Cases.{fields_in, shape_cases, variant_attributes, field_attributes}
 use Rattle.educe_laws.specs.Handled.{places, IsListsCause, IsReuse, IsRankCause, has_markers, IsUnbuiltMarker, IsFieldwiseCause, OfCase, OfVariant, OfShape, handling}
 use Rattle.educe_laws.specs.Listed.{listed}

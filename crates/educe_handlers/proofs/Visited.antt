@@ -6,7 +6,7 @@ use Rattle.educe_syntax.specs.DeriveInput.{DeriveInput}
 use Rattle.educe_syntax.specs.Field.{Field}
 use Rattle.educe_syntax.specs.Ty.{Ty}
 use Rattle.educe_syntax.specs.Variant.{Variant}
-use Rattle.educe_bound.specs.declared.traits.Trait.{Trait}
+use Rattle.educe_bound_traits.specs.declared.traits.Trait.{Trait}
 use Rattle.educe_handlers.specs.declared.ranked.Ranked.{Ranked}
 use Rattle.educe_handlers.specs.declared.seen_types.SeenTypes.{SeenTypes}
 use Rattle.educe_handlers.specs.Ranked.{kept_of}

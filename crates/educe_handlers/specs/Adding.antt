@@ -1,7 +1,7 @@
 -- The predicates that an impl adds.
 use Rattle.std.specs.Prelude.{List}
 use Rattle.educe_syntax.specs.DeriveInput.{DeriveInput}
-use Rattle.educe_bound.specs.declared.traits.Trait.{Trait}
+use Rattle.educe_bound_traits.specs.declared.traits.Trait.{Trait}
 use Rattle.educe_bound.specs.Predicates.{Key}
 use Rattle.educe_laws.specs.Headers.{AreAdded}
 

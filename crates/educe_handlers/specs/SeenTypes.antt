@@ -3,7 +3,7 @@ use Rattle.std.specs.Prelude.{◌≡◌, List, [], ◌∷◌, ◌++◌}
 use Rattle.educe_syntax.specs.DeriveInput.{DeriveInput}
 use Rattle.educe_syntax.specs.Field.{Field}
 use Rattle.educe_syntax.specs.Ty.{Ty}
-use Rattle.educe_bound.specs.declared.traits.Trait.{Trait}
+use Rattle.educe_bound_traits.specs.declared.traits.Trait.{Trait}
 use Rattle.educe_handlers.specs.EveryType.{behind}
 use Rattle.educe_handlers.specs.declared.seen_types.SeenTypes.{SeenTypes}
 use Rattle.educe_laws.specs.Settings.{Kept, How, plainly, by_method, by_order}

@@ -3,7 +3,7 @@ ghost use Rattle.std.specs.Prelude.{◌≡◌, Bool, IsTrue, OnOk, OnErr, IfErr}
 ghost use Rattle.educe_tokens.specs.Prefix.{HasPrefix};
 ghost use Rattle.educe_syntax.specs.Shape.{Shape};
 ghost use Rattle.educe_syntax.specs.Refusal.{IsDefinition};
-ghost use Rattle.educe_bound.specs.declared.traits.Trait.{Trait};
+ghost use Rattle.educe_bound_traits.specs.declared.traits.Trait.{Trait};
 ghost use Rattle.educe_attrs.specs.Causes.{NoCause, OfStop};
 ghost use Rattle.educe_attrs.specs.Phases.{OfHandler};
 ghost use Rattle.educe_laws.specs.Handled.{handling};

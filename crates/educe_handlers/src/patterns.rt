@@ -1,7 +1,7 @@
 //! The patterns of variants.
 ghost use Rattle.std.specs.Prelude.{◌≡◌, ◌++◌, length, IfOk};
 ghost use Rattle.educe_tokens.specs.Spells.{IsWord};
-ghost use Rattle.educe_body.specs.Keys.{binding_key};
+ghost use Rattle.educe_body_forms.specs.Keys.{binding_key};
 ghost use Rattle.educe_laws.specs.Cases.{fields_in};
 ghost use Rattle.educe_laws.specs.Settings.{keeps};
 ghost use Rattle.educe_laws.specs.Arms as spec;

@@ -3,9 +3,9 @@ use Rattle.std.proofs.Common.{◌≡◌, ℕ, ◌+◌, ◌<◌, suc, List, [], �
 use Rattle.std.proofs.lemmas.List.{take_more}
 use Rattle.std.proofs.lemmas.Grind.{flat_map-append}
 use Rattle.educe_bound_classes.specs.Deriving.{Extends}
-use Rattle.educe_bound.specs.Traits.{same_trait}
+use Rattle.educe_bound_traits.specs.Traits.{same_trait}
 use Rattle.educe_laws.specs.Handlers.{Noted, noted_of, inherited_from}
-use Rattle.educe_bound.specs.declared.traits.Trait.{Trait}
+use Rattle.educe_bound_traits.specs.declared.traits.Trait.{Trait}
 use Rattle.educe_bound.specs.Predicates.{Key}
 
 -- a list that is extended by one list and then by another is extended by both

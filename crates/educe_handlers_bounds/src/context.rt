@@ -2,7 +2,7 @@
 ghost use Rattle.std.specs.Prelude.{◌≡◌, [], ◌∷◌, ◌++◌, OnOk, OnErr};
 ghost use Rattle.educe_bound_classes.specs.Deriving.{Extends};
 ghost use Rattle.educe_bound.specs.Predicates.{keys_of};
-ghost use Rattle.educe_bound.specs.Traits as traits;
+ghost use Rattle.educe_bound_traits.specs.Traits as traits;
 ghost use Rattle.educe_laws.specs.Handlers as spec;
 
 use educe_bound::{Trait, extend_where_predicates, same_trait};

@@ -7,11 +7,11 @@ use Rattle.std.proofs.lemmas.Option.{same_Some}
 use Rattle.std.proofs.lemmas.Slice.Eq.{bytes_eq-Decides}
 use Rattle.educe_syntax.specs.DeriveInput.{DeriveInput}
 use Rattle.educe_syntax.specs.Field.{Field}
-use Rattle.educe_bound.specs.declared.traits.Trait.{Trait}
-use Rattle.educe_body.specs.Keys.{AreDifferent, key_of, keys_from}
-use Rattle.educe_body.specs.Meaning.{place_named}
-use Rattle.educe_body.specs.declared.value.FieldValue.{FieldValue}
-use Rattle.educe_body.proofs.Fields.{bytes_eq-differ}
+use Rattle.educe_bound_traits.specs.declared.traits.Trait.{Trait}
+use Rattle.educe_body_forms.specs.Keys.{AreDifferent, key_of, keys_from}
+use Rattle.educe_body_values.specs.Meaning.{place_named}
+use Rattle.educe_body_values.specs.declared.value.FieldValue.{FieldValue}
+use Rattle.educe_body_values.proofs.Fields.{bytes_eq-differ}
 use Rattle.educe_laws.specs.Settings.{Kept, is_kept, kept_at, kept_from}
 use Rattle.educe_laws.proofs.Elements.{In-all, In-found, each_weaker}
 use Rattle.educe_laws.proofs.Pairing.{Look, FieldsGive, part_in, value_in}

@@ -16,35 +16,35 @@ use Rattle.educe_syntax.specs.Naming.{Named, ident_named, field_names, variant_n
 use Rattle.educe_syntax.specs.Shape.{Shape}
 use Rattle.educe_syntax.specs.Variant.{Variant}
 use Rattle.educe_attrs.specs.FieldSettings.{FieldSettings}
-use Rattle.educe_body.specs.declared.answers.Answers.{Answers}
-use Rattle.educe_bound.specs.declared.traits.Trait.{Trait}
-use Rattle.educe_bound.specs.declared.traits.Trait.TheVariants as trait
-use Rattle.educe_body.specs.declared.comparison.Comparison.{Comparison}
-use Rattle.educe_body.specs.declared.comparison.Comparison.TheVariants.{PartialEq}
-use Rattle.educe_body.specs.declared.environment.Binding.{Binding}
-use Rattle.educe_body.specs.declared.environment.Env.{Env}
-use Rattle.educe_body.specs.declared.environment.Own.{Own}
-use Rattle.educe_body.specs.declared.environment.Own.TheVariants.{Value as OwnValue}
-use Rattle.educe_body.specs.declared.environment.Referent.{Referent}
-use Rattle.educe_body.specs.declared.environment.Referent.TheVariants.{This, OwnField, Bound}
-use Rattle.educe_body.specs.declared.evaluator.Outcome.TheVariants.{Truth as OutcomeTruth}
-use Rattle.educe_body.specs.declared.flow.Flow.{Flow}
-use Rattle.educe_body.specs.declared.flow.Flow.TheVariants.{Gives, Returns, Stuck}
-use Rattle.educe_body.specs.declared.flow.Thing.TheVariants.{Nothing, Part}
-use Rattle.educe_body.specs.declared.form.Arm.{Arm}
-use Rattle.educe_body.specs.declared.form.Form.{Form, MatchValue, IfLet}
-use Rattle.educe_body.specs.declared.form.Form as form
-use Rattle.educe_body.specs.declared.form.Known.TheVariants.{Truth}
-use Rattle.educe_body.specs.declared.pattern.Pattern.{Pattern}
-use Rattle.educe_body.specs.declared.pattern.PatternField.{PatternField}
-use Rattle.educe_body.specs.declared.value.FieldValue.{FieldValue}
-use Rattle.educe_body.specs.declared.value.Value.{Value}
-use Rattle.educe_body.specs.Keys.{AreDifferent, keys_from, binding_key}
-use Rattle.educe_body.specs.Laws.{KeysGive}
-use Rattle.educe_body.specs.Matching.{variant_of, is_named, fits, has_key, bound_to, fields_bound, bound_of, bindings_of}
-use Rattle.educe_body.specs.Meaning.{Scene, look_up, part_of, own_value, own_field, own_fields, part_flow, local_flow, with_value, with_named, go_on, leave, within, or_nothing, known_thing, form_value, list_value, held_list, taken, if_let_value, arms_list, outcome_of}
-use Rattle.educe_body.specs.Scoping.{IsApart}
-use Rattle.educe_body.proofs.Fields.{bytes_eq-differ}
+use Rattle.educe_body_values.specs.declared.answers.Answers.{Answers}
+use Rattle.educe_bound_traits.specs.declared.traits.Trait.{Trait}
+use Rattle.educe_bound_traits.specs.declared.traits.Trait.TheVariants as trait
+use Rattle.educe_body_forms.specs.declared.comparison.Comparison.{Comparison}
+use Rattle.educe_body_forms.specs.declared.comparison.Comparison.TheVariants.{PartialEq}
+use Rattle.educe_body_values.specs.declared.environment.Binding.{Binding}
+use Rattle.educe_body_values.specs.declared.environment.Env.{Env}
+use Rattle.educe_body_values.specs.declared.environment.Own.{Own}
+use Rattle.educe_body_values.specs.declared.environment.Own.TheVariants.{Value as OwnValue}
+use Rattle.educe_body_values.specs.declared.environment.Referent.{Referent}
+use Rattle.educe_body_values.specs.declared.environment.Referent.TheVariants.{This, OwnField, Bound}
+use Rattle.educe_body_values.specs.declared.evaluator.Outcome.TheVariants.{Truth as OutcomeTruth}
+use Rattle.educe_body_values.specs.declared.flow.Flow.{Flow}
+use Rattle.educe_body_values.specs.declared.flow.Flow.TheVariants.{Gives, Returns, Stuck}
+use Rattle.educe_body_values.specs.declared.flow.Thing.TheVariants.{Nothing, Part}
+use Rattle.educe_body_forms.specs.declared.form.Arm.{Arm}
+use Rattle.educe_body_forms.specs.declared.form.Form.{Form, MatchValue, IfLet}
+use Rattle.educe_body_forms.specs.declared.form.Form as form
+use Rattle.educe_body_forms.specs.declared.form.Known.TheVariants.{Truth}
+use Rattle.educe_body_forms.specs.declared.pattern.Pattern.{Pattern}
+use Rattle.educe_body_forms.specs.declared.pattern.PatternField.{PatternField}
+use Rattle.educe_body_values.specs.declared.value.FieldValue.{FieldValue}
+use Rattle.educe_body_values.specs.declared.value.Value.{Value}
+use Rattle.educe_body_forms.specs.Keys.{AreDifferent, keys_from, binding_key}
+use Rattle.educe_body_values.specs.Laws.{KeysGive}
+use Rattle.educe_body_values.specs.Matching.{variant_of, is_named, fits, has_key, bound_to, fields_bound, bound_of, bindings_of}
+use Rattle.educe_body_values.specs.Meaning.{Scene, look_up, part_of, own_value, own_field, own_fields, part_flow, local_flow, with_value, with_named, go_on, leave, within, or_nothing, known_thing, form_value, list_value, held_list, taken, if_let_value, arms_list, outcome_of}
+use Rattle.educe_body_values.specs.Scoping.{IsApart}
+use Rattle.educe_body_values.proofs.Fields.{bytes_eq-differ}
 use Rattle.educe_laws.specs.Arms.{Names, AreNames, AreArms, IsKey, IsBound, ArePatternFields, IsPattern, IsArm, IsMatch}
 use Rattle.educe_laws.specs.Blocks.{scene_of}
 use Rattle.educe_laws.specs.BodyLaws.{lawful_forms, lawful_keys}

@@ -15,17 +15,17 @@ use Rattle.educe_bound_classes.specs.Deriving.{Extends}
 use Rattle.educe_bound_classes.specs.Needs.{IsReading, AreNames, AreOwn, AlwaysSuffice, AreAlwaysMinimal}
 use Rattle.educe_bound.specs.declared.bound.Bound.{Bound}
 use Rattle.educe_bound.specs.declared.bound.Bound.TheVariants.{Auto}
-use Rattle.educe_bound.specs.declared.traits.Trait.{Trait}
-use Rattle.educe_bound.specs.declared.traits.Trait.TheVariants as trait
+use Rattle.educe_bound_traits.specs.declared.traits.Trait.{Trait}
+use Rattle.educe_bound_traits.specs.declared.traits.Trait.TheVariants as trait
 use Rattle.educe_bound.specs.Predicates.{key_of, keys_of, exceptions_of, asks_for, AreByBound}
-use Rattle.educe_bound.specs.Traits.{is_listed}
-use Rattle.educe_body.specs.declared.body.Function.{Function}
-use Rattle.educe_body.specs.declared.body.ImplItem.{ImplItem}
-use Rattle.educe_body.specs.declared.body.MarkerItem.{MarkerItem}
-use Rattle.educe_body.specs.declared.body.Item.{Item}
-use Rattle.educe_body.specs.declared.body.Item.TheVariants.{Impl, Marker}
-use Rattle.educe_body.specs.declared.comparison.Comparison.{Comparison}
-use Rattle.educe_body.specs.declared.comparison.Comparison.TheVariants.{PartialEq, PartialOrd, Ord}
+use Rattle.educe_bound_traits.specs.Traits.{is_listed}
+use Rattle.educe_body_items.specs.declared.items.Function.{Function}
+use Rattle.educe_body_items.specs.declared.items.ImplItem.{ImplItem}
+use Rattle.educe_body_items.specs.declared.items.MarkerItem.{MarkerItem}
+use Rattle.educe_body_items.specs.declared.items.Item.{Item}
+use Rattle.educe_body_items.specs.declared.items.Item.TheVariants.{Impl, Marker}
+use Rattle.educe_body_forms.specs.declared.comparison.Comparison.{Comparison}
+use Rattle.educe_body_forms.specs.declared.comparison.Comparison.TheVariants.{PartialEq, PartialOrd, Ord}
 use Rattle.educe_laws.specs.Blocks.{IsBody, function_name, IsFunction, IsImpl, IsImplBlock, IsComparisonBlock, AreNew, IsDefaultImpl, AreNone, has_check, IsEqBlockWith, AreCloneFunctions, IsCloneBlock, IsBlock, Blocks, OneEach, HasTightBounds}
 use Rattle.educe_laws.specs.Cases.{fields_in, shape_cases, cases_of}
 use Rattle.educe_laws.specs.Comparisons.{trait_of}

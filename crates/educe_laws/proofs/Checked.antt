@@ -12,9 +12,9 @@ use Rattle.educe_syntax.specs.Variant.{Variant}
 use Rattle.educe_syntax_self.specs.Selves.{have_plain_self}
 use Rattle.educe_syntax_self.specs.Visits.{MayVisitType, IsOwnField, AreOwnFields}
 use Rattle.educe_syntax_self.proofs.Lawful.{lawful_definitions}
-use Rattle.educe_bound.specs.declared.traits.Trait.TheVariants as trait
-use Rattle.educe_bound.specs.Traits.{is_listed}
-use Rattle.educe_body.specs.declared.body.Item.{Item}
+use Rattle.educe_bound_traits.specs.declared.traits.Trait.TheVariants as trait
+use Rattle.educe_bound_traits.specs.Traits.{is_listed}
+use Rattle.educe_body_items.specs.declared.items.Item.{Item}
 use Rattle.educe_laws.specs.Arms.{AreChosenFor, AreScoped}
 use Rattle.educe_laws.specs.Blocks.{has_check, IsEqBlockWith, EachEvaluates}
 use Rattle.educe_laws.specs.Built.{are_built, has_plain_type, are_plain_types, may_replace, IsBuilt}

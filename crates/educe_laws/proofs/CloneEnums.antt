@@ -7,20 +7,20 @@ use Rattle.educe_syntax.specs.DeriveInput.{DeriveInput}
 use Rattle.educe_syntax.specs.Field.{Field}
 use Rattle.educe_syntax.specs.Shape.{Shape}
 use Rattle.educe_syntax.specs.Variant.{Variant}
-use Rattle.educe_bound.specs.declared.traits.Trait.TheVariants as trait
-use Rattle.educe_body.specs.Cases.{case_of_shape}
-use Rattle.educe_body.specs.Keys.{AreDifferent}
-use Rattle.educe_body.specs.Meaning.{Scene, for_field, first_bindings, own_fields, look_up, local_flow, leave, within, form_value, list_value, outcome_of}
-use Rattle.educe_body.specs.Scoping.{IsApart}
-use Rattle.educe_body.specs.declared.answers.Answers.{Answers}
-use Rattle.educe_body.specs.declared.environment.Binding.{Binding}
-use Rattle.educe_body.specs.declared.environment.Env.{Env}
-use Rattle.educe_body.specs.declared.evaluator.Outcome.{Outcome}
-use Rattle.educe_body.specs.declared.flow.Flow.{Flow}
-use Rattle.educe_body.specs.declared.flow.Flow.TheVariants.{Gives, Returns, Stuck}
-use Rattle.educe_body.specs.declared.flow.Thing.TheVariants.{Nothing}
-use Rattle.educe_body.specs.declared.form.Form.{Form, MatchValue}
-use Rattle.educe_body.specs.declared.value.Value.{Value}
+use Rattle.educe_bound_traits.specs.declared.traits.Trait.TheVariants as trait
+use Rattle.educe_body_values.specs.Cases.{case_of_shape}
+use Rattle.educe_body_forms.specs.Keys.{AreDifferent}
+use Rattle.educe_body_values.specs.Meaning.{Scene, for_field, first_bindings, own_fields, look_up, local_flow, leave, within, form_value, list_value, outcome_of}
+use Rattle.educe_body_values.specs.Scoping.{IsApart}
+use Rattle.educe_body_values.specs.declared.answers.Answers.{Answers}
+use Rattle.educe_body_values.specs.declared.environment.Binding.{Binding}
+use Rattle.educe_body_values.specs.declared.environment.Env.{Env}
+use Rattle.educe_body_values.specs.declared.evaluator.Outcome.{Outcome}
+use Rattle.educe_body_values.specs.declared.flow.Flow.{Flow}
+use Rattle.educe_body_values.specs.declared.flow.Flow.TheVariants.{Gives, Returns, Stuck}
+use Rattle.educe_body_values.specs.declared.flow.Thing.TheVariants.{Nothing}
+use Rattle.educe_body_forms.specs.declared.form.Form.{Form, MatchValue}
+use Rattle.educe_body_values.specs.declared.value.Value.{Value}
 use Rattle.educe_laws.specs.Blocks.{scene_with}
 use Rattle.educe_laws.specs.Cases.{fields_in}
 use Rattle.educe_laws.specs.CloneBodies.{CloneNames, AreCloneNames, IsCloneArm, IsMatchOnSelf}

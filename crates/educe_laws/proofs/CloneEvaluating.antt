@@ -12,19 +12,19 @@ use Rattle.educe_syntax.specs.Refusal.{IsDefinition}
 use Rattle.educe_syntax.specs.Shape.{Shape}
 use Rattle.educe_syntax.specs.Shape.TheVariants.{Struct, Enum}
 use Rattle.educe_syntax.specs.Variant.{Variant}
-use Rattle.educe_bound.specs.declared.traits.Trait.{Trait}
-use Rattle.educe_bound.specs.declared.traits.Trait.TheVariants as trait
+use Rattle.educe_bound_traits.specs.declared.traits.Trait.{Trait}
+use Rattle.educe_bound_traits.specs.declared.traits.Trait.TheVariants as trait
 use Rattle.educe_attrs.specs.Fields.{HaveNoCauses}
-use Rattle.educe_body.specs.Meaning.{first_bindings, start, form_value, list_value, outcome_of, ended, value}
-use Rattle.educe_body.specs.declared.body.Body.{Body}
-use Rattle.educe_body.specs.declared.body.Function.{Function}
-use Rattle.educe_body.specs.declared.body.Item.{Item}
-use Rattle.educe_body.specs.declared.body.Item.TheVariants.{Marker}
-use Rattle.educe_body.specs.declared.body.MarkerItem.{MarkerItem}
-use Rattle.educe_body.specs.declared.evaluator.Outcome.TheVariants.{Made}
-use Rattle.educe_body.specs.declared.flow.Thing.TheVariants.{Nothing}
-use Rattle.educe_body.specs.declared.form.Form.{Form, MatchValue}
-use Rattle.educe_body.specs.declared.form.Form as form
+use Rattle.educe_body_values.specs.Meaning.{first_bindings, start, form_value, list_value, outcome_of, ended, value}
+use Rattle.educe_body_forms.specs.declared.body.Body.{Body}
+use Rattle.educe_body_items.specs.declared.items.Function.{Function}
+use Rattle.educe_body_items.specs.declared.items.Item.{Item}
+use Rattle.educe_body_items.specs.declared.items.Item.TheVariants.{Marker}
+use Rattle.educe_body_items.specs.declared.items.MarkerItem.{MarkerItem}
+use Rattle.educe_body_values.specs.declared.evaluator.Outcome.TheVariants.{Made}
+use Rattle.educe_body_values.specs.declared.flow.Thing.TheVariants.{Nothing}
+use Rattle.educe_body_forms.specs.declared.form.Form.{Form, MatchValue}
+use Rattle.educe_body_forms.specs.declared.form.Form as form
 use Rattle.educe_laws.specs.Blocks.{scene_of, scene_with, Clones, ClonesFrom, AreCloneFunctions, IsCloneBlock, IsCopyBlock, Evaluates, EachEvaluates}
 use Rattle.educe_laws.specs.Built.{is_struct}
 use Rattle.educe_laws.specs.Cases.{fields_in}

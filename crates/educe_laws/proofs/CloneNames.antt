@@ -8,14 +8,14 @@ use Rattle.std.proofs.lemmas.Bool.{or_parts}
 use Rattle.educe_syntax.specs.DeriveInput.{DeriveInput}
 use Rattle.educe_syntax.specs.Field.{Field}
 use Rattle.educe_syntax.specs.Naming.{field_names, AreApart}
-use Rattle.educe_bound.specs.declared.traits.Trait.TheVariants as trait
-use Rattle.educe_body.specs.Keys.{AreDifferent}
-use Rattle.educe_body.specs.Meaning.{first_bindings, innermost, look_up}
-use Rattle.educe_body.specs.Scoping.{IsApart, own_self}
-use Rattle.educe_body.specs.declared.environment.Binding.{Binding}
-use Rattle.educe_body.specs.declared.environment.Referent.{Referent}
-use Rattle.educe_body.specs.declared.environment.Referent.TheVariants.{This, Other, OwnField, Bound}
-use Rattle.educe_body.proofs.Fields.{bytes_eq-same, bytes_eq-differ}
+use Rattle.educe_bound_traits.specs.declared.traits.Trait.TheVariants as trait
+use Rattle.educe_body_forms.specs.Keys.{AreDifferent}
+use Rattle.educe_body_values.specs.Meaning.{first_bindings, innermost, look_up}
+use Rattle.educe_body_values.specs.Scoping.{IsApart, own_self}
+use Rattle.educe_body_values.specs.declared.environment.Binding.{Binding}
+use Rattle.educe_body_values.specs.declared.environment.Referent.{Referent}
+use Rattle.educe_body_values.specs.declared.environment.Referent.TheVariants.{This, Other, OwnField, Bound}
+use Rattle.educe_body_values.proofs.Fields.{bytes_eq-same, bytes_eq-differ}
 use Rattle.educe_laws.specs.Arms.{AreChosenFor, AreScoped, variables}
 use Rattle.educe_laws.specs.CloneBodies.{CloneNames, plain_clone_names, chosen_clone_names, AreCloneNames}
 use Rattle.educe_laws.specs.Settings.{Kept, kept_fields}

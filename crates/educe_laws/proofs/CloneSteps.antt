@@ -10,30 +10,30 @@ use Rattle.educe_syntax.specs.DeriveInput.{DeriveInput}
 use Rattle.educe_syntax.specs.ExprPath.{ExprPath}
 use Rattle.educe_syntax.specs.Field.{Field}
 use Rattle.educe_syntax.specs.FieldShape.{FieldShape}
-use Rattle.educe_bound.specs.declared.traits.Trait.TheVariants as trait
-use Rattle.educe_body.specs.Answering.{answer_of}
-use Rattle.educe_body.specs.Cases.{case_named}
-use Rattle.educe_body.specs.Meaning.{Scene, whole_value, for_field, set_at, with_target, call_named, call_value, go_on, if_made, with_own, local_value, assigned, assign, with_case, built, form_value, inits_list, list_value, outcome_of}
-use Rattle.educe_body.specs.Scoping.{callee_in, IsApart}
-use Rattle.educe_body.specs.declared.answers.Answers.{Answers}
-use Rattle.educe_body.specs.declared.callee.BuiltIn.TheVariants.{Clone}
-use Rattle.educe_body.specs.declared.callee.Callee.{Callee}
-use Rattle.educe_body.specs.declared.callee.Callee.TheVariants as callee
-use Rattle.educe_body.specs.declared.environment.Binding.{Binding}
-use Rattle.educe_body.specs.declared.environment.Env.{Env}
-use Rattle.educe_body.specs.declared.environment.Own.TheVariants.{Value as OwnValue}
-use Rattle.educe_body.specs.declared.environment.Referent.{Referent}
-use Rattle.educe_body.specs.declared.environment.Referent.TheVariants.{OwnField}
-use Rattle.educe_body.specs.declared.evaluator.Outcome.{Outcome}
-use Rattle.educe_body.specs.declared.evaluator.Outcome.TheVariants as outcome
-use Rattle.educe_body.specs.declared.flow.Flow.{Flow}
-use Rattle.educe_body.specs.declared.flow.Flow.TheVariants.{Gives, Stuck}
-use Rattle.educe_body.specs.declared.flow.Thing.{Thing}
-use Rattle.educe_body.specs.declared.flow.Thing.TheVariants.{Nothing, Part, Made}
-use Rattle.educe_body.specs.declared.form.Form.{Form, Call}
-use Rattle.educe_body.specs.declared.form.Init.{Init}
-use Rattle.educe_body.specs.declared.value.FieldValue.{FieldValue}
-use Rattle.educe_body.specs.declared.value.Value.{Value}
+use Rattle.educe_bound_traits.specs.declared.traits.Trait.TheVariants as trait
+use Rattle.educe_body_values.specs.Answering.{answer_of}
+use Rattle.educe_body_values.specs.Cases.{case_named}
+use Rattle.educe_body_values.specs.Meaning.{Scene, whole_value, for_field, set_at, with_target, call_named, call_value, go_on, if_made, with_own, local_value, assigned, assign, with_case, built, form_value, inits_list, list_value, outcome_of}
+use Rattle.educe_body_values.specs.Scoping.{callee_in, IsApart}
+use Rattle.educe_body_values.specs.declared.answers.Answers.{Answers}
+use Rattle.educe_body_values.specs.declared.callee.BuiltIn.TheVariants.{Clone}
+use Rattle.educe_body_values.specs.declared.callee.Callee.{Callee}
+use Rattle.educe_body_values.specs.declared.callee.Callee.TheVariants as callee
+use Rattle.educe_body_values.specs.declared.environment.Binding.{Binding}
+use Rattle.educe_body_values.specs.declared.environment.Env.{Env}
+use Rattle.educe_body_values.specs.declared.environment.Own.TheVariants.{Value as OwnValue}
+use Rattle.educe_body_values.specs.declared.environment.Referent.{Referent}
+use Rattle.educe_body_values.specs.declared.environment.Referent.TheVariants.{OwnField}
+use Rattle.educe_body_values.specs.declared.evaluator.Outcome.{Outcome}
+use Rattle.educe_body_values.specs.declared.evaluator.Outcome.TheVariants as outcome
+use Rattle.educe_body_values.specs.declared.flow.Flow.{Flow}
+use Rattle.educe_body_values.specs.declared.flow.Flow.TheVariants.{Gives, Stuck}
+use Rattle.educe_body_values.specs.declared.flow.Thing.{Thing}
+use Rattle.educe_body_values.specs.declared.flow.Thing.TheVariants.{Nothing, Part, Made}
+use Rattle.educe_body_forms.specs.declared.form.Form.{Form, Call}
+use Rattle.educe_body_forms.specs.declared.form.Init.{Init}
+use Rattle.educe_body_values.specs.declared.value.FieldValue.{FieldValue}
+use Rattle.educe_body_values.specs.declared.value.Value.{Value}
 use Rattle.educe_laws.specs.BodyLaws.{lawful_forms}
 use Rattle.educe_laws.specs.CloneBodies.{IsCloneInit, IsCloneConstruct, hands_over, assigning}
 use Rattle.educe_laws.specs.Cloning.{cloned, fields_cloned, cloned_from, fields_cloned_from, clone_from_of}

@@ -10,21 +10,21 @@ use Rattle.educe_syntax.specs.Field.{Field}
 use Rattle.educe_syntax.specs.FieldShape.{FieldShape}
 use Rattle.educe_syntax.specs.Shape.{Shape}
 use Rattle.educe_syntax.specs.Shape.TheVariants.{Struct}
-use Rattle.educe_bound.specs.declared.traits.Trait.TheVariants as trait
-use Rattle.educe_body.specs.Cases.{case_of_shape}
-use Rattle.educe_body.specs.Keys.{AreDifferent, shape_fields, keys_from, keys_of}
-use Rattle.educe_body.specs.Meaning.{Scene, for_field, first_bindings, look_up, part_flow, go_on, place_named, field_named, discarded, assign, form_value, list_value, outcome_of}
-use Rattle.educe_body.specs.Scoping.{IsApart, own_self}
-use Rattle.educe_body.specs.declared.answers.Answers.{Answers}
-use Rattle.educe_body.specs.declared.environment.Binding.{Binding}
-use Rattle.educe_body.specs.declared.environment.Referent.TheVariants.{This, Other, OwnField}
-use Rattle.educe_body.specs.declared.evaluator.Outcome.{Outcome}
-use Rattle.educe_body.specs.declared.flow.Flow.{Flow}
-use Rattle.educe_body.specs.declared.flow.Flow.TheVariants.{Gives}
-use Rattle.educe_body.specs.declared.flow.Thing.TheVariants.{Nothing, Part}
-use Rattle.educe_body.specs.declared.form.Form.{Form}
-use Rattle.educe_body.specs.declared.value.FieldValue.{FieldValue}
-use Rattle.educe_body.specs.declared.value.Value.{Value}
+use Rattle.educe_bound_traits.specs.declared.traits.Trait.TheVariants as trait
+use Rattle.educe_body_values.specs.Cases.{case_of_shape}
+use Rattle.educe_body_forms.specs.Keys.{AreDifferent, shape_fields, keys_from, keys_of}
+use Rattle.educe_body_values.specs.Meaning.{Scene, for_field, first_bindings, look_up, part_flow, go_on, place_named, field_named, discarded, assign, form_value, list_value, outcome_of}
+use Rattle.educe_body_values.specs.Scoping.{IsApart, own_self}
+use Rattle.educe_body_values.specs.declared.answers.Answers.{Answers}
+use Rattle.educe_body_values.specs.declared.environment.Binding.{Binding}
+use Rattle.educe_body_values.specs.declared.environment.Referent.TheVariants.{This, Other, OwnField}
+use Rattle.educe_body_values.specs.declared.evaluator.Outcome.{Outcome}
+use Rattle.educe_body_values.specs.declared.flow.Flow.{Flow}
+use Rattle.educe_body_values.specs.declared.flow.Flow.TheVariants.{Gives}
+use Rattle.educe_body_values.specs.declared.flow.Thing.TheVariants.{Nothing, Part}
+use Rattle.educe_body_forms.specs.declared.form.Form.{Form}
+use Rattle.educe_body_values.specs.declared.value.FieldValue.{FieldValue}
+use Rattle.educe_body_values.specs.declared.value.Value.{Value}
 use Rattle.educe_laws.specs.Blocks.{scene_of, scene_with}
 use Rattle.educe_laws.specs.BodyLaws.{lawful_forms}
 use Rattle.educe_laws.specs.CloneBodies.{CloneNames, AreCloneNames, IsCloneStruct, hands_over, IsAssignment, AreAssignments}

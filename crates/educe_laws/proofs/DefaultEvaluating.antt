@@ -5,8 +5,8 @@ use Rattle.std.specs.List.{AllByRecursion}
 use Rattle.educe_syntax.specs.DeriveInput.{DeriveInput}
 use Rattle.educe_syntax.specs.Generics.{Generics}
 use Rattle.educe_syntax.specs.Naming.{AreNamesApart}
-use Rattle.educe_bound.specs.declared.traits.Trait.TheVariants.{Default}
-use Rattle.educe_body.specs.declared.body.Item.{Item}
+use Rattle.educe_bound_traits.specs.declared.traits.Trait.TheVariants.{Default}
+use Rattle.educe_body_items.specs.declared.items.Item.{Item}
 use Rattle.educe_laws.specs.Blocks.{AreNew, IsDefaultBlock, EachEvaluates}
 use Rattle.educe_laws.specs.DefaultLaws.{DefaultLaws}
 use Rattle.educe_laws.specs.Making.{IsDefaultBody, has_new, IsNewBody, MakesNew}

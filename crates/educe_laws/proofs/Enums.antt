@@ -11,21 +11,21 @@ use Rattle.std.proofs.lemmas.Map.Lookups.{exact_signed}
 use Rattle.std.proofs.lemmas.Option.{none-some}
 use Rattle.educe_syntax.specs.DeriveInput.{DeriveInput}
 use Rattle.educe_syntax.specs.Variant.{Variant}
-use Rattle.educe_body.specs.Meaning.{Scene, form_value, list_value, go_on, leave, start, some_of, order_thing, order_match, held_list, outcome_of, ended}
-use Rattle.educe_body.specs.declared.answers.Answers.{Answers}
-use Rattle.educe_body.specs.declared.body.Body.{Body}
-use Rattle.educe_bound.specs.declared.traits.Trait.TheVariants as trait
-use Rattle.educe_body.specs.declared.comparison.Comparison.{Comparison}
-use Rattle.educe_body.specs.declared.comparison.Comparison.TheVariants.{PartialEq, PartialOrd, Ord}
-use Rattle.educe_body.specs.declared.environment.Binding.{Binding}
-use Rattle.educe_body.specs.declared.environment.Env.{Env}
-use Rattle.educe_body.specs.declared.evaluator.Outcome.TheVariants.{Truth as OutcomeTruth}
-use Rattle.educe_body.specs.declared.flow.Flow.{Flow}
-use Rattle.educe_body.specs.declared.flow.Flow.TheVariants.{Gives, Returns, Stuck}
-use Rattle.educe_body.specs.declared.flow.Thing.TheVariants.{Nothing, Order}
-use Rattle.educe_body.specs.declared.form.Form.{Form}
-use Rattle.educe_body.specs.declared.form.Known.{Known}
-use Rattle.educe_body.specs.declared.value.Value.{Value}
+use Rattle.educe_body_values.specs.Meaning.{Scene, form_value, list_value, go_on, leave, start, some_of, order_thing, order_match, held_list, outcome_of, ended}
+use Rattle.educe_body_values.specs.declared.answers.Answers.{Answers}
+use Rattle.educe_body_forms.specs.declared.body.Body.{Body}
+use Rattle.educe_bound_traits.specs.declared.traits.Trait.TheVariants as trait
+use Rattle.educe_body_forms.specs.declared.comparison.Comparison.{Comparison}
+use Rattle.educe_body_forms.specs.declared.comparison.Comparison.TheVariants.{PartialEq, PartialOrd, Ord}
+use Rattle.educe_body_values.specs.declared.environment.Binding.{Binding}
+use Rattle.educe_body_values.specs.declared.environment.Env.{Env}
+use Rattle.educe_body_values.specs.declared.evaluator.Outcome.TheVariants.{Truth as OutcomeTruth}
+use Rattle.educe_body_values.specs.declared.flow.Flow.{Flow}
+use Rattle.educe_body_values.specs.declared.flow.Flow.TheVariants.{Gives, Returns, Stuck}
+use Rattle.educe_body_values.specs.declared.flow.Thing.TheVariants.{Nothing, Order}
+use Rattle.educe_body_forms.specs.declared.form.Form.{Form}
+use Rattle.educe_body_forms.specs.declared.form.Known.{Known}
+use Rattle.educe_body_values.specs.declared.value.Value.{Value}
 use Rattle.educe_laws.specs.Arms.{Names, AreNames, IsMatch, IsKeyComparison, in_answer, is_partial, IsDecision, has_brackets, is_unit, are_units, IsKeyed, IsEnumBlock}
 use Rattle.educe_laws.specs.Blocks.{IsEnumBody, Compares, scene_of}
 use Rattle.educe_laws.specs.BodyLaws.{lawful_forms}

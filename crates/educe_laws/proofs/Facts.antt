@@ -8,10 +8,10 @@ use Rattle.educe_syntax.specs.Keywords.{unraw}
 use Rattle.educe_syntax.specs.Naming.{AreApart, field_names, variant_names}
 use Rattle.educe_syntax.specs.Shape.TheVariants.{Enum}
 use Rattle.educe_syntax.specs.Variant.{Variant}
-use Rattle.educe_bound.specs.declared.traits.Trait.{Trait}
-use Rattle.educe_body.specs.declared.environment.Binding.{Binding}
-use Rattle.educe_body.specs.declared.environment.Referent.TheVariants.{This, Other}
-use Rattle.educe_body.specs.Meaning.{look_up}
+use Rattle.educe_bound_traits.specs.declared.traits.Trait.{Trait}
+use Rattle.educe_body_values.specs.declared.environment.Binding.{Binding}
+use Rattle.educe_body_values.specs.declared.environment.Referent.TheVariants.{This, Other}
+use Rattle.educe_body_values.specs.Meaning.{look_up}
 use Rattle.educe_laws.specs.Arms.{Names, plain_names, chosen_names}
 use Rattle.educe_laws.specs.Cases.{fields_in}
 use Rattle.educe_laws.proofs.Elements.{In}

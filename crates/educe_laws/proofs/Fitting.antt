@@ -11,15 +11,15 @@ use Rattle.educe_syntax.specs.Refusal.{IsDefinition}
 use Rattle.educe_syntax.specs.Shape.{Shape}
 use Rattle.educe_syntax.specs.Shape.TheVariants.{Struct, Enum}
 use Rattle.educe_syntax.specs.Variant.{Variant}
-use Rattle.educe_bound.specs.declared.traits.Trait.{Trait}
+use Rattle.educe_bound_traits.specs.declared.traits.Trait.{Trait}
 use Rattle.educe_attrs.specs.Fields.{HaveNoCauses}
-use Rattle.educe_body.specs.declared.body.Body.{Body}
-use Rattle.educe_body.specs.declared.body.Function.{Function}
-use Rattle.educe_body.specs.declared.body.ImplItem.{ImplItem}
-use Rattle.educe_body.specs.declared.body.Item.{Item}
-use Rattle.educe_body.specs.declared.body.Item.TheVariants.{Impl}
-use Rattle.educe_body.specs.Keys.{AreDifferent, fields_of, keys_of}
-use Rattle.educe_body.specs.Keys as keys
+use Rattle.educe_body_forms.specs.declared.body.Body.{Body}
+use Rattle.educe_body_items.specs.declared.items.Function.{Function}
+use Rattle.educe_body_items.specs.declared.items.ImplItem.{ImplItem}
+use Rattle.educe_body_items.specs.declared.items.Item.{Item}
+use Rattle.educe_body_items.specs.declared.items.Item.TheVariants.{Impl}
+use Rattle.educe_body_forms.specs.Keys.{AreDifferent, fields_of, keys_of}
+use Rattle.educe_body_forms.specs.Keys as keys
 use Rattle.educe_laws.specs.Blocks.{IsFunction, IsImpl, IsImplBlock, AreNone, Evaluates, EachEvaluates}
 use Rattle.educe_laws.specs.BodyLaws.{lawful_keys}
 use Rattle.educe_laws.specs.Cases.{fields_in, shape_cases}

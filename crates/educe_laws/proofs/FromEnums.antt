@@ -7,29 +7,29 @@ use Rattle.std.proofs.lemmas.Option.{same_Some}
 use Rattle.educe_syntax.specs.DeriveInput.{DeriveInput}
 use Rattle.educe_syntax.specs.Field.{Field}
 use Rattle.educe_syntax.specs.Variant.{Variant}
-use Rattle.educe_bound.specs.declared.traits.Trait.TheVariants as trait
-use Rattle.educe_body.specs.Answering.{answer_of}
-use Rattle.educe_body.specs.Keys.{AreDifferent}
-use Rattle.educe_body.specs.Matching.{variant_of, fits}
-use Rattle.educe_body.specs.Meaning.{Scene, own_fields, whole_value, look_up, local_flow, with_named, go_on, within, or_nothing, with_own, if_made, assigned, assign, form_value, list_value, held_list, taken, if_let_value, outcome_of}
-use Rattle.educe_body.specs.Scoping.{IsApart}
-use Rattle.educe_body.specs.declared.answers.Answers.{Answers}
-use Rattle.educe_body.specs.declared.callee.BuiltIn.TheVariants.{Clone}
-use Rattle.educe_body.specs.declared.callee.Callee.TheVariants as callee
-use Rattle.educe_body.specs.declared.environment.Binding.{Binding}
-use Rattle.educe_body.specs.declared.environment.Env.{Env}
-use Rattle.educe_body.specs.declared.environment.Own.TheVariants.{Whole as OwnWhole}
-use Rattle.educe_body.specs.declared.environment.Referent.{Referent}
-use Rattle.educe_body.specs.declared.environment.Referent.TheVariants.{This, Bound}
-use Rattle.educe_body.specs.declared.evaluator.Outcome.{Outcome}
-use Rattle.educe_body.specs.declared.evaluator.Outcome.TheVariants.{Made, Whole}
-use Rattle.educe_body.specs.declared.flow.Flow.{Flow}
-use Rattle.educe_body.specs.declared.flow.Flow.TheVariants.{Gives}
-use Rattle.educe_body.specs.declared.flow.Thing.TheVariants.{Nothing, Part}
-use Rattle.educe_body.specs.declared.form.Arm.{Arm}
-use Rattle.educe_body.specs.declared.form.Form.{Form, Local, MatchValue, IfLet}
-use Rattle.educe_body.specs.declared.value.FieldValue.{FieldValue}
-use Rattle.educe_body.specs.declared.value.Value.{Value}
+use Rattle.educe_bound_traits.specs.declared.traits.Trait.TheVariants as trait
+use Rattle.educe_body_values.specs.Answering.{answer_of}
+use Rattle.educe_body_forms.specs.Keys.{AreDifferent}
+use Rattle.educe_body_values.specs.Matching.{variant_of, fits}
+use Rattle.educe_body_values.specs.Meaning.{Scene, own_fields, whole_value, look_up, local_flow, with_named, go_on, within, or_nothing, with_own, if_made, assigned, assign, form_value, list_value, held_list, taken, if_let_value, outcome_of}
+use Rattle.educe_body_values.specs.Scoping.{IsApart}
+use Rattle.educe_body_values.specs.declared.answers.Answers.{Answers}
+use Rattle.educe_body_values.specs.declared.callee.BuiltIn.TheVariants.{Clone}
+use Rattle.educe_body_values.specs.declared.callee.Callee.TheVariants as callee
+use Rattle.educe_body_values.specs.declared.environment.Binding.{Binding}
+use Rattle.educe_body_values.specs.declared.environment.Env.{Env}
+use Rattle.educe_body_values.specs.declared.environment.Own.TheVariants.{Whole as OwnWhole}
+use Rattle.educe_body_values.specs.declared.environment.Referent.{Referent}
+use Rattle.educe_body_values.specs.declared.environment.Referent.TheVariants.{This, Bound}
+use Rattle.educe_body_values.specs.declared.evaluator.Outcome.{Outcome}
+use Rattle.educe_body_values.specs.declared.evaluator.Outcome.TheVariants.{Made, Whole}
+use Rattle.educe_body_values.specs.declared.flow.Flow.{Flow}
+use Rattle.educe_body_values.specs.declared.flow.Flow.TheVariants.{Gives}
+use Rattle.educe_body_values.specs.declared.flow.Thing.TheVariants.{Nothing, Part}
+use Rattle.educe_body_forms.specs.declared.form.Arm.{Arm}
+use Rattle.educe_body_forms.specs.declared.form.Form.{Form, Local, MatchValue, IfLet}
+use Rattle.educe_body_values.specs.declared.value.FieldValue.{FieldValue}
+use Rattle.educe_body_values.specs.declared.value.Value.{Value}
 use Rattle.educe_laws.specs.Blocks.{scene_of}
 use Rattle.educe_laws.specs.BodyLaws.{lawful_forms}
 use Rattle.educe_laws.specs.Cases.{fields_in}

@@ -7,20 +7,20 @@ use Rattle.educe_syntax.specs.Field.{Field}
 use Rattle.educe_syntax.specs.Naming.{AreApart, field_names}
 use Rattle.educe_syntax.specs.Shape.{Shape}
 use Rattle.educe_syntax.specs.Variant.{Variant}
-use Rattle.educe_bound.specs.declared.traits.Trait.TheVariants as trait
-use Rattle.educe_body.specs.Meaning.{Scene, look_up, own_fields, local_flow, go_on, leave, within, form_value, list_value, parts_of}
-use Rattle.educe_body.specs.Scoping.{IsApart}
-use Rattle.educe_body.specs.declared.answers.Answers.{Answers}
-use Rattle.educe_body.specs.declared.environment.Binding.{Binding}
-use Rattle.educe_body.specs.declared.environment.Own.{Own}
-use Rattle.educe_body.specs.declared.environment.Own.TheVariants.{Value as OwnValue}
-use Rattle.educe_body.specs.declared.environment.Referent.TheVariants.{Inert}
-use Rattle.educe_body.specs.declared.evaluator.Outcome.TheVariants.{Parts}
-use Rattle.educe_body.specs.declared.flow.Flow.{Flow}
-use Rattle.educe_body.specs.declared.flow.Flow.TheVariants.{Gives}
-use Rattle.educe_body.specs.declared.flow.Thing.TheVariants.{Nothing}
-use Rattle.educe_body.specs.declared.form.Form.{Form, MatchValue}
-use Rattle.educe_body.specs.declared.value.Value.{Value}
+use Rattle.educe_bound_traits.specs.declared.traits.Trait.TheVariants as trait
+use Rattle.educe_body_values.specs.Meaning.{Scene, look_up, own_fields, local_flow, go_on, leave, within, form_value, list_value, parts_of}
+use Rattle.educe_body_values.specs.Scoping.{IsApart}
+use Rattle.educe_body_values.specs.declared.answers.Answers.{Answers}
+use Rattle.educe_body_values.specs.declared.environment.Binding.{Binding}
+use Rattle.educe_body_values.specs.declared.environment.Own.{Own}
+use Rattle.educe_body_values.specs.declared.environment.Own.TheVariants.{Value as OwnValue}
+use Rattle.educe_body_values.specs.declared.environment.Referent.TheVariants.{Inert}
+use Rattle.educe_body_values.specs.declared.evaluator.Outcome.TheVariants.{Parts}
+use Rattle.educe_body_values.specs.declared.flow.Flow.{Flow}
+use Rattle.educe_body_values.specs.declared.flow.Flow.TheVariants.{Gives}
+use Rattle.educe_body_values.specs.declared.flow.Thing.TheVariants.{Nothing}
+use Rattle.educe_body_forms.specs.declared.form.Form.{Form, MatchValue}
+use Rattle.educe_body_values.specs.declared.value.Value.{Value}
 use Rattle.educe_laws.specs.Arms.{AreScoped, variables}
 use Rattle.educe_laws.specs.Blocks.{scene_with}
 use Rattle.educe_laws.specs.Cases.{fields_in}

@@ -6,16 +6,16 @@ use Rattle.educe_syntax.specs.Few.{all_fields}
 use Rattle.educe_syntax.specs.Refusal.{IsDefinition}
 use Rattle.educe_syntax.specs.Shape.{Shape}
 use Rattle.educe_syntax.specs.Shape.TheVariants.{Struct, Enum}
-use Rattle.educe_bound.specs.declared.traits.Trait.TheVariants as trait
+use Rattle.educe_bound_traits.specs.declared.traits.Trait.TheVariants as trait
 use Rattle.educe_attrs.specs.Fields.{HaveNoCauses}
-use Rattle.educe_body.specs.Meaning.{list_value, parts_of}
-use Rattle.educe_body.specs.declared.answers.Answers.{Answers}
-use Rattle.educe_body.specs.declared.body.Body.{Body}
-use Rattle.educe_body.specs.declared.environment.Own.TheVariants.{Value as OwnValue}
-use Rattle.educe_body.specs.declared.evaluator.Outcome.TheVariants.{Parts}
-use Rattle.educe_body.specs.declared.flow.Thing.TheVariants.{Nothing}
-use Rattle.educe_body.specs.declared.form.Form.{Form}
-use Rattle.educe_body.specs.declared.value.Value.{Value}
+use Rattle.educe_body_values.specs.Meaning.{list_value, parts_of}
+use Rattle.educe_body_values.specs.declared.answers.Answers.{Answers}
+use Rattle.educe_body_forms.specs.declared.body.Body.{Body}
+use Rattle.educe_body_values.specs.declared.environment.Own.TheVariants.{Value as OwnValue}
+use Rattle.educe_body_values.specs.declared.evaluator.Outcome.TheVariants.{Parts}
+use Rattle.educe_body_values.specs.declared.flow.Thing.TheVariants.{Nothing}
+use Rattle.educe_body_forms.specs.declared.form.Form.{Form}
+use Rattle.educe_body_values.specs.declared.value.Value.{Value}
 use Rattle.educe_laws.specs.Blocks.{Hashes, scene_with}
 use Rattle.educe_laws.specs.HashBodies.{HashNames, AreHashNames, IsHashForms, IsHashBody}
 use Rattle.educe_laws.specs.HashLaws.{HashLaws}

@@ -6,23 +6,23 @@ use Rattle.std.proofs.lemmas.List.{append_assoc, append-nil}
 use Rattle.std.proofs.lemmas.Option.{none-some}
 use Rattle.educe_tokens.specs.declared.token.Token.{Token}
 use Rattle.educe_syntax.specs.Ident.{Ident}
-use Rattle.educe_body.specs.Answering.{answer_of}
-use Rattle.educe_body.specs.Meaning.{Scene, look_up, local_flow, go_on, answer_flow, call_named, hash_part, form_value, list_value}
-use Rattle.educe_body.specs.Scoping.{IsApart}
-use Rattle.educe_body.specs.declared.answers.Answer.{Answer}
-use Rattle.educe_body.specs.declared.answers.Answer.TheVariants.{Part as AnswerPart}
-use Rattle.educe_body.specs.declared.callee.BuiltIn.TheVariants.{Hash}
-use Rattle.educe_body.specs.declared.callee.Callee.{Callee}
-use Rattle.educe_body.specs.declared.environment.Binding.{Binding}
-use Rattle.educe_body.specs.declared.environment.Env.{Env}
-use Rattle.educe_body.specs.declared.environment.Own.{Own}
-use Rattle.educe_body.specs.declared.environment.Referent.TheVariants.{Inert as InertReferent}
-use Rattle.educe_body.specs.declared.flow.Flow.{Flow}
-use Rattle.educe_body.specs.declared.flow.Flow.TheVariants.{Gives}
-use Rattle.educe_body.specs.declared.flow.Thing.{Thing}
-use Rattle.educe_body.specs.declared.flow.Thing.TheVariants.{Nothing, Part, Position, Inert}
-use Rattle.educe_body.specs.declared.form.Form.{Form, Local, Call}
-use Rattle.educe_body.specs.declared.form.Form as form
+use Rattle.educe_body_values.specs.Answering.{answer_of}
+use Rattle.educe_body_values.specs.Meaning.{Scene, look_up, local_flow, go_on, answer_flow, call_named, hash_part, form_value, list_value}
+use Rattle.educe_body_values.specs.Scoping.{IsApart}
+use Rattle.educe_body_values.specs.declared.answers.Answer.{Answer}
+use Rattle.educe_body_values.specs.declared.answers.Answer.TheVariants.{Part as AnswerPart}
+use Rattle.educe_body_values.specs.declared.callee.BuiltIn.TheVariants.{Hash}
+use Rattle.educe_body_values.specs.declared.callee.Callee.{Callee}
+use Rattle.educe_body_values.specs.declared.environment.Binding.{Binding}
+use Rattle.educe_body_values.specs.declared.environment.Env.{Env}
+use Rattle.educe_body_values.specs.declared.environment.Own.{Own}
+use Rattle.educe_body_values.specs.declared.environment.Referent.TheVariants.{Inert as InertReferent}
+use Rattle.educe_body_values.specs.declared.flow.Flow.{Flow}
+use Rattle.educe_body_values.specs.declared.flow.Flow.TheVariants.{Gives}
+use Rattle.educe_body_values.specs.declared.flow.Thing.{Thing}
+use Rattle.educe_body_values.specs.declared.flow.Thing.TheVariants.{Nothing, Part, Position, Inert}
+use Rattle.educe_body_forms.specs.declared.form.Form.{Form, Local, Call}
+use Rattle.educe_body_forms.specs.declared.form.Form as form
 use Rattle.educe_laws.specs.BodyLaws.{lawful_forms}
 use Rattle.educe_laws.specs.Comparing.{asked}
 use Rattle.educe_laws.specs.HashBodies.{Feeds, AreHashSteps, IsPlaceStep}

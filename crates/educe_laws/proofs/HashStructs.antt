@@ -9,23 +9,23 @@ use Rattle.educe_syntax.specs.Field.{Field}
 use Rattle.educe_syntax.specs.FieldShape.{FieldShape}
 use Rattle.educe_syntax.specs.Shape.{Shape}
 use Rattle.educe_syntax.specs.Shape.TheVariants.{Struct}
-use Rattle.educe_bound.specs.declared.traits.Trait.TheVariants as trait
-use Rattle.educe_body.specs.Keys.{AreDifferent, keys_of}
-use Rattle.educe_body.specs.Meaning.{Scene, start, first_own, innermost, look_up, part_flow, list_value, parts_of, ended, value}
+use Rattle.educe_bound_traits.specs.declared.traits.Trait.TheVariants as trait
+use Rattle.educe_body_forms.specs.Keys.{AreDifferent, keys_of}
+use Rattle.educe_body_values.specs.Meaning.{Scene, start, first_own, innermost, look_up, part_flow, list_value, parts_of, ended, value}
 use Rattle.educe_body.specs.NameLaws.{lawful_names}
-use Rattle.educe_body.specs.Scoping.{IsApart}
-use Rattle.educe_body.specs.declared.answers.Answers.{Answers}
-use Rattle.educe_body.specs.declared.body.Body.{Body}
-use Rattle.educe_body.specs.declared.environment.Binding.{Binding}
-use Rattle.educe_body.specs.declared.environment.Own.{Own}
-use Rattle.educe_body.specs.declared.environment.Own.TheVariants.{Value as OwnValue}
-use Rattle.educe_body.specs.declared.environment.Referent.{Referent}
-use Rattle.educe_body.specs.declared.environment.Referent.TheVariants.{This, Inert}
-use Rattle.educe_body.specs.declared.evaluator.Outcome.TheVariants.{Parts}
-use Rattle.educe_body.specs.declared.flow.Thing.TheVariants.{Nothing}
-use Rattle.educe_body.specs.declared.form.Form.{Form}
-use Rattle.educe_body.specs.declared.value.Value.{Value}
-use Rattle.educe_body.proofs.Fields.{bytes_eq-same, bytes_eq-differ}
+use Rattle.educe_body_values.specs.Scoping.{IsApart}
+use Rattle.educe_body_values.specs.declared.answers.Answers.{Answers}
+use Rattle.educe_body_forms.specs.declared.body.Body.{Body}
+use Rattle.educe_body_values.specs.declared.environment.Binding.{Binding}
+use Rattle.educe_body_values.specs.declared.environment.Own.{Own}
+use Rattle.educe_body_values.specs.declared.environment.Own.TheVariants.{Value as OwnValue}
+use Rattle.educe_body_values.specs.declared.environment.Referent.{Referent}
+use Rattle.educe_body_values.specs.declared.environment.Referent.TheVariants.{This, Inert}
+use Rattle.educe_body_values.specs.declared.evaluator.Outcome.TheVariants.{Parts}
+use Rattle.educe_body_values.specs.declared.flow.Thing.TheVariants.{Nothing}
+use Rattle.educe_body_forms.specs.declared.form.Form.{Form}
+use Rattle.educe_body_values.specs.declared.value.Value.{Value}
+use Rattle.educe_body_values.proofs.Fields.{bytes_eq-same, bytes_eq-differ}
 use Rattle.educe_laws.specs.Arms.{AreScoped}
 use Rattle.educe_laws.specs.Blocks.{scene_with}
 use Rattle.educe_laws.specs.HashBodies.{HashNames, plain_params, chosen_params, AreHashNames, AreHashParams, IsHashStructBlock}

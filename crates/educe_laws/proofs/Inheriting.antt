@@ -5,11 +5,11 @@ use Rattle.std.specs.List.{AllByRecursion, AllZip}
 use Rattle.std.proofs.lemmas.Bool.{true≢false, false≢true, and_parts, or_cases, or_parts}
 use Rattle.std.proofs.lemmas.Map.Views.{any-filter_same}
 use Rattle.educe_syntax.specs.DeriveInput.{DeriveInput}
-use Rattle.educe_bound.specs.declared.traits.Trait.{Trait}
-use Rattle.educe_bound.specs.declared.traits.Trait.TheVariants as trait
+use Rattle.educe_bound_traits.specs.declared.traits.Trait.{Trait}
+use Rattle.educe_bound_traits.specs.declared.traits.Trait.TheVariants as trait
 use Rattle.educe_bound.specs.Predicates.{Key}
-use Rattle.educe_bound.specs.Traits.{is_listed, same_trait}
-use Rattle.educe_bound.proofs.Apart.{same_is}
+use Rattle.educe_bound_traits.specs.Traits.{is_listed, same_trait}
+use Rattle.educe_bound_traits.proofs.Apart.{same_is}
 use Rattle.educe_laws.specs.Built.{built_traits, are_built, may_replace, IsBuilt}
 use Rattle.educe_laws.specs.Handlers.{traits_before, handled_of, Noted, IsNoted, AreNoted, noted_of, inherited_from}
 use Rattle.educe_laws.specs.Headers.{AreOf, AreInherited, from_none, unlisted, from_listed, prerequisites}

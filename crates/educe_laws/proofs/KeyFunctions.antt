@@ -27,28 +27,28 @@ use Rattle.educe_discriminants.specs.Ranges.{Fits, IsInRange, wrapped_to, wrappe
 use Rattle.educe_discriminants.specs.Types.{width, is_signed}
 use Rattle.educe_discriminants.specs.declared.discriminant_type.DiscriminantType.{DiscriminantType}
 use Rattle.educe_attrs.specs.Represented.{IsDiscriminantType}
-use Rattle.educe_body.specs.Constants.{or_number, number_of, number_in, behind, constant_number, parameter, bare_number, arms_number}
-use Rattle.educe_body.specs.Matching.{variant_of, fits}
-use Rattle.educe_body.specs.Meaning.{Scene, innermost, look_up, number_for, key_of, number_flow, form_value, call_named}
+use Rattle.educe_body_values.specs.Constants.{or_number, number_of, number_in, behind, constant_number, parameter, bare_number, arms_number}
+use Rattle.educe_body_values.specs.Matching.{variant_of, fits}
+use Rattle.educe_body_values.specs.Meaning.{Scene, innermost, look_up, number_for, key_of, number_flow, form_value, call_named}
 use Rattle.educe_body.specs.NameLaws.{lawful_names}
-use Rattle.educe_body.specs.Scoping.{is_ident, is_hidden, is_bound, names_bound, IsApart}
-use Rattle.educe_body.specs.declared.answers.Answers.{Answers}
-use Rattle.educe_body.specs.declared.callee.BuiltIn.TheVariants.{Cmp}
-use Rattle.educe_body.specs.declared.callee.Callee.{Callee}
-use Rattle.educe_bound.specs.declared.traits.Trait.{Trait}
-use Rattle.educe_body.specs.declared.environment.Binding.{Binding}
-use Rattle.educe_body.specs.declared.environment.Env.{Env}
-use Rattle.educe_body.specs.declared.environment.Referent.{Referent}
-use Rattle.educe_body.specs.declared.environment.Referent.TheVariants.{This, Other, Keys}
-use Rattle.educe_body.specs.declared.flow.Flow.TheVariants.{Gives}
-use Rattle.educe_body.specs.declared.flow.Thing.TheVariants.{Nothing, Order, Number}
-use Rattle.educe_body.specs.declared.form.Form.{Form}
-use Rattle.educe_body.specs.declared.key_function.Constant.{Constant}
-use Rattle.educe_body.specs.declared.key_function.Distance.{Distance}
-use Rattle.educe_body.specs.declared.key_function.KeyArm.{KeyArm}
-use Rattle.educe_body.specs.declared.pattern.PatternField.{PatternField}
-use Rattle.educe_body.specs.declared.value.Value.{Value}
-use Rattle.educe_body.proofs.Fields.{bytes_eq-same, bytes_eq-differ}
+use Rattle.educe_body_values.specs.Scoping.{is_ident, is_hidden, is_bound, names_bound, IsApart}
+use Rattle.educe_body_values.specs.declared.answers.Answers.{Answers}
+use Rattle.educe_body_values.specs.declared.callee.BuiltIn.TheVariants.{Cmp}
+use Rattle.educe_body_values.specs.declared.callee.Callee.{Callee}
+use Rattle.educe_bound_traits.specs.declared.traits.Trait.{Trait}
+use Rattle.educe_body_values.specs.declared.environment.Binding.{Binding}
+use Rattle.educe_body_values.specs.declared.environment.Env.{Env}
+use Rattle.educe_body_values.specs.declared.environment.Referent.{Referent}
+use Rattle.educe_body_values.specs.declared.environment.Referent.TheVariants.{This, Other, Keys}
+use Rattle.educe_body_values.specs.declared.flow.Flow.TheVariants.{Gives}
+use Rattle.educe_body_values.specs.declared.flow.Thing.TheVariants.{Nothing, Order, Number}
+use Rattle.educe_body_forms.specs.declared.form.Form.{Form}
+use Rattle.educe_body_forms.specs.declared.key_function.Constant.{Constant}
+use Rattle.educe_body_forms.specs.declared.key_function.Distance.{Distance}
+use Rattle.educe_body_forms.specs.declared.key_function.KeyArm.{KeyArm}
+use Rattle.educe_body_forms.specs.declared.pattern.PatternField.{PatternField}
+use Rattle.educe_body_values.specs.declared.value.Value.{Value}
+use Rattle.educe_body_values.proofs.Fields.{bytes_eq-same, bytes_eq-differ}
 use Rattle.educe_laws.specs.Arms.{Names, plain_names, chosen_names, AreNames, IsBarePattern, IsBase, IsDistance, IsConstant, AreConstants, AreNumbers, IsKeyArm, IsKeyFunction, IsKeyOf, IsKeyComparison}
 use Rattle.educe_laws.specs.Blocks.{scene_of}
 use Rattle.educe_laws.specs.BodyLaws.{lawful_forms, lawful_scopes}

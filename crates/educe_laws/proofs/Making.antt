@@ -26,28 +26,28 @@ use Rattle.educe_syntax.specs.Shape.TheVariants.{Struct, Enum}
 use Rattle.educe_syntax.specs.TokenLaws.{lawful_copies}
 use Rattle.educe_syntax.specs.Variant.{Variant}
 use Rattle.educe_attrs.specs.Adjusted.{adjusted}
-use Rattle.educe_body.specs.declared.answers.Answer.{Answer}
-use Rattle.educe_body.specs.declared.answers.Answer.TheVariants as answer
-use Rattle.educe_body.specs.declared.answers.Answers.{Answers}
-use Rattle.educe_body.specs.declared.body.Body.{Body}
-use Rattle.educe_body.specs.declared.callee.Callee.{Callee}
-use Rattle.educe_body.specs.declared.environment.Env.{Env}
-use Rattle.educe_body.specs.declared.evaluator.Outcome.{Outcome}
-use Rattle.educe_body.specs.declared.evaluator.Outcome.TheVariants as outcome
-use Rattle.educe_body.specs.declared.flow.Flow.{Flow}
-use Rattle.educe_body.specs.declared.flow.Flow.TheVariants.{Gives, Returns, Stuck}
-use Rattle.educe_body.specs.declared.flow.Thing.TheVariants.{Nothing, Made}
-use Rattle.educe_body.specs.declared.form.Form.{Form, Pasted}
-use Rattle.educe_body.specs.declared.form.Init.{Init}
-use Rattle.educe_body.specs.declared.value.FieldValue.{FieldValue}
-use Rattle.educe_body.specs.declared.value.Value.{Value}
-use Rattle.educe_body.specs.Answering.{answer_of}
-use Rattle.educe_body.specs.Callees.{spellings}
-use Rattle.educe_body.specs.Cases.{case_at, variant_named, case_of_shape, case_named}
-use Rattle.educe_body.specs.Meaning.{Scene, first_bindings, start, go_on, answer_flow, call_named, with_case, built, if_made, for_field, form_value, inits_list, list_value, outcome_of, ended, value}
-use Rattle.educe_body.specs.Scoping.{is_ident, is_hidden, is_bound, names_bound}
-use Rattle.educe_body.specs.Types.{type_spellings, default_call, text_callee}
-use Rattle.educe_body.proofs.Fields.{bytes_eq-differ}
+use Rattle.educe_body_values.specs.declared.answers.Answer.{Answer}
+use Rattle.educe_body_values.specs.declared.answers.Answer.TheVariants as answer
+use Rattle.educe_body_values.specs.declared.answers.Answers.{Answers}
+use Rattle.educe_body_forms.specs.declared.body.Body.{Body}
+use Rattle.educe_body_values.specs.declared.callee.Callee.{Callee}
+use Rattle.educe_body_values.specs.declared.environment.Env.{Env}
+use Rattle.educe_body_values.specs.declared.evaluator.Outcome.{Outcome}
+use Rattle.educe_body_values.specs.declared.evaluator.Outcome.TheVariants as outcome
+use Rattle.educe_body_values.specs.declared.flow.Flow.{Flow}
+use Rattle.educe_body_values.specs.declared.flow.Flow.TheVariants.{Gives, Returns, Stuck}
+use Rattle.educe_body_values.specs.declared.flow.Thing.TheVariants.{Nothing, Made}
+use Rattle.educe_body_forms.specs.declared.form.Form.{Form, Pasted}
+use Rattle.educe_body_forms.specs.declared.form.Init.{Init}
+use Rattle.educe_body_values.specs.declared.value.FieldValue.{FieldValue}
+use Rattle.educe_body_values.specs.declared.value.Value.{Value}
+use Rattle.educe_body_values.specs.Answering.{answer_of}
+use Rattle.educe_body_values.specs.Callees.{spellings}
+use Rattle.educe_body_values.specs.Cases.{case_at, variant_named, case_of_shape, case_named}
+use Rattle.educe_body_values.specs.Meaning.{Scene, first_bindings, start, go_on, answer_flow, call_named, with_case, built, if_made, for_field, form_value, inits_list, list_value, outcome_of, ended, value}
+use Rattle.educe_body_values.specs.Scoping.{is_ident, is_hidden, is_bound, names_bound}
+use Rattle.educe_body_values.specs.Types.{type_spellings, default_call, text_callee}
+use Rattle.educe_body_values.proofs.Fields.{bytes_eq-differ}
 use Rattle.educe_laws.specs.BodyLaws.{lawful_forms}
 use Rattle.educe_laws.specs.Cases.{fields_in}
 use Rattle.educe_laws.specs.Defaults.{Choice, by_value, of_struct, of_variant, field_value}

@@ -8,22 +8,22 @@ use Rattle.std.proofs.lemmas.Bool.{false≢true, eq-eqb}
 use Rattle.std.proofs.lemmas.List.Sorted.{IsPermutation-map}
 use Rattle.educe_tokens.specs.declared.token.Token.{Token}
 use Rattle.educe_syntax.specs.DeriveInput.{DeriveInput}
-use Rattle.educe_bound.specs.declared.traits.Trait.{Trait}
-use Rattle.educe_body.specs.Meaning.{Scene, list_value, go_on, known_thing, outcome_of, outcome_of_thing}
-use Rattle.educe_body.specs.Scoping.{IsApart}
-use Rattle.educe_body.specs.declared.comparison.Comparison.{Comparison}
-use Rattle.educe_body.specs.declared.comparison.Comparison.TheVariants.{PartialEq, PartialOrd, Ord}
-use Rattle.educe_body.specs.declared.answers.Answer.{Answer}
-use Rattle.educe_body.specs.declared.answers.Answer.TheVariants.{Truth as AnswerTruth}
-use Rattle.educe_body.specs.declared.answers.Answers.{Answers}
-use Rattle.educe_body.specs.declared.environment.Env.{Env}
-use Rattle.educe_body.specs.declared.environment.Own.{Own}
-use Rattle.educe_body.specs.declared.value.Value.{Value}
-use Rattle.educe_body.specs.declared.form.Form as form
-use Rattle.educe_body.specs.declared.evaluator.Outcome.{Outcome}
-use Rattle.educe_body.specs.declared.evaluator.Outcome.TheVariants.{Truth as OutcomeTruth}
-use Rattle.educe_body.specs.declared.form.Known.{Known}
-use Rattle.educe_body.specs.declared.form.Known.TheVariants.{Truth, Order, PartialOrder}
+use Rattle.educe_bound_traits.specs.declared.traits.Trait.{Trait}
+use Rattle.educe_body_values.specs.Meaning.{Scene, list_value, go_on, known_thing, outcome_of, outcome_of_thing}
+use Rattle.educe_body_values.specs.Scoping.{IsApart}
+use Rattle.educe_body_forms.specs.declared.comparison.Comparison.{Comparison}
+use Rattle.educe_body_forms.specs.declared.comparison.Comparison.TheVariants.{PartialEq, PartialOrd, Ord}
+use Rattle.educe_body_values.specs.declared.answers.Answer.{Answer}
+use Rattle.educe_body_values.specs.declared.answers.Answer.TheVariants.{Truth as AnswerTruth}
+use Rattle.educe_body_values.specs.declared.answers.Answers.{Answers}
+use Rattle.educe_body_values.specs.declared.environment.Env.{Env}
+use Rattle.educe_body_values.specs.declared.environment.Own.{Own}
+use Rattle.educe_body_values.specs.declared.value.Value.{Value}
+use Rattle.educe_body_forms.specs.declared.form.Form as form
+use Rattle.educe_body_values.specs.declared.evaluator.Outcome.{Outcome}
+use Rattle.educe_body_values.specs.declared.evaluator.Outcome.TheVariants.{Truth as OutcomeTruth}
+use Rattle.educe_body_forms.specs.declared.form.Known.{Known}
+use Rattle.educe_body_forms.specs.declared.form.Known.TheVariants.{Truth, Order, PartialOrder}
 use Rattle.educe_laws.specs.Comparisons.{trait_of}
 use Rattle.educe_laws.specs.Rows.{is_order}
 use Rattle.educe_laws.specs.Settings.{Kept, How, plainly, by_method, by_order}

@@ -25,9 +25,9 @@ use Rattle.educe_attrs.specs.Fields.{HaveNoCauses}
 use Rattle.educe_attrs.specs.Places.{OfField}
 use Rattle.educe_attrs.specs.Laws.{lawful_settings}
 use Rattle.educe_attrs.specs.Methods.{IsTextOf, standing, quoted}
-use Rattle.educe_bound.specs.declared.traits.Trait.{Trait}
+use Rattle.educe_bound_traits.specs.declared.traits.Trait.{Trait}
 use Rattle.educe_body.specs.NameLaws.{lawful_names}
-use Rattle.educe_body.specs.Scoping.{is_ident, AreOwnNames}
+use Rattle.educe_body_values.specs.Scoping.{is_ident, AreOwnNames}
 use Rattle.educe_body.specs.Words.{IsWordOf, ident, HasWord}
 use Rattle.educe_laws.specs.Cases.{fields_in, shape_cases, cases_of}
 use Rattle.educe_laws.specs.Listed.{listed}

@@ -4,8 +4,8 @@ use Rattle.std.specs.Prelude.{if◌then◌else◌, slice_get, unwrap_or}
 use Rattle.std.specs.List.{AllByRecursion}
 use Rattle.educe_syntax.specs.Field.{Field}
 use Rattle.educe_syntax.specs.DeriveInput.{DeriveInput}
-use Rattle.educe_bound.specs.declared.traits.Trait.{Trait}
-use Rattle.educe_body.specs.declared.value.FieldValue.{FieldValue}
+use Rattle.educe_bound_traits.specs.declared.traits.Trait.{Trait}
+use Rattle.educe_body_values.specs.declared.value.FieldValue.{FieldValue}
 use Rattle.educe_laws.specs.Settings.{Kept, is_kept, kept_at, kept_from}
 use Rattle.educe_laws.specs.Comparing.{Compared, paired_from, HaveTypes}
 use Rattle.educe_laws.specs.Hashing.{Valued, valued_from}

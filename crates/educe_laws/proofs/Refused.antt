@@ -12,11 +12,11 @@ use Rattle.educe_attrs.specs.FieldSettings.{FieldSettings}
 use Rattle.educe_attrs.specs.Laws.{lawful_settings}
 use Rattle.educe_attrs.specs.Phases.{OfHandler}
 use Rattle.educe_attrs.specs.Places.{IsSaid, IsFieldSaid, OfPlace, OfField}
-use Rattle.educe_bound.specs.declared.traits.Trait.{Trait}
-use Rattle.educe_bound.specs.declared.traits.Trait.TheVariants as trait
-use Rattle.educe_bound.specs.Traits.{is_listed}
-use Rattle.educe_body.specs.declared.comparison.Comparison.{Comparison}
-use Rattle.educe_body.specs.declared.comparison.Comparison.TheVariants.{PartialEq, PartialOrd, Ord}
+use Rattle.educe_bound_traits.specs.declared.traits.Trait.{Trait}
+use Rattle.educe_bound_traits.specs.declared.traits.Trait.TheVariants as trait
+use Rattle.educe_bound_traits.specs.Traits.{is_listed}
+use Rattle.educe_body_forms.specs.declared.comparison.Comparison.{Comparison}
+use Rattle.educe_body_forms.specs.declared.comparison.Comparison.TheVariants.{PartialEq, PartialOrd, Ord}
 use Rattle.educe_syntax.specs.Few.{shape_variants, variants_of, shape_fields, all_fields}
 use Rattle.educe_syntax.specs.Shape.{Shape}
 use Rattle.educe_syntax.specs.Shape.TheVariants.{Struct, Enum}

@@ -6,24 +6,24 @@ use Rattle.std.specs.declared.cmp.Ordering.TheVariants.{Less, Equal, Greater}
 use Rattle.std.proofs.lemmas.Bool.{false≢true}
 use Rattle.educe_tokens.specs.declared.token.Token.{Token}
 use Rattle.educe_syntax.specs.ExprPath.{ExprPath}
-use Rattle.educe_body.specs.declared.comparison.Comparison.{Comparison}
-use Rattle.educe_body.specs.declared.comparison.Comparison.TheVariants.{PartialEq, PartialOrd, Ord}
-use Rattle.educe_body.specs.declared.answers.Answer.{Answer}
-use Rattle.educe_body.specs.declared.answers.Answer.TheVariants.{Truth as AnswerTruth, Order as AnswerOrder, PartialOrder as AnswerPartialOrder}
-use Rattle.educe_body.specs.declared.answers.Answers.{Answers}
-use Rattle.educe_body.specs.declared.callee.BuiltIn.{BuiltIn}
-use Rattle.educe_body.specs.declared.callee.Callee.{Callee}
-use Rattle.educe_body.specs.declared.environment.Binding.{Binding}
-use Rattle.educe_body.specs.declared.environment.Env.{Env}
-use Rattle.educe_body.specs.declared.flow.Flow.{Flow}
-use Rattle.educe_body.specs.declared.flow.Flow.TheVariants.{Gives, Returns}
-use Rattle.educe_body.specs.declared.flow.Thing.TheVariants.{Nothing, Part}
-use Rattle.educe_body.specs.declared.form.Form.{Form, Call}
-use Rattle.educe_body.specs.declared.form.Known.{Known}
-use Rattle.educe_body.specs.declared.form.Known.TheVariants.{Truth, Order, PartialOrder}
-use Rattle.educe_body.specs.Answering.{answer_of}
-use Rattle.educe_body.specs.Meaning.{Scene, form_value, list_value, call_named, answer_flow, go_on, opposite, some_of, unless_true, arm_of, known_thing}
-use Rattle.educe_body.specs.Scoping.{callee_in, IsApart, AreOwnNames}
+use Rattle.educe_body_forms.specs.declared.comparison.Comparison.{Comparison}
+use Rattle.educe_body_forms.specs.declared.comparison.Comparison.TheVariants.{PartialEq, PartialOrd, Ord}
+use Rattle.educe_body_values.specs.declared.answers.Answer.{Answer}
+use Rattle.educe_body_values.specs.declared.answers.Answer.TheVariants.{Truth as AnswerTruth, Order as AnswerOrder, PartialOrder as AnswerPartialOrder}
+use Rattle.educe_body_values.specs.declared.answers.Answers.{Answers}
+use Rattle.educe_body_values.specs.declared.callee.BuiltIn.{BuiltIn}
+use Rattle.educe_body_values.specs.declared.callee.Callee.{Callee}
+use Rattle.educe_body_values.specs.declared.environment.Binding.{Binding}
+use Rattle.educe_body_values.specs.declared.environment.Env.{Env}
+use Rattle.educe_body_values.specs.declared.flow.Flow.{Flow}
+use Rattle.educe_body_values.specs.declared.flow.Flow.TheVariants.{Gives, Returns}
+use Rattle.educe_body_values.specs.declared.flow.Thing.TheVariants.{Nothing, Part}
+use Rattle.educe_body_forms.specs.declared.form.Form.{Form, Call}
+use Rattle.educe_body_forms.specs.declared.form.Known.{Known}
+use Rattle.educe_body_forms.specs.declared.form.Known.TheVariants.{Truth, Order, PartialOrder}
+use Rattle.educe_body_values.specs.Answering.{answer_of}
+use Rattle.educe_body_values.specs.Meaning.{Scene, form_value, list_value, call_named, answer_flow, go_on, opposite, some_of, unless_true, arm_of, known_thing}
+use Rattle.educe_body_values.specs.Scoping.{callee_in, IsApart, AreOwnNames}
 use Rattle.educe_laws.specs.Settings.{Kept, How, plainly, by_method, by_order}
 use Rattle.educe_laws.specs.Comparing.{Compared, comparison, asked, said_truth, said_order, said_partial_order, said_in_some, said, says, neutral, word_of, is_apart, differs}
 use Rattle.educe_laws.specs.Steps.{Reading, IsRead, tested, step_of, IsCalled, IsStep, AreSteps}

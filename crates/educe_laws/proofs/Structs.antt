@@ -15,26 +15,26 @@ use Rattle.educe_syntax.specs.Keywords.{unraw}
 use Rattle.educe_syntax.specs.Few.{shape_variants, all_fields}
 use Rattle.educe_syntax.specs.Shape.{Shape}
 use Rattle.educe_syntax.specs.Shape.TheVariants.{Struct}
-use Rattle.educe_bound.specs.declared.traits.Trait.{Trait}
-use Rattle.educe_body.specs.declared.comparison.Comparison.{Comparison}
-use Rattle.educe_body.specs.declared.value.FieldValue.{FieldValue}
-use Rattle.educe_body.specs.declared.value.Value.{Value}
-use Rattle.educe_body.specs.declared.answers.Answers.{Answers}
-use Rattle.educe_body.specs.declared.body.Body.{Body}
-use Rattle.educe_body.specs.declared.environment.Binding.{Binding}
-use Rattle.educe_body.specs.declared.environment.Env.{Env}
-use Rattle.educe_body.specs.declared.environment.Own.TheVariants.{Value as OwnValue}
-use Rattle.educe_body.specs.declared.environment.Referent.{Referent}
-use Rattle.educe_body.specs.declared.environment.Referent.TheVariants.{This, Other}
-use Rattle.educe_body.specs.declared.flow.Flow.TheVariants.{Gives}
-use Rattle.educe_body.specs.declared.flow.Thing.TheVariants.{Nothing, Part}
-use Rattle.educe_body.specs.declared.form.Form.{Form}
-use Rattle.educe_body.specs.declared.form.Form as form
+use Rattle.educe_bound_traits.specs.declared.traits.Trait.{Trait}
+use Rattle.educe_body_forms.specs.declared.comparison.Comparison.{Comparison}
+use Rattle.educe_body_values.specs.declared.value.FieldValue.{FieldValue}
+use Rattle.educe_body_values.specs.declared.value.Value.{Value}
+use Rattle.educe_body_values.specs.declared.answers.Answers.{Answers}
+use Rattle.educe_body_forms.specs.declared.body.Body.{Body}
+use Rattle.educe_body_values.specs.declared.environment.Binding.{Binding}
+use Rattle.educe_body_values.specs.declared.environment.Env.{Env}
+use Rattle.educe_body_values.specs.declared.environment.Own.TheVariants.{Value as OwnValue}
+use Rattle.educe_body_values.specs.declared.environment.Referent.{Referent}
+use Rattle.educe_body_values.specs.declared.environment.Referent.TheVariants.{This, Other}
+use Rattle.educe_body_values.specs.declared.flow.Flow.TheVariants.{Gives}
+use Rattle.educe_body_values.specs.declared.flow.Thing.TheVariants.{Nothing, Part}
+use Rattle.educe_body_forms.specs.declared.form.Form.{Form}
+use Rattle.educe_body_forms.specs.declared.form.Form as form
 use Rattle.educe_body.specs.Chosen.{underscored}
-use Rattle.educe_body.specs.Keys.{AreDifferent, key_of, keys_from, shape_fields, fields_of, keys_of}
-use Rattle.educe_body.specs.Laws.{KeysGive}
-use Rattle.educe_body.specs.Meaning.{Scene, start, innermost, look_up, part_of, part_flow, reference_value, read_flow, form_value, list_value, outcome_of, ended}
-use Rattle.educe_body.specs.Scoping.{IsApart, own_self, apart}
+use Rattle.educe_body_forms.specs.Keys.{AreDifferent, key_of, keys_from, shape_fields, fields_of, keys_of}
+use Rattle.educe_body_values.specs.Laws.{KeysGive}
+use Rattle.educe_body_values.specs.Meaning.{Scene, start, innermost, look_up, part_of, part_flow, reference_value, read_flow, form_value, list_value, outcome_of, ended}
+use Rattle.educe_body_values.specs.Scoping.{IsApart, own_self, apart}
 use Rattle.educe_body.specs.Words.{HasWord}
 use Rattle.educe_laws.specs.Settings.{Kept, kept_fields}
 use Rattle.educe_laws.specs.Cases.{shape_cases, cases_of, case_of}

@@ -12,18 +12,18 @@ use Rattle.educe_syntax.specs.Field.{Field}
 use Rattle.educe_syntax.specs.Keywords.{unraw}
 use Rattle.educe_syntax.specs.Naming.{field_names, AreApart as AreNamesApart}
 use Rattle.educe_attrs.specs.FieldSettings.{FieldSettings}
-use Rattle.educe_bound.specs.declared.traits.Trait.{Trait}
-use Rattle.educe_body.specs.declared.comparison.Comparison.{Comparison}
-use Rattle.educe_body.specs.declared.environment.Binding.{Binding}
-use Rattle.educe_body.specs.declared.environment.Referent.{Referent}
-use Rattle.educe_body.specs.declared.environment.Referent.TheVariants.{Other, OwnField, Bound}
+use Rattle.educe_bound_traits.specs.declared.traits.Trait.{Trait}
+use Rattle.educe_body_forms.specs.declared.comparison.Comparison.{Comparison}
+use Rattle.educe_body_values.specs.declared.environment.Binding.{Binding}
+use Rattle.educe_body_values.specs.declared.environment.Referent.{Referent}
+use Rattle.educe_body_values.specs.declared.environment.Referent.TheVariants.{Other, OwnField, Bound}
 use Rattle.educe_body.specs.Chosen.{underscored, is_held, IsPrefix, AreChosen, AreApart, are_letters_apart}
-use Rattle.educe_body.specs.Keys.{AreDifferent, keys_from, binding_key}
-use Rattle.educe_body.specs.Meaning.{innermost, look_up}
+use Rattle.educe_body_forms.specs.Keys.{AreDifferent, keys_from, binding_key}
+use Rattle.educe_body_values.specs.Meaning.{innermost, look_up}
 use Rattle.educe_body.specs.NameLaws.{lawful_names}
-use Rattle.educe_body.specs.Scoping.{IsApart, own_self, apart}
+use Rattle.educe_body_values.specs.Scoping.{IsApart, own_self, apart}
 use Rattle.educe_body.specs.Words.{HasWord}
-use Rattle.educe_body.proofs.Fields.{bytes_eq-same, bytes_eq-differ}
+use Rattle.educe_body_values.proofs.Fields.{bytes_eq-same, bytes_eq-differ}
 use Rattle.educe_laws.specs.Arms.{Names, AreChosenFor, AreNames, AreScoped, plain_names, chosen_names, variables}
 use Rattle.educe_laws.specs.BodyLaws.{lawful_keys}
 use Rattle.educe_laws.specs.Comparisons.{trait_of}

@@ -15,28 +15,28 @@ use Rattle.educe_syntax.specs.FieldForm.TheVariants.{Named, Unnamed, Unit as NoF
 use Rattle.educe_syntax.specs.Ident.{Ident}
 use Rattle.educe_syntax.specs.Variant.{Variant}
 use Rattle.educe_discriminants.specs.declared.discriminant_type.DiscriminantType.{DiscriminantType}
-use Rattle.educe_bound.specs.declared.traits.Trait.{Trait}
+use Rattle.educe_bound_traits.specs.declared.traits.Trait.{Trait}
 use Rattle.educe_attrs.specs.FieldSettings.{FieldSettings}
 use Rattle.educe_attrs.specs.Represented.{IsDiscriminantType}
-use Rattle.educe_body.specs.BuiltIn.{IsBuiltIn}
-use Rattle.educe_body.specs.Constants.{constant_number}
-use Rattle.educe_body.specs.declared.answers.Answers.{Answers}
+use Rattle.educe_body_values.specs.BuiltIn.{IsBuiltIn}
+use Rattle.educe_body_values.specs.Constants.{constant_number}
+use Rattle.educe_body_values.specs.declared.answers.Answers.{Answers}
 use Rattle.educe_body.specs.Chosen.{is_held, IsPrefix, AreChosen, AreApart}
 use Rattle.educe_body.specs.Held.{AreWordsOf}
-use Rattle.educe_body.specs.Keys.{binding_key}
+use Rattle.educe_body_forms.specs.Keys.{binding_key}
 use Rattle.educe_body.specs.Words.{HasWord}
-use Rattle.educe_body.specs.declared.callee.BuiltIn.TheVariants.{Cmp}
-use Rattle.educe_body.specs.declared.comparison.Comparison.{Comparison}
-use Rattle.educe_body.specs.declared.comparison.Comparison.TheVariants.{PartialEq, PartialOrd, Ord}
-use Rattle.educe_body.specs.declared.form.Arm.{Arm}
-use Rattle.educe_body.specs.declared.form.Form.{Form, Key, Call, SomeOf, Return, MatchOrdering, MatchValue, IfLet, KeyFunction}
-use Rattle.educe_body.specs.declared.form.Form as form
-use Rattle.educe_body.specs.declared.form.Known.TheVariants.{Truth}
-use Rattle.educe_body.specs.declared.key_function.Constant.{Constant}
-use Rattle.educe_body.specs.declared.key_function.Distance.{Distance}
-use Rattle.educe_body.specs.declared.key_function.KeyArm.{KeyArm}
-use Rattle.educe_body.specs.declared.pattern.Pattern.{Pattern}
-use Rattle.educe_body.specs.declared.pattern.PatternField.{PatternField}
+use Rattle.educe_body_values.specs.declared.callee.BuiltIn.TheVariants.{Cmp}
+use Rattle.educe_body_forms.specs.declared.comparison.Comparison.{Comparison}
+use Rattle.educe_body_forms.specs.declared.comparison.Comparison.TheVariants.{PartialEq, PartialOrd, Ord}
+use Rattle.educe_body_forms.specs.declared.form.Arm.{Arm}
+use Rattle.educe_body_forms.specs.declared.form.Form.{Form, Key, Call, SomeOf, Return, MatchOrdering, MatchValue, IfLet, KeyFunction}
+use Rattle.educe_body_forms.specs.declared.form.Form as form
+use Rattle.educe_body_forms.specs.declared.form.Known.TheVariants.{Truth}
+use Rattle.educe_body_forms.specs.declared.key_function.Constant.{Constant}
+use Rattle.educe_body_forms.specs.declared.key_function.Distance.{Distance}
+use Rattle.educe_body_forms.specs.declared.key_function.KeyArm.{KeyArm}
+use Rattle.educe_body_forms.specs.declared.pattern.Pattern.{Pattern}
+use Rattle.educe_body_forms.specs.declared.pattern.PatternField.{PatternField}
 use Rattle.educe_laws.specs.Cases.{fields_in}
 use Rattle.educe_laws.specs.Comparing.{neutral}
 use Rattle.educe_laws.specs.Comparisons.{trait_of}

@@ -1,6 +1,6 @@
 -- The laws of bodies as terms, which proofs cite with no call.
-use Rattle.educe_body.specs.Laws.{KeyLaws, FormLaws, ScopeLaws}
-use Rattle.educe_body.proofs.Lawful as lawful
+use Rattle.educe_body_values.specs.Laws.{KeyLaws, FormLaws, ScopeLaws}
+use Rattle.educe_body_values.proofs.Lawful as lawful
 
 -- keys that differ select the values at their places
 pub lawful_keys : KeyLaws

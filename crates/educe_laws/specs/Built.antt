@@ -5,11 +5,11 @@ use Rattle.educe_syntax.specs.DeriveInput.{DeriveInput}
 use Rattle.educe_syntax.specs.Field.{Field}
 use Rattle.educe_syntax.specs.Shape.{Shape}
 use Rattle.educe_syntax.specs.Shape.TheVariants.{Struct, Enum}
-use Rattle.educe_bound.specs.declared.traits.Trait.{Trait}
+use Rattle.educe_bound_traits.specs.declared.traits.Trait.{Trait}
 use Rattle.educe_syntax.specs.Variant.{Variant}
 use Rattle.educe_syntax_self.specs.Selves.{has_plain_self, have_plain_self}
-use Rattle.educe_bound.specs.declared.traits.Trait.TheVariants.{Clone, Copy, PartialEq, Eq, PartialOrd, Ord, Hash, Default}
-use Rattle.educe_bound.specs.Traits.{is_listed, all_listed}
+use Rattle.educe_bound_traits.specs.declared.traits.Trait.TheVariants.{Clone, Copy, PartialEq, Eq, PartialOrd, Ord, Hash, Default}
+use Rattle.educe_bound_traits.specs.Traits.{is_listed, all_listed}
 use Rattle.educe_laws.specs.Listed.{listed}
 
 -- a struct, of any form

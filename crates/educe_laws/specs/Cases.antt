@@ -7,7 +7,7 @@ use Rattle.educe_syntax.specs.Field.{Field}
 use Rattle.educe_syntax.specs.Shape.{Shape}
 use Rattle.educe_syntax.specs.Shape.TheVariants.{Struct, Enum}
 use Rattle.educe_syntax.specs.Variant.{Variant}
-use Rattle.educe_body.specs.declared.value.Value.{Value}
+use Rattle.educe_body_values.specs.declared.value.Value.{Value}
 
 -- the fields of a variant, in written order
 abbrev pub fields_in : Variant → List Field

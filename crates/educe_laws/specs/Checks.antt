@@ -13,7 +13,7 @@ use Rattle.educe_syntax_self.specs.Heads.{head_for}
 use Rattle.educe_syntax_self.specs.Selves.{replaced}
 use Rattle.educe_syntax_self.specs.Visits.{AreReplaced}
 use Rattle.educe_attrs.specs.Lints.{lints}
-use Rattle.educe_body.specs.declared.body.CheckItem.{CheckItem}
+use Rattle.educe_body_items.specs.declared.items.CheckItem.{CheckItem}
 use Rattle.educe_laws.specs.Arms.{AreChosenFor}
 
 -- ---- names

@@ -10,17 +10,17 @@ use Rattle.educe_syntax.specs.Ident.{Ident}
 use Rattle.educe_syntax.specs.Shape.{Shape}
 use Rattle.educe_syntax.specs.Shape.TheVariants.{Struct, Enum}
 use Rattle.educe_syntax.specs.Variant.{Variant}
-use Rattle.educe_bound.specs.declared.traits.Trait.TheVariants as trait
-use Rattle.educe_body.specs.BuiltIn.{IsBuiltIn}
+use Rattle.educe_bound_traits.specs.declared.traits.Trait.TheVariants as trait
+use Rattle.educe_body_values.specs.BuiltIn.{IsBuiltIn}
 use Rattle.educe_body.specs.Chosen.{IsPrefix}
-use Rattle.educe_body.specs.Keys.{key_of, binding_key}
-use Rattle.educe_body.specs.declared.body.Body.{Body}
-use Rattle.educe_body.specs.declared.callee.BuiltIn.{BuiltIn}
-use Rattle.educe_body.specs.declared.callee.BuiltIn.TheVariants.{Clone, CloneFrom}
-use Rattle.educe_body.specs.declared.form.Arm.{Arm}
-use Rattle.educe_body.specs.declared.form.Form.{Form, Local, Call, Construct, MatchValue, IfLet, Unreachable, Discard, AssignField, AssignThrough}
-use Rattle.educe_body.specs.declared.form.Init.{Init}
-use Rattle.educe_body.specs.declared.pattern.Pattern.{Pattern}
+use Rattle.educe_body_forms.specs.Keys.{key_of, binding_key}
+use Rattle.educe_body_forms.specs.declared.body.Body.{Body}
+use Rattle.educe_body_values.specs.declared.callee.BuiltIn.{BuiltIn}
+use Rattle.educe_body_values.specs.declared.callee.BuiltIn.TheVariants.{Clone, CloneFrom}
+use Rattle.educe_body_forms.specs.declared.form.Arm.{Arm}
+use Rattle.educe_body_forms.specs.declared.form.Form.{Form, Local, Call, Construct, MatchValue, IfLet, Unreachable, Discard, AssignField, AssignThrough}
+use Rattle.educe_body_forms.specs.declared.form.Init.{Init}
+use Rattle.educe_body_forms.specs.declared.pattern.Pattern.{Pattern}
 use Rattle.educe_laws.specs.Arms.{AreChosenFor, IsName, IsKey, IsPattern}
 use Rattle.educe_laws.specs.Cases.{fields_in}
 use Rattle.educe_laws.specs.Headers.{AreCopied}

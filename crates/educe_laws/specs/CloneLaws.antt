@@ -6,9 +6,9 @@ use Rattle.educe_syntax.specs.Few.{all_fields}
 use Rattle.educe_syntax.specs.Field.{Field}
 use Rattle.educe_syntax.specs.Naming.{field_names, AreApart}
 use Rattle.educe_syntax.specs.Refusal.{IsDefinition}
-use Rattle.educe_bound.specs.declared.traits.Trait.TheVariants.{Clone}
+use Rattle.educe_bound_traits.specs.declared.traits.Trait.TheVariants.{Clone}
 use Rattle.educe_attrs.specs.Fields.{HaveNoCauses}
-use Rattle.educe_body.specs.declared.body.Item.{Item}
+use Rattle.educe_body_items.specs.declared.items.Item.{Item}
 use Rattle.educe_laws.specs.Arms.{AreScoped, variables}
 use Rattle.educe_laws.specs.Blocks.{IsCloneBlock, IsCopyBlock, EachEvaluates}
 use Rattle.educe_laws.specs.CloneBodies.{CloneNames, AreCloneNames}

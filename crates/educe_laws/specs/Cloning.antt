@@ -1,17 +1,17 @@
 -- What the derived `clone` and `clone_from` mean.
 use Rattle.std.specs.Prelude.{◌==◌, Bool, true, false, List, [], ◌∷◌, Option, Some, None, if◌then◌else◌}
 use Rattle.educe_syntax.specs.DeriveInput.{DeriveInput}
-use Rattle.educe_bound.specs.declared.traits.Trait.TheVariants as trait
-use Rattle.educe_body.specs.Answering.{answer_of}
-use Rattle.educe_body.specs.Callees.{callee_of}
-use Rattle.educe_body.specs.Meaning.{whole_value}
-use Rattle.educe_body.specs.declared.answers.Answers.{Answers}
-use Rattle.educe_body.specs.declared.callee.BuiltIn.TheVariants.{Clone}
-use Rattle.educe_body.specs.declared.callee.Callee.TheVariants as callee
-use Rattle.educe_body.specs.declared.evaluator.Outcome.{Outcome}
-use Rattle.educe_body.specs.declared.evaluator.Outcome.TheVariants.{Made}
-use Rattle.educe_body.specs.declared.value.FieldValue.{FieldValue}
-use Rattle.educe_body.specs.declared.value.Value.{Value}
+use Rattle.educe_bound_traits.specs.declared.traits.Trait.TheVariants as trait
+use Rattle.educe_body_values.specs.Answering.{answer_of}
+use Rattle.educe_body_values.specs.Callees.{callee_of}
+use Rattle.educe_body_values.specs.Meaning.{whole_value}
+use Rattle.educe_body_values.specs.declared.answers.Answers.{Answers}
+use Rattle.educe_body_values.specs.declared.callee.BuiltIn.TheVariants.{Clone}
+use Rattle.educe_body_values.specs.declared.callee.Callee.TheVariants as callee
+use Rattle.educe_body_values.specs.declared.evaluator.Outcome.{Outcome}
+use Rattle.educe_body_values.specs.declared.evaluator.Outcome.TheVariants.{Made}
+use Rattle.educe_body_values.specs.declared.value.FieldValue.{FieldValue}
+use Rattle.educe_body_values.specs.declared.value.Value.{Value}
 use Rattle.educe_laws.specs.Comparing.{Compared, asked, paired}
 use Rattle.educe_laws.specs.Copying.{copies_whole}
 use Rattle.educe_laws.specs.Hashing.{Valued, valued}

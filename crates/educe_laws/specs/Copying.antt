@@ -7,8 +7,8 @@ use Rattle.educe_syntax.specs.Field.{Field}
 use Rattle.educe_bound_classes.specs.Questions.{uses_params}
 use Rattle.educe_bound.specs.declared.bound.Bound.{Bound}
 use Rattle.educe_bound.specs.declared.bound.Bound.TheVariants.{Disabled, Auto, All, Custom}
-use Rattle.educe_bound.specs.declared.traits.Trait.TheVariants as trait
-use Rattle.educe_bound.specs.Traits.{is_listed}
+use Rattle.educe_bound_traits.specs.declared.traits.Trait.TheVariants as trait
+use Rattle.educe_bound_traits.specs.Traits.{is_listed}
 use Rattle.educe_laws.specs.Listed.{listed}
 use Rattle.educe_laws.specs.Settings.{settings_of, bound_for}
 

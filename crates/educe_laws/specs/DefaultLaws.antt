@@ -3,7 +3,7 @@ use Rattle.std.specs.Prelude.{List}
 use Rattle.std.specs.List.{AllByRecursion}
 use Rattle.educe_syntax.specs.DeriveInput.{DeriveInput}
 use Rattle.educe_syntax.specs.Refusal.{IsDefinition}
-use Rattle.educe_body.specs.declared.body.Item.{Item}
+use Rattle.educe_body_items.specs.declared.items.Item.{Item}
 use Rattle.educe_laws.specs.Blocks.{IsDefaultBlock, EachEvaluates}
 
 -- What holds of the block of `Default`.

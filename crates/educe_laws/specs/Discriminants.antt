@@ -10,9 +10,9 @@ use Rattle.educe_syntax.specs.Variant.{Variant}
 use Rattle.educe_discriminants.specs.declared.discriminant_type.DiscriminantType.{DiscriminantType}
 use Rattle.educe_discriminants.specs.Ranges.{IsInRange}
 use Rattle.educe_attrs.specs.Represented.{IsDiscriminantType}
-use Rattle.educe_body.specs.Constants.{number_of}
-use Rattle.educe_body.specs.declared.answers.Answers.{Answers}
-use Rattle.educe_body.specs.declared.value.Value.{Value}
+use Rattle.educe_body_values.specs.Constants.{number_of}
+use Rattle.educe_body_values.specs.declared.answers.Answers.{Answers}
+use Rattle.educe_body_values.specs.declared.value.Value.{Value}
 
 -- what a variant's discriminant is counted from: the nearest expression that is written at it or before it, if there is one, and
 -- how many variants it stands behind that one; without one, how many stand before it

@@ -5,9 +5,9 @@ use Rattle.educe_syntax.specs.DeriveInput.{DeriveInput}
 use Rattle.educe_syntax.specs.Refusal.{IsDefinition}
 use Rattle.educe_syntax_self.specs.Heads.{AreNamed}
 use Rattle.educe_syntax_self.specs.Visits.{MayVisitType}
-use Rattle.educe_bound.specs.declared.traits.Trait.TheVariants.{Eq}
-use Rattle.educe_bound.specs.Traits.{is_listed}
-use Rattle.educe_body.specs.declared.body.Item.{Item}
+use Rattle.educe_bound_traits.specs.declared.traits.Trait.TheVariants.{Eq}
+use Rattle.educe_bound_traits.specs.Traits.{is_listed}
+use Rattle.educe_body_items.specs.declared.items.Item.{Item}
 use Rattle.educe_laws.specs.Arms.{AreChosenFor, AreScoped}
 use Rattle.educe_laws.specs.Blocks.{IsEqBlock, EachEvaluates}
 use Rattle.educe_laws.specs.Built.{IsBuilt}

@@ -10,10 +10,10 @@ use Rattle.educe_syntax.specs.ExprPath.{ExprPath}
 use Rattle.educe_syntax.specs.Field.{Field}
 use Rattle.educe_syntax.specs.Shape.{Shape}
 use Rattle.educe_syntax.specs.Shape.TheVariants.{Struct, Enum}
-use Rattle.educe_bound.specs.declared.traits.Trait.{Trait}
+use Rattle.educe_bound_traits.specs.declared.traits.Trait.{Trait}
 use Rattle.educe_syntax_self.specs.Selves.{has_plain_self, have_plain_self}
-use Rattle.educe_bound.specs.declared.traits.Trait.TheVariants as trait
-use Rattle.educe_bound.specs.Traits.{is_listed}
+use Rattle.educe_bound_traits.specs.declared.traits.Trait.TheVariants as trait
+use Rattle.educe_bound_traits.specs.Traits.{is_listed}
 use Rattle.educe_attrs.specs.Among.{IsAmong}
 use Rattle.educe_attrs.specs.Causes.{Cause}
 use Rattle.educe_attrs.specs.Fields.{OfFields, HaveNoCauses}

@@ -3,12 +3,12 @@ use Rattle.std.specs.Prelude.{◌≡◌, true, List, [], ◌∷◌, ◌++◌, if
 use Rattle.std.specs.List.{filter, flat_map, before_first, AllByRecursion, AllZip}
 use Rattle.educe_syntax.specs.DeriveInput.{DeriveInput}
 use Rattle.educe_syntax.specs.Refusal.{IsDefinition}
-use Rattle.educe_bound.specs.declared.traits.Trait.{Trait}
+use Rattle.educe_bound_traits.specs.declared.traits.Trait.{Trait}
 use Rattle.educe_bound.specs.Predicates.{Key}
-use Rattle.educe_bound.specs.Traits.{is_listed, same_trait}
+use Rattle.educe_bound_traits.specs.Traits.{is_listed, same_trait}
 use Rattle.educe_attrs.specs.Causes.{NoCause}
 use Rattle.educe_attrs.specs.Phases.{OfHandler}
-use Rattle.educe_body.specs.declared.body.Item.{Item}
+use Rattle.educe_body_items.specs.declared.items.Item.{Item}
 use Rattle.educe_laws.specs.Blocks.{IsBlock, EachEvaluates}
 use Rattle.educe_laws.specs.Built.{built_traits, IsBuilt}
 use Rattle.educe_laws.specs.Handled.{handling}

@@ -9,14 +9,14 @@ use Rattle.educe_syntax.specs.Ident.{Ident}
 use Rattle.educe_syntax.specs.Shape.{Shape}
 use Rattle.educe_syntax.specs.Shape.TheVariants.{Struct, Enum}
 use Rattle.educe_syntax.specs.Variant.{Variant}
-use Rattle.educe_bound.specs.declared.traits.Trait.TheVariants as trait
+use Rattle.educe_bound_traits.specs.declared.traits.Trait.TheVariants as trait
 use Rattle.educe_body.specs.Chosen.{IsPrefix}
-use Rattle.educe_body.specs.declared.body.Body.{Body}
-use Rattle.educe_body.specs.declared.callee.BuiltIn.TheVariants.{Hash}
-use Rattle.educe_body.specs.declared.form.Arm.{Arm}
-use Rattle.educe_body.specs.declared.form.Form.{Form, Local, Call, HashPart, MatchValue}
-use Rattle.educe_body.specs.declared.form.Form as form
-use Rattle.educe_body.specs.declared.position.Position.{Position}
+use Rattle.educe_body_forms.specs.declared.body.Body.{Body}
+use Rattle.educe_body_values.specs.declared.callee.BuiltIn.TheVariants.{Hash}
+use Rattle.educe_body_forms.specs.declared.form.Arm.{Arm}
+use Rattle.educe_body_forms.specs.declared.form.Form.{Form, Local, Call, HashPart, MatchValue}
+use Rattle.educe_body_forms.specs.declared.form.Form as form
+use Rattle.educe_body_forms.specs.declared.position.Position.{Position}
 use Rattle.educe_laws.specs.Arms.{AreChosenFor, IsName, IsPattern, AreArms}
 use Rattle.educe_laws.specs.Cases.{fields_in}
 use Rattle.educe_laws.specs.Headers.{AreCopied}

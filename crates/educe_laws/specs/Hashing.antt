@@ -5,15 +5,15 @@ use Rattle.educe_syntax.specs.DeriveInput.{DeriveInput}
 use Rattle.educe_syntax.specs.Field.{Field}
 use Rattle.educe_syntax.specs.Shape.{Shape}
 use Rattle.educe_syntax.specs.Shape.TheVariants.{Struct, Enum}
-use Rattle.educe_bound.specs.declared.traits.Trait.{Trait}
-use Rattle.educe_bound.specs.declared.traits.Trait.TheVariants as trait
-use Rattle.educe_body.specs.Answering.{answer_of}
-use Rattle.educe_body.specs.declared.answers.Answer.{Answer}
-use Rattle.educe_body.specs.declared.answers.Answer.TheVariants.{Part}
-use Rattle.educe_body.specs.declared.answers.Answers.{Answers}
-use Rattle.educe_body.specs.declared.callee.BuiltIn.TheVariants.{Hash}
-use Rattle.educe_body.specs.declared.value.FieldValue.{FieldValue}
-use Rattle.educe_body.specs.declared.value.Value.{Value}
+use Rattle.educe_bound_traits.specs.declared.traits.Trait.{Trait}
+use Rattle.educe_bound_traits.specs.declared.traits.Trait.TheVariants as trait
+use Rattle.educe_body_values.specs.Answering.{answer_of}
+use Rattle.educe_body_values.specs.declared.answers.Answer.{Answer}
+use Rattle.educe_body_values.specs.declared.answers.Answer.TheVariants.{Part}
+use Rattle.educe_body_values.specs.declared.answers.Answers.{Answers}
+use Rattle.educe_body_values.specs.declared.callee.BuiltIn.TheVariants.{Hash}
+use Rattle.educe_body_values.specs.declared.value.FieldValue.{FieldValue}
+use Rattle.educe_body_values.specs.declared.value.Value.{Value}
 use Rattle.educe_laws.specs.Cases.{case_of}
 use Rattle.educe_laws.specs.Comparing.{HasShape, asked}
 use Rattle.educe_laws.specs.Settings.{Kept, is_kept, kept_at}

@@ -8,10 +8,10 @@ use Rattle.educe_bound_classes.specs.Deriving.{Extends}
 use Rattle.educe_bound_classes.specs.Needs.{Suffices, AreMinimal}
 use Rattle.educe_bound.specs.declared.bound.Bound.{Bound}
 use Rattle.educe_bound.specs.declared.bound.Bound.TheVariants.{Disabled, Auto, All, Custom}
-use Rattle.educe_bound.specs.declared.traits.Trait.{Trait}
-use Rattle.educe_bound.specs.declared.traits.Trait.TheVariants as trait
+use Rattle.educe_bound_traits.specs.declared.traits.Trait.{Trait}
+use Rattle.educe_bound_traits.specs.declared.traits.Trait.TheVariants as trait
 use Rattle.educe_bound.specs.Predicates.{Key, keys_of, exceptions_of, asks_for, AreByBound, AreCopies, lifetimes_first}
-use Rattle.educe_bound.specs.Traits.{is_listed}
+use Rattle.educe_bound_traits.specs.Traits.{is_listed}
 use Rattle.educe_attrs.specs.Packed.{IsPacked}
 use Rattle.educe_laws.specs.Built.{is_struct}
 use Rattle.educe_laws.specs.Listed.{listed}

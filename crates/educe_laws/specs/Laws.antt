@@ -5,8 +5,8 @@ use Rattle.educe_syntax.specs.DeriveInput.{DeriveInput}
 use Rattle.educe_syntax.specs.Field.{Field}
 use Rattle.educe_syntax.specs.Naming.{field_names, AreApart}
 use Rattle.educe_syntax.specs.Refusal.{IsDefinition}
-use Rattle.educe_bound.specs.declared.traits.Trait.{Trait}
-use Rattle.educe_bound.specs.Traits.{is_listed}
+use Rattle.educe_bound_traits.specs.declared.traits.Trait.{Trait}
+use Rattle.educe_bound_traits.specs.Traits.{is_listed}
 use Rattle.educe_attrs.specs.Causes.{NoCause}
 use Rattle.educe_attrs.specs.FieldSettings.{FieldSettings}
 use Rattle.educe_attrs.specs.Fields.{HaveNoCauses}
@@ -14,10 +14,10 @@ use Rattle.educe_attrs.specs.Phases.{OfHandler}
 use Rattle.educe_attrs.specs.Places.{IsFieldSaid}
 use Rattle.educe_attrs.specs.Represented.{IsDiscriminantType}
 use Rattle.educe_discriminants.specs.declared.discriminant_type.DiscriminantType.{DiscriminantType}
-use Rattle.educe_body.specs.declared.answers.Answers.{Answers}
-use Rattle.educe_body.specs.declared.key_function.Constant.{Constant}
-use Rattle.educe_body.specs.declared.body.Item.{Item}
-use Rattle.educe_body.specs.declared.comparison.Comparison.{Comparison}
+use Rattle.educe_body_values.specs.declared.answers.Answers.{Answers}
+use Rattle.educe_body_forms.specs.declared.key_function.Constant.{Constant}
+use Rattle.educe_body_items.specs.declared.items.Item.{Item}
+use Rattle.educe_body_forms.specs.declared.comparison.Comparison.{Comparison}
 use Rattle.educe_syntax.specs.Few.{all_fields}
 use Rattle.educe_body.specs.Words.{HasWord}
 use Rattle.educe_laws.specs.Arms.{Names, AreNames, AreScoped, variables, AreConstants, AreNumbers}

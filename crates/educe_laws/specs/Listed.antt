@@ -3,8 +3,8 @@ use Rattle.std.specs.Prelude.{List}
 use Rattle.std.specs.List.{filter}
 use Rattle.educe_syntax.specs.DeriveInput.{DeriveInput}
 use Rattle.educe_syntax.specs.Parsed.{end_of}
-use Rattle.educe_bound.specs.declared.traits.Trait.{Trait}
-use Rattle.educe_bound.specs.Traits.{variants, is_listed}
+use Rattle.educe_bound_traits.specs.declared.traits.Trait.{Trait}
+use Rattle.educe_bound_traits.specs.Traits.{variants, is_listed}
 use Rattle.educe_attrs.specs.Causes.{Cause}
 use Rattle.educe_attrs.specs.Listing.{listed_traits, OfListing}
 

@@ -16,22 +16,22 @@ use Rattle.educe_syntax.specs.FieldShape.{FieldShape}
 use Rattle.educe_syntax.specs.Ident.{Ident}
 use Rattle.educe_syntax.specs.Ty.{Ty}
 use Rattle.educe_attrs.specs.Adjusted.{adjusted}
-use Rattle.educe_body.specs.declared.answers.Answer.{Answer}
-use Rattle.educe_body.specs.declared.answers.Answer.TheVariants as answer
-use Rattle.educe_body.specs.declared.answers.Answers.{Answers}
-use Rattle.educe_body.specs.declared.body.Body.{Body}
-use Rattle.educe_body.specs.declared.callee.Callee.{Callee}
-use Rattle.educe_body.specs.declared.callee.Callee.TheVariants as callee
-use Rattle.educe_body.specs.declared.evaluator.Outcome.{Outcome}
-use Rattle.educe_body.specs.declared.evaluator.Outcome.TheVariants.{Made, Whole}
-use Rattle.educe_body.specs.declared.form.Form.{Form, Construct, Pasted}
-use Rattle.educe_body.specs.declared.form.Init.{Init}
-use Rattle.educe_body.specs.declared.value.FieldValue.{FieldValue}
-use Rattle.educe_body.specs.declared.value.Value.{Value}
-use Rattle.educe_body.specs.Answering.{answer_of}
-use Rattle.educe_body.specs.Cases.{case_at}
-use Rattle.educe_body.specs.Meaning.{Scene, value}
-use Rattle.educe_body.specs.Types.{type_spellings, type_place, default_call, default_of}
+use Rattle.educe_body_values.specs.declared.answers.Answer.{Answer}
+use Rattle.educe_body_values.specs.declared.answers.Answer.TheVariants as answer
+use Rattle.educe_body_values.specs.declared.answers.Answers.{Answers}
+use Rattle.educe_body_forms.specs.declared.body.Body.{Body}
+use Rattle.educe_body_values.specs.declared.callee.Callee.{Callee}
+use Rattle.educe_body_values.specs.declared.callee.Callee.TheVariants as callee
+use Rattle.educe_body_values.specs.declared.evaluator.Outcome.{Outcome}
+use Rattle.educe_body_values.specs.declared.evaluator.Outcome.TheVariants.{Made, Whole}
+use Rattle.educe_body_forms.specs.declared.form.Form.{Form, Construct, Pasted}
+use Rattle.educe_body_forms.specs.declared.form.Init.{Init}
+use Rattle.educe_body_values.specs.declared.value.FieldValue.{FieldValue}
+use Rattle.educe_body_values.specs.declared.value.Value.{Value}
+use Rattle.educe_body_values.specs.Answering.{answer_of}
+use Rattle.educe_body_values.specs.Cases.{case_at}
+use Rattle.educe_body_values.specs.Meaning.{Scene, value}
+use Rattle.educe_body_values.specs.Types.{type_spellings, type_place, default_call, default_of}
 use Rattle.educe_laws.specs.Arms.{IsKey}
 use Rattle.educe_laws.specs.Cases.{fields_in}
 use Rattle.educe_laws.specs.Defaults.{Choice, by_value, of_struct, of_variant, choice_of, field_value, type_values}

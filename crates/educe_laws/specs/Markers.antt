@@ -10,8 +10,8 @@ use Rattle.educe_syntax.specs.Ty.{Ty}
 use Rattle.educe_syntax_self.specs.Selves.{replaced}
 use Rattle.educe_syntax_self.specs.Visits.{AreReplaced}
 use Rattle.educe_attrs.specs.Lints.{lints}
-use Rattle.educe_bound.specs.declared.traits.Trait.{Trait}
-use Rattle.educe_body.specs.declared.body.MarkerItem.{MarkerItem}
+use Rattle.educe_bound_traits.specs.declared.traits.Trait.{Trait}
+use Rattle.educe_body_items.specs.declared.items.MarkerItem.{MarkerItem}
 use Rattle.educe_laws.specs.Cases.{cases_of}
 use Rattle.educe_laws.specs.Checks.{IsHeadFor, IsReplacedType, texts_of}
 use Rattle.educe_laws.specs.Settings.{Kept, How, plainly, by_method, by_order, kept_fields}

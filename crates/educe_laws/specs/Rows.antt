@@ -1,7 +1,7 @@
 -- What each trait does with fields, and the forms of the attributes that it has at a type, at a variant and at a field.
 use Rattle.std.specs.Prelude.{Bool, true, false}
-use Rattle.educe_bound.specs.declared.traits.Trait.{Trait}
-use Rattle.educe_bound.specs.declared.traits.Trait.TheVariants as trait
+use Rattle.educe_bound_traits.specs.declared.traits.Trait.{Trait}
+use Rattle.educe_bound_traits.specs.declared.traits.Trait.TheVariants as trait
 use Rattle.educe_attrs.specs.Row.{Row}
 use Rattle.educe_attrs.specs.Bounds.{bound_row}
 use Rattle.educe_attrs.specs.Cloned.{clone_row}

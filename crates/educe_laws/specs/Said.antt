@@ -1,9 +1,9 @@
 -- What the attributes of a definition say of the traits that it lists.
 use Rattle.std.specs.Prelude.{◌≡◌, true}
 use Rattle.educe_syntax.specs.DeriveInput.{DeriveInput}
-use Rattle.educe_bound.specs.declared.traits.Trait.{Trait}
-use Rattle.educe_bound.specs.declared.traits.Trait.TheVariants as trait
-use Rattle.educe_bound.specs.Traits.{is_listed}
+use Rattle.educe_bound_traits.specs.declared.traits.Trait.{Trait}
+use Rattle.educe_bound_traits.specs.declared.traits.Trait.TheVariants as trait
+use Rattle.educe_bound_traits.specs.Traits.{is_listed}
 use Rattle.educe_laws.specs.Defaults.{AreDefaultsSaid}
 use Rattle.educe_laws.specs.Listed.{listed}
 use Rattle.educe_laws.specs.Settings.{AreSaid}

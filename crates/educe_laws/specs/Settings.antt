@@ -15,7 +15,7 @@ use Rattle.educe_attrs.specs.FieldSettings.{FieldSettings}
 use Rattle.educe_attrs.specs.Fields.{settings_at}
 use Rattle.educe_attrs.specs.Compared.{number_of, place_of}
 use Rattle.educe_attrs.specs.Places.{place_settings, IsSaid, IsFieldSaid}
-use Rattle.educe_bound.specs.declared.traits.Trait.{Trait}
+use Rattle.educe_bound_traits.specs.declared.traits.Trait.{Trait}
 use Rattle.educe_syntax.specs.Few.{variants_of, all_fields}
 use Rattle.educe_laws.specs.Listed.{listed}
 use Rattle.educe_laws.specs.Ranks.{AreRanksApart}

@@ -8,13 +8,13 @@ use Rattle.educe_tokens.specs.Appends.{no_place}
 use Rattle.educe_syntax.specs.Ident.{Ident}
 use Rattle.educe_syntax.specs.ExprPath.{ExprPath}
 use Rattle.educe_syntax.specs.Field.{Field}
-use Rattle.educe_bound.specs.declared.traits.Trait.{Trait}
-use Rattle.educe_body.specs.declared.comparison.Comparison.{Comparison}
-use Rattle.educe_body.specs.declared.comparison.Comparison.TheVariants.{PartialEq, PartialOrd, Ord}
-use Rattle.educe_body.specs.declared.callee.BuiltIn.{BuiltIn}
-use Rattle.educe_body.specs.declared.form.Form.{Form, Local, Reference, BracedCopy, Call, Not, SomeOf, IfReturn, MatchOrdering}
-use Rattle.educe_body.specs.BuiltIn.{IsBuiltIn}
-use Rattle.educe_body.specs.Keys.{key_of, binding_key}
+use Rattle.educe_bound_traits.specs.declared.traits.Trait.{Trait}
+use Rattle.educe_body_forms.specs.declared.comparison.Comparison.{Comparison}
+use Rattle.educe_body_forms.specs.declared.comparison.Comparison.TheVariants.{PartialEq, PartialOrd, Ord}
+use Rattle.educe_body_values.specs.declared.callee.BuiltIn.{BuiltIn}
+use Rattle.educe_body_forms.specs.declared.form.Form.{Form, Local, Reference, BracedCopy, Call, Not, SomeOf, IfReturn, MatchOrdering}
+use Rattle.educe_body_values.specs.BuiltIn.{IsBuiltIn}
+use Rattle.educe_body_forms.specs.Keys.{key_of, binding_key}
 use Rattle.educe_laws.specs.Ranks.{Rises}
 use Rattle.educe_laws.specs.Rows.{is_order}
 use Rattle.educe_laws.specs.Settings.{Kept, How, plainly, by_method, by_order}

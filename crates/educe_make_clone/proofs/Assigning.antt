@@ -1,7 +1,7 @@
 -- The steps of `clone_from` on the fields of a struct.
 use Rattle.std.proofs.Common.{◌≡◌, ◌≢◌, ℕ, Bool, List, [], ◌∷◌, length, refl, arith}
 use Rattle.std.specs.List.{AllZip}
-use Rattle.educe_body.specs.declared.form.Form.{Form}
+use Rattle.educe_body_forms.specs.declared.form.Form.{Form}
 use Rattle.educe_laws.specs.CloneBodies.{IsDiscard, IsAssignment, AreAssignments}
 use Rattle.educe_laws.specs.Settings.{Kept}
 

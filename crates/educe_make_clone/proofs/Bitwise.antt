@@ -12,8 +12,8 @@ use Rattle.educe_syntax.specs.Shape.TheVariants.{Struct, Enum}
 use Rattle.educe_syntax.specs.Variant.{Variant}
 use Rattle.educe_syntax.specs.GenericParam.{GenericParam}
 use Rattle.educe_bound.specs.declared.bound.Bound.{Bound}
-use Rattle.educe_bound.specs.declared.traits.Trait.TheVariants.{Clone, Copy}
-use Rattle.educe_bound.specs.Traits.{is_listed}
+use Rattle.educe_bound_traits.specs.declared.traits.Trait.TheVariants.{Clone, Copy}
+use Rattle.educe_bound_traits.specs.Traits.{is_listed}
 use Rattle.educe_handlers.specs.CaseSettings.{settings_in}
 use Rattle.educe_laws.specs.Cases.{fields_in, shape_cases, cases_of}
 use Rattle.educe_laws.specs.Copying.{is_empty, is_bitwise, copies_whole}

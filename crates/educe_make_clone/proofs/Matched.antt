@@ -3,8 +3,8 @@ use Rattle.std.proofs.Common.{◌≡◌, ◌≢◌, List, [], ◌∷◌, length,
 use Rattle.std.specs.List.{AllZip}
 use Rattle.educe_syntax.specs.DeriveInput.{DeriveInput}
 use Rattle.educe_syntax.specs.Variant.{Variant}
-use Rattle.educe_body.specs.declared.form.Arm.{Arm}
-use Rattle.educe_body.specs.declared.form.Form.{Form, Unreachable}
+use Rattle.educe_body_forms.specs.declared.form.Arm.{Arm}
+use Rattle.educe_body_forms.specs.declared.form.Form.{Form, Unreachable}
 use Rattle.educe_laws.specs.CloneBodies.{CloneNames, IsCloneArm, IsCloneEnum, IsMatchOnSelf, IsDiscard, IsFromArm, IsFromEnum}
 use Rattle.educe_make_clone.specs.Matches.{IsMatchOf}
 

@@ -11,8 +11,8 @@ use Rattle.educe_bound_classes.specs.Questions.{uses_params}
 use Rattle.educe_attrs.specs.Causes.{NoCause}
 use Rattle.educe_attrs.specs.Places.{OfPlace}
 use Rattle.educe_bound.specs.declared.bound.Bound.{Bound}
-use Rattle.educe_bound.specs.declared.traits.Trait.TheVariants as trait
-use Rattle.educe_bound.specs.Traits.{is_listed}
+use Rattle.educe_bound_traits.specs.declared.traits.Trait.TheVariants as trait
+use Rattle.educe_bound_traits.specs.Traits.{is_listed}
 use Rattle.educe_laws.specs.Cases.{fields_in}
 use Rattle.educe_laws.specs.Copying.{is_empty, has_predicates}
 use Rattle.educe_laws.specs.Listed.{listed}

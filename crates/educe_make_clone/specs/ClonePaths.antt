@@ -1,6 +1,6 @@
 -- The functions of the core library that the functions of `Clone` call.
-use Rattle.educe_body.specs.BuiltIn.{IsBuiltIn}
-use Rattle.educe_body.specs.declared.callee.BuiltIn.TheVariants.{Clone, CloneFrom}
+use Rattle.educe_body_values.specs.BuiltIn.{IsBuiltIn}
+use Rattle.educe_body_values.specs.declared.callee.BuiltIn.TheVariants.{Clone, CloneFrom}
 use Rattle.educe_make_clone.specs.declared.clone_paths.ClonePaths.{ClonePaths}
 
 -- the paths are those of `Clone::clone` and of `Clone::clone_from`

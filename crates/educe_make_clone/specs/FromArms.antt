@@ -4,8 +4,8 @@ use Rattle.std.specs.List.{AllZip}
 use Rattle.educe_syntax.specs.Ident.{Ident}
 use Rattle.educe_syntax.specs.Variant.{Variant}
 use Rattle.educe_attrs.specs.FieldSettings.{FieldSettings}
-use Rattle.educe_body.specs.declared.form.Form.{Form, IfLet}
-use Rattle.educe_body.specs.declared.pattern.Pattern.{Pattern}
+use Rattle.educe_body_forms.specs.declared.form.Form.{Form, IfLet}
+use Rattle.educe_body_forms.specs.declared.pattern.Pattern.{Pattern}
 use Rattle.educe_laws.specs.Arms.{IsName, IsPatternBy}
 use Rattle.educe_laws.specs.CloneBodies.{CloneNames, IsThrough, IsWhole}
 use Rattle.educe_laws.specs.Settings.{Kept}

@@ -1,8 +1,8 @@
 -- Blocks that match on the value of `self`.
 use Rattle.std.specs.Prelude.{◌≡◌, List, [], ◌∷◌, codes}
 use Rattle.educe_syntax.specs.Ident.{Ident}
-use Rattle.educe_body.specs.declared.form.Arm.{Arm}
-use Rattle.educe_body.specs.declared.form.Form.{Form, MatchValue}
+use Rattle.educe_body_forms.specs.declared.form.Arm.{Arm}
+use Rattle.educe_body_forms.specs.declared.form.Form.{Form, MatchValue}
 use Rattle.educe_laws.specs.Arms.{IsName}
 
 -- a match on the value of `self` with these arms

@@ -12,7 +12,7 @@ pub struct CloneHandler;
 
 impl TraitHandler for CloneHandler {
     ghost use Rattle.std.specs.Prelude.{true};
-    ghost use Rattle.educe_bound.specs.declared.traits.Trait.TheVariants.{Clone};
+    ghost use Rattle.educe_bound_traits.specs.declared.traits.Trait.TheVariants.{Clone};
 
     const TRAIT: Trait = Trait::Clone;
 

@@ -1,7 +1,7 @@
 //! The blocks of `clone` and of `clone_from`, from what fields say.
 ghost use Rattle.std.specs.Prelude.{◌≡◌, [], ◌∷◌, map, IfOk, OnOk};
 ghost use Rattle.std.specs.List.{AllZip};
-ghost use Rattle.educe_bound.specs.declared.traits.Trait.TheVariants.{Clone};
+ghost use Rattle.educe_bound_traits.specs.declared.traits.Trait.TheVariants.{Clone};
 ghost use Rattle.educe_handlers.specs.CaseSettings.{settings_in};
 ghost use Rattle.educe_handlers.specs.Ranked.{kept_of};
 ghost use Rattle.educe_handlers.specs.SeenTypes.{Sees};

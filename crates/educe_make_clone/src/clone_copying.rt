@@ -2,7 +2,7 @@
 ghost use Rattle.std.specs.Prelude.{◌≡◌, not, ◌&&◌, IfOk, IfErr};
 ghost use Rattle.std.specs.List.{list_any, list_all};
 ghost use Rattle.educe_attrs.specs.Causes.{OfStop};
-ghost use Rattle.educe_bound.specs.declared.traits.Trait.TheVariants as derived;
+ghost use Rattle.educe_bound_traits.specs.declared.traits.Trait.TheVariants as derived;
 ghost use Rattle.educe_handlers.specs.CaseSettings.{settings_in};
 ghost use Rattle.educe_laws.specs.Cases.{fields_in, cases_of};
 ghost use Rattle.educe_laws.specs.Copying as spec;

@@ -9,7 +9,7 @@ ghost use Rattle.educe_attrs.specs.Causes.{NoCause, OfStop};
 ghost use Rattle.educe_attrs.specs.Fields.{HaveNoCauses};
 ghost use Rattle.educe_attrs.specs.Phases.{OfHandler};
 ghost use Rattle.educe_bound.specs.Predicates.{keys_of};
-ghost use Rattle.educe_bound.specs.declared.traits.Trait.TheVariants as derived;
+ghost use Rattle.educe_bound_traits.specs.declared.traits.Trait.TheVariants as derived;
 ghost use Rattle.educe_handlers.specs.CaseSettings.{settings_in};
 ghost use Rattle.educe_handlers.specs.SeenTypes.{read_of, touched_of, Sees};
 ghost use Rattle.educe_laws.specs.Blocks as spec;

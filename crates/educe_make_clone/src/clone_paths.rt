@@ -1,6 +1,6 @@
 //! The functions of the core library that the functions of `Clone` call.
 ghost use Rattle.std.specs.Prelude.{IfOk};
-ghost use Rattle.educe_body.specs.BuiltIn.{IsBuiltIn};
+ghost use Rattle.educe_body_values.specs.BuiltIn.{IsBuiltIn};
 ghost use Rattle.educe_laws.specs.CloneBodies as spec;
 ghost use Rattle.educe_make_clone.specs.ClonePaths.{AreClonePaths};
 

@@ -12,7 +12,7 @@ pub struct CopyHandler;
 
 impl TraitHandler for CopyHandler {
     ghost use Rattle.std.specs.Prelude.{true};
-    ghost use Rattle.educe_bound.specs.declared.traits.Trait.TheVariants.{Copy};
+    ghost use Rattle.educe_bound_traits.specs.declared.traits.Trait.TheVariants.{Copy};
 
     const TRAIT: Trait = Trait::Copy;
 

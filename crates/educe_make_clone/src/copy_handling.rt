@@ -6,7 +6,7 @@ ghost use Rattle.educe_syntax.specs.Refusal.{IsDefinition};
 ghost use Rattle.educe_attrs.specs.Causes.{NoCause, OfStop};
 ghost use Rattle.educe_attrs.specs.Phases.{OfHandler};
 ghost use Rattle.educe_bound.specs.Predicates.{keys_of};
-ghost use Rattle.educe_bound.specs.declared.traits.Trait.TheVariants.{Copy};
+ghost use Rattle.educe_bound_traits.specs.declared.traits.Trait.TheVariants.{Copy};
 ghost use Rattle.educe_handlers.specs.EveryType.{types_of};
 ghost use Rattle.educe_handlers.specs.SeenTypes.{read_of, touched_of};
 ghost use Rattle.educe_laws.specs.Blocks.{IsCopyBlock};

@@ -11,16 +11,16 @@ use Rattle.educe_syntax.specs.FieldShape.{FieldShape}
 use Rattle.educe_syntax.specs.Shape.TheVariants.{Struct, Enum}
 use Rattle.educe_syntax.specs.Ty.{Ty}
 use Rattle.educe_syntax.specs.Variant.{Variant}
-use Rattle.educe_bound.specs.declared.traits.Trait.{Trait}
-use Rattle.educe_bound.specs.declared.traits.Trait.TheVariants.{Default}
-use Rattle.educe_bound.specs.Traits.{is_listed}
+use Rattle.educe_bound_traits.specs.declared.traits.Trait.{Trait}
+use Rattle.educe_bound_traits.specs.declared.traits.Trait.TheVariants.{Default}
+use Rattle.educe_bound_traits.specs.Traits.{is_listed}
 use Rattle.educe_attrs.specs.Adjusted.{adjusted}
 use Rattle.educe_attrs.specs.Causes.{NoCause}
 use Rattle.educe_attrs.specs.Laws.{lawful_settings}
 use Rattle.educe_attrs.specs.Phases.{OfHandler}
 use Rattle.educe_attrs.specs.Places.{OfPlace}
 use Rattle.educe_attrs.specs.Values.{Values}
-use Rattle.educe_body.specs.declared.form.Form.{Form}
+use Rattle.educe_body_forms.specs.declared.form.Form.{Form}
 use Rattle.educe_laws.specs.Cases.{fields_in}
 use Rattle.educe_laws.specs.Defaults.{type_values, is_open, Choice, by_value, of_struct, of_variant, choice_by, choice_of, written_fields, field_value, type_without, default_types, AreTypeSettings}
 use Rattle.educe_laws.specs.Handled.{handling}

@@ -9,7 +9,7 @@ use Rattle.educe_tokens.specs.declared.span.Span.{Span}
 use Rattle.educe_syntax.specs.DeriveInput.{DeriveInput}
 use Rattle.educe_syntax.specs.Shape.TheVariants.{Enum}
 use Rattle.educe_syntax.specs.Variant.{Variant}
-use Rattle.educe_bound.specs.declared.traits.Trait.TheVariants.{Default}
+use Rattle.educe_bound_traits.specs.declared.traits.Trait.TheVariants.{Default}
 use Rattle.educe_attrs.specs.Laws.{lawful_settings}
 use Rattle.educe_attrs.specs.Values.{Values}
 use Rattle.educe_laws.specs.Defaults.{mark_row, type_values, is_open, mark_values, is_marked, is_one, is_written, of_variant, marked_from, only_one, chosen_variant, choice_by, choice_of, AreTypeSettings, AreMarkSettings, IsUnmarked, IsDefaultCause}

@@ -8,17 +8,17 @@ use Rattle.educe_syntax.specs.Field.{Field}
 use Rattle.educe_syntax.specs.Shape.{Shape}
 use Rattle.educe_syntax.specs.Shape.TheVariants.{Struct, Enum}
 use Rattle.educe_syntax.specs.Variant.{Variant}
-use Rattle.educe_bound.specs.declared.traits.Trait.{Trait}
-use Rattle.educe_bound.specs.declared.traits.Trait.TheVariants.{Default}
+use Rattle.educe_bound_traits.specs.declared.traits.Trait.{Trait}
+use Rattle.educe_bound_traits.specs.declared.traits.Trait.TheVariants.{Default}
 use Rattle.educe_attrs.specs.Causes.{NoCause}
 use Rattle.educe_attrs.specs.Fields.{settings_at, HaveNoCauses}
 use Rattle.educe_attrs.specs.FieldSettings.{FieldSettings}
 use Rattle.educe_attrs.specs.Places.{OfPlace}
 use Rattle.educe_attrs.specs.Values.{Values}
-use Rattle.educe_body.specs.declared.body.ImplItem.{ImplItem}
-use Rattle.educe_body.specs.declared.body.Item.{Item}
-use Rattle.educe_body.specs.declared.body.Item.TheVariants.{New}
-use Rattle.educe_body.specs.declared.form.Form.{Form}
+use Rattle.educe_body_items.specs.declared.items.ImplItem.{ImplItem}
+use Rattle.educe_body_items.specs.declared.items.Item.{Item}
+use Rattle.educe_body_items.specs.declared.items.Item.TheVariants.{New}
+use Rattle.educe_body_forms.specs.declared.form.Form.{Form}
 use Rattle.educe_laws.specs.Cases.{fields_in}
 use Rattle.educe_laws.specs.Defaults.{mark_row, value_row, type_values, is_open, is_written, is_one, Choice, choice_of, AreTypeSettings, marked_again, none_marked}
 use Rattle.educe_laws.specs.Listed.{listed}

@@ -12,7 +12,7 @@ pub struct DefaultHandler;
 
 impl TraitHandler for DefaultHandler {
     ghost use Rattle.std.specs.Prelude.{true};
-    ghost use Rattle.educe_bound.specs.declared.traits.Trait.TheVariants.{Default};
+    ghost use Rattle.educe_bound_traits.specs.declared.traits.Trait.TheVariants.{Default};
 
     const TRAIT: Trait = Trait::Default;
 

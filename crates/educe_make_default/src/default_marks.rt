@@ -3,7 +3,7 @@ ghost use Rattle.std.specs.Prelude.{◌≡◌, ◌<◌, true, IsSome, if◌then�
 ghost use Rattle.educe_syntax.specs.Few as few;
 ghost use Rattle.educe_attrs.specs.Causes.{OfStop};
 ghost use Rattle.educe_attrs.specs.Phases.{OfHandler};
-ghost use Rattle.educe_bound.specs.declared.traits.Trait.TheVariants as derived;
+ghost use Rattle.educe_bound_traits.specs.declared.traits.Trait.TheVariants as derived;
 ghost use Rattle.educe_laws.specs.Defaults as spec;
 ghost use Rattle.educe_laws.specs.Handled.{handling};
 ghost use Rattle.educe_make_default.specs.Defaults.{IsTyped, AreMarksRead, places_from, found_only, AreTwice, IsOnly, IsNone};

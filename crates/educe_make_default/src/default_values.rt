@@ -2,7 +2,7 @@
 ghost use Rattle.std.specs.Prelude.{◌≡◌, ◌==◌, ◌&&◌, ◌||◌, map, IfOk, IfErr};
 ghost use Rattle.educe_attrs.specs.Causes.{OfStop};
 ghost use Rattle.educe_attrs.specs.Phases.{OfHandler};
-ghost use Rattle.educe_bound.specs.declared.traits.Trait.TheVariants as derived;
+ghost use Rattle.educe_bound_traits.specs.declared.traits.Trait.TheVariants as derived;
 ghost use Rattle.educe_laws.specs.Cases.{fields_in};
 ghost use Rattle.educe_laws.specs.Defaults as spec;
 ghost use Rattle.educe_laws.specs.Handled.{handling};

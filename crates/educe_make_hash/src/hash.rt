@@ -12,7 +12,7 @@ pub struct HashHandler;
 
 impl TraitHandler for HashHandler {
     ghost use Rattle.std.specs.Prelude.{true};
-    ghost use Rattle.educe_bound.specs.declared.traits.Trait.TheVariants.{Hash};
+    ghost use Rattle.educe_bound_traits.specs.declared.traits.Trait.TheVariants.{Hash};
 
     const TRAIT: Trait = Trait::Hash;
 

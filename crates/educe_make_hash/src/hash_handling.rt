@@ -7,7 +7,7 @@ ghost use Rattle.educe_attrs.specs.Causes.{NoCause, OfStop};
 ghost use Rattle.educe_attrs.specs.Fields.{HaveNoCauses};
 ghost use Rattle.educe_attrs.specs.Phases.{OfHandler};
 ghost use Rattle.educe_bound.specs.Predicates.{keys_of};
-ghost use Rattle.educe_bound.specs.declared.traits.Trait.TheVariants.{Hash};
+ghost use Rattle.educe_bound_traits.specs.declared.traits.Trait.TheVariants.{Hash};
 ghost use Rattle.educe_handlers.specs.SeenTypes.{Sees};
 ghost use Rattle.educe_laws.specs.Blocks.{IsHashBlock};
 ghost use Rattle.educe_laws.specs.Cases.{cases_of};

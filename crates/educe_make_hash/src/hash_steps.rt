@@ -1,8 +1,8 @@
 //! The steps of `hash`: each feeds something to the hasher.
 ghost use Rattle.std.specs.Prelude.{◌≡◌, map, IfOk};
 ghost use Rattle.educe_tokens.specs.Appends.{no_place};
-ghost use Rattle.educe_body.specs.BuiltIn.{IsBuiltIn};
-ghost use Rattle.educe_body.specs.declared.callee.BuiltIn.TheVariants.{Hash};
+ghost use Rattle.educe_body_values.specs.BuiltIn.{IsBuiltIn};
+ghost use Rattle.educe_body_values.specs.declared.callee.BuiltIn.TheVariants.{Hash};
 ghost use Rattle.educe_handlers.specs.Ranked.{how_of, kept_of};
 ghost use Rattle.educe_handlers.specs.Readings.{reading_of, CanRead};
 ghost use Rattle.educe_laws.specs.HashBodies as spec;

@@ -4,8 +4,8 @@ use Rattle.std.specs.List.{AllZip, filter_map}
 use Rattle.std.proofs.lemmas.List.{map-append}
 use Rattle.std.proofs.lemmas.List.Elements.{filter_map-append}
 use Rattle.educe_syntax.specs.ExprPath.{ExprPath}
-use Rattle.educe_body.specs.declared.body.Item.{Item}
-use Rattle.educe_body.specs.declared.body.Item.TheVariants.{Marker}
+use Rattle.educe_body_items.specs.declared.items.Item.{Item}
+use Rattle.educe_body_items.specs.declared.items.Item.TheVariants.{Marker}
 use Rattle.educe_laws.specs.Markers.{Marked, marked_by}
 use Rattle.educe_laws.specs.Settings.{Kept, How, plainly}
 use Rattle.educe_make_markers.specs.declared.markers.MethodMarker.{MethodMarker}

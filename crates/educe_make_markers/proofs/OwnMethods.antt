@@ -8,8 +8,8 @@ use Rattle.educe_syntax.specs.ExprPath.{ExprPath}
 use Rattle.educe_syntax.specs.Laws.{lawful_parts}
 use Rattle.educe_syntax.specs.Meta.{Meta}
 use Rattle.educe_syntax.specs.Parsed.{IsWhole}
-use Rattle.educe_bound.specs.declared.traits.Trait.{Trait}
-use Rattle.educe_bound.specs.declared.traits.Trait.TheVariants.{PartialOrd}
+use Rattle.educe_bound_traits.specs.declared.traits.Trait.{Trait}
+use Rattle.educe_bound_traits.specs.declared.traits.Trait.TheVariants.{PartialOrd}
 use Rattle.educe_attrs_values.specs.declared.kind.ValueKind.TheVariants as kind
 use Rattle.educe_attrs_values.specs.declared.source.Source.{Source}
 use Rattle.educe_attrs_values.specs.Sources.{value_source}

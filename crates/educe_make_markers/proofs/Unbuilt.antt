@@ -9,7 +9,7 @@ use Rattle.educe_syntax.specs.Field.{Field}
 use Rattle.educe_tokens.specs.declared.error.EduceError.{EduceError}
 use Rattle.educe_tokens.specs.declared.error.Kind.TheVariants.{NotBuilt}
 use Rattle.educe_tokens.specs.Refusals.{placeless}
-use Rattle.educe_bound.specs.declared.traits.Trait.{Trait}
+use Rattle.educe_bound_traits.specs.declared.traits.Trait.{Trait}
 use Rattle.educe_handlers.proofs.Refused.{in_among}
 use Rattle.educe_laws.specs.Handled.{has_markers, IsUnbuiltMarker}
 use Rattle.educe_laws.specs.Settings.{settings_of}

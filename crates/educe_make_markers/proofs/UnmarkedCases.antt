@@ -8,7 +8,7 @@ use Rattle.educe_syntax.specs.DeriveInput.{DeriveInput}
 use Rattle.educe_syntax.specs.ExprPath.{ExprPath}
 use Rattle.educe_syntax.specs.Field.{Field}
 use Rattle.educe_syntax.specs.Ty.{Ty}
-use Rattle.educe_bound.specs.declared.traits.Trait.{Trait}
+use Rattle.educe_bound_traits.specs.declared.traits.Trait.{Trait}
 use Rattle.educe_handlers.specs.CaseSettings.{settings_in}
 use Rattle.educe_laws.specs.Cases.{cases_of}
 use Rattle.educe_laws.specs.Markers.{Marked, marked_by, marked_fields}

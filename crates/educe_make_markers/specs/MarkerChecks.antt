@@ -8,7 +8,7 @@ use Rattle.educe_syntax.specs.ExprPath.{ExprPath}
 use Rattle.educe_syntax.specs.Few.{all_fields}
 use Rattle.educe_syntax.specs.Field.{Field}
 use Rattle.educe_attrs.specs.Among.{IsAmong}
-use Rattle.educe_bound.specs.declared.traits.Trait.{Trait}
+use Rattle.educe_bound_traits.specs.declared.traits.Trait.{Trait}
 use Rattle.educe_laws.specs.Handled.{has_plain_marker, IsUnbuiltMarker}
 use Rattle.educe_laws.specs.Settings.{settings_of}
 

@@ -6,10 +6,10 @@ use Rattle.educe_syntax.specs.ExprPath.{ExprPath}
 use Rattle.educe_syntax.specs.Generics.{Generics}
 use Rattle.educe_syntax.specs.Ty.{Ty}
 use Rattle.educe_syntax_self.specs.Visits.{MayVisitType, MayVisitPath}
-use Rattle.educe_bound.specs.declared.traits.Trait.{Trait}
-use Rattle.educe_body.specs.declared.body.Item.{Item}
-use Rattle.educe_body.specs.declared.body.Item.TheVariants.{Marker}
-use Rattle.educe_body.specs.declared.body.MarkerItem.{MarkerItem}
+use Rattle.educe_bound_traits.specs.declared.traits.Trait.{Trait}
+use Rattle.educe_body_items.specs.declared.items.Item.{Item}
+use Rattle.educe_body_items.specs.declared.items.Item.TheVariants.{Marker}
+use Rattle.educe_body_items.specs.declared.items.MarkerItem.{MarkerItem}
 use Rattle.educe_laws.specs.Cases.{cases_of}
 use Rattle.educe_laws.specs.Checks.{IsHeadFor}
 use Rattle.educe_laws.specs.Markers.{Marked, marked_by, IsMarker, AreMarkers}

@@ -1,6 +1,6 @@
 -- Values of structs whose fields have one type.
 use Rattle.std.specs.Prelude.{ℤ}
-use Rattle.educe_body.specs.declared.value.FieldValue.{FieldValue}
+use Rattle.educe_body_values.specs.declared.value.FieldValue.{FieldValue}
 
 -- the value of this number, of a field of the first type
 abbrev pub numbered : ℤ → FieldValue

@@ -4,7 +4,7 @@ use Rattle.educe_attrs.specs.Causes.{NoCause}
 use Rattle.educe_attrs.specs.Fields.{HaveNoCauses}
 use Rattle.educe_attrs.specs.Phases.{OfHandler}
 use Rattle.educe_bound.specs.Predicates.{keys_of}
-use Rattle.educe_bound.specs.Traits.{is_listed}
+use Rattle.educe_bound_traits.specs.Traits.{is_listed}
 use Rattle.educe_laws.specs.Comparisons.{trait_of}
 use Rattle.educe_laws.specs.Handled.{handling}
 use Rattle.educe_laws.specs.Handlers.{IsReady}

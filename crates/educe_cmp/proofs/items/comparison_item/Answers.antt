@@ -1,5 +1,5 @@
 use Rattle.std.proofs.Common.{◌≡◌, refl, subst, sym}
-use Rattle.educe_body.specs.declared.body.Body.{Body}
+use Rattle.educe_body_forms.specs.declared.body.Body.{Body}
 use Rattle.educe_laws.specs.Blocks.{IsFunction, IsImpl, IsBody, function_name}
 use Rattle.educe_laws.specs.Comparisons.{trait_of}
 use Rattle.educe_laws.specs.Headers.{IsHeader}

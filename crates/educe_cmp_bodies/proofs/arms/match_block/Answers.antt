@@ -1,7 +1,7 @@
 use Rattle.std.proofs.Common.{[], ◌∷◌, ap, ◌∙◌}
-use Rattle.educe_body.specs.declared.form.Form.{MatchValue}
-use Rattle.educe_body.specs.declared.form.Form as form
-use Rattle.educe_body.specs.declared.form.Known.{Known}
+use Rattle.educe_body_forms.specs.declared.form.Form.{MatchValue}
+use Rattle.educe_body_forms.specs.declared.form.Form as form
+use Rattle.educe_body_forms.specs.declared.form.Known.{Known}
 use Rattle.educe_handlers.proofs.Lists.{two_pushed}
 use Rattle.educe_cmp_bodies.proofs.arms.match_block.Goals as goal
 

@@ -1,7 +1,7 @@
 use Rattle.std.proofs.Common.{ℕ, List, map, ap, subst, sym, ◌++◌, ◌∷◌, [], ◌∙◌}
 use Rattle.std.specs.Prelude.{codes}
-use Rattle.educe_body.specs.declared.form.Form as form
-use Rattle.educe_body.specs.declared.form.Known.{Known}
+use Rattle.educe_body_forms.specs.declared.form.Form as form
+use Rattle.educe_body_forms.specs.declared.form.Known.{Known}
 use Rattle.educe_laws.specs.Blocks.{HasSteps, IsParameter}
 use Rattle.educe_laws.specs.Steps.{of_base, AreSteps}
 use Rattle.educe_handlers.specs.Ranked.{kept_of}

@@ -5,9 +5,9 @@ use Rattle.educe_syntax_self.specs.Visits.{MayVisitType}
 use Rattle.educe_attrs.specs.Causes.{NoCause, OfStop}
 use Rattle.educe_attrs.specs.Phases.{OfHandler}
 use Rattle.educe_attrs.specs.Places.{OfPlace}
-use Rattle.educe_bound.specs.declared.traits.Trait.{Trait}
-use Rattle.educe_bound.specs.declared.traits.Trait.TheVariants.{PartialEq, Eq}
-use Rattle.educe_bound.specs.Traits.{is_listed}
+use Rattle.educe_bound_traits.specs.declared.traits.Trait.{Trait}
+use Rattle.educe_bound_traits.specs.declared.traits.Trait.TheVariants.{PartialEq, Eq}
+use Rattle.educe_bound_traits.specs.Traits.{is_listed}
 use Rattle.educe_handlers.proofs.Refused.{other_clear, handler_uncaused}
 use Rattle.educe_laws.specs.Handled.{has_markers, OfShape, handling}
 use Rattle.educe_laws.specs.Listed.{listed}

@@ -1,7 +1,7 @@
 use Rattle.std.proofs.Common.{List, [], ◌∷◌, ◌++◌, ap, ◌∙◌, subst}
 use Rattle.educe_syntax.specs.Ty.{Ty}
-use Rattle.educe_body.specs.declared.body.Item.{Item}
-use Rattle.educe_body.specs.declared.body.Item.TheVariants.{Impl}
+use Rattle.educe_body_items.specs.declared.items.Item.{Item}
+use Rattle.educe_body_items.specs.declared.items.Item.TheVariants.{Impl}
 use Rattle.educe_handlers.proofs.Lists.{one_pushed}
 use Rattle.educe_laws.specs.Checks.{IsCheck}
 use Rattle.educe_cmp_eq.proofs.eq_handling.checked_block.Goals as goal

@@ -1,4 +1,4 @@
-use Rattle.educe_bound.specs.declared.traits.Trait.TheVariants.{Eq}
+use Rattle.educe_bound_traits.specs.declared.traits.Trait.TheVariants.{Eq}
 use Rattle.educe_handlers.proofs.Formed.{impl_with}
 use Rattle.educe_laws.specs.Blocks.{AreNone}
 use Rattle.educe_cmp_eq.proofs.eq_handling.push_impl.Goals as goal

@@ -1,7 +1,7 @@
 use Rattle.std.proofs.Common.{ap, sym, subst}
-use Rattle.educe_body.specs.BuiltIn.{IsBuiltIn}
-use Rattle.educe_body.specs.declared.callee.BuiltIn.TheVariants.{Cmp}
-use Rattle.educe_body.specs.declared.form.Form.{Call}
+use Rattle.educe_body_values.specs.BuiltIn.{IsBuiltIn}
+use Rattle.educe_body_values.specs.declared.callee.BuiltIn.TheVariants.{Cmp}
+use Rattle.educe_body_forms.specs.declared.form.Form.{Call}
 use Rattle.educe_cmp_keys.specs.Names.{names_of}
 use Rattle.educe_laws.specs.Arms.{IsKeyOf}
 use Rattle.educe_handlers.proofs.Lists.{two_pushed}

@@ -1,5 +1,5 @@
 use Rattle.std.proofs.Common.{ap}
-use Rattle.educe_body.specs.declared.form.Form.{Call}
+use Rattle.educe_body_forms.specs.declared.form.Form.{Call}
 use Rattle.educe_handlers.specs.Ranked.{how_of}
 use Rattle.educe_handlers.proofs.CalledPaths.{called_is}
 use Rattle.educe_handlers.proofs.Lists.{two_pushed}

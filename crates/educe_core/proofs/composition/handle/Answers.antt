@@ -1,6 +1,6 @@
 use Rattle.std.proofs.Common.{◌≡◌, ◌∙◌, true, false, ap, sym}
 use Rattle.educe_attrs.specs.Phases.{OfHandler}
-use Rattle.educe_bound.specs.Traits.{is_listed}
+use Rattle.educe_bound_traits.specs.Traits.{is_listed}
 use Rattle.educe_laws.specs.Handled.{handling, IsListedCause}
 use Rattle.educe_laws.specs.Handlers.{traits_before}
 use Rattle.educe_laws.specs.Listed.{listed}

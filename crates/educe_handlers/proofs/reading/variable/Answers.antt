@@ -1,5 +1,5 @@
 use Rattle.std.proofs.Common.{ℕ, List, ◌++◌, refl, ap, ◌∙◌}
-use Rattle.educe_body.specs.Keys.{binding_key}
+use Rattle.educe_body_forms.specs.Keys.{binding_key}
 use Rattle.educe_handlers.proofs.reading.variable.Goals as goal
 
 pub returns : goal.returns

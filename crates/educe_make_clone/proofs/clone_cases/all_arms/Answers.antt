@@ -2,7 +2,7 @@ use Rattle.std.proofs.Common.{◌∙◌, List, map, subst, arith}
 use Rattle.std.specs.List.{AllZip}
 use Rattle.std.proofs.lemmas.List.{take_all}
 use Rattle.educe_syntax.specs.Variant.{Variant}
-use Rattle.educe_bound.specs.declared.traits.Trait.TheVariants.{Clone}
+use Rattle.educe_bound_traits.specs.declared.traits.Trait.TheVariants.{Clone}
 use Rattle.educe_handlers.specs.SeenTypes.{Sees}
 use Rattle.educe_handlers.proofs.Lists.{zip_more}
 use Rattle.educe_handlers.proofs.Visited.{sees_none, sees_more}

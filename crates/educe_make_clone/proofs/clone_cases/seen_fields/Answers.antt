@@ -1,6 +1,6 @@
 use Rattle.std.proofs.Common.{◌≡◌, ◌∙◌, ap, length, map}
 use Rattle.std.proofs.lemmas.List.{length-map}
-use Rattle.educe_bound.specs.declared.traits.Trait.TheVariants.{Clone}
+use Rattle.educe_bound_traits.specs.declared.traits.Trait.TheVariants.{Clone}
 use Rattle.educe_handlers.specs.Ranked.{kept_of}
 use Rattle.educe_handlers.proofs.Visited.{sees_one}
 use Rattle.educe_laws.specs.Settings.{kept_by, kept_fields}

@@ -1,5 +1,5 @@
 use Rattle.std.proofs.Common.{map, ap, ◌∙◌}
-use Rattle.educe_bound.specs.declared.traits.Trait.TheVariants.{Clone}
+use Rattle.educe_bound_traits.specs.declared.traits.Trait.TheVariants.{Clone}
 use Rattle.educe_handlers.specs.Ranked.{kept_of}
 use Rattle.educe_laws.specs.Settings.{kept_fields}
 use Rattle.educe_make_clone.proofs.clone_cases.variant_arms.Goals as goal

@@ -1,7 +1,7 @@
 use Rattle.std.proofs.Common.{◌≡◌, ◌∙◌, true, List, ap, sym}
-use Rattle.educe_bound.specs.declared.traits.Trait.{Trait}
-use Rattle.educe_bound.specs.declared.traits.Trait.TheVariants.{Copy}
-use Rattle.educe_bound.specs.Traits.{is_listed}
+use Rattle.educe_bound_traits.specs.declared.traits.Trait.{Trait}
+use Rattle.educe_bound_traits.specs.declared.traits.Trait.TheVariants.{Copy}
+use Rattle.educe_bound_traits.specs.Traits.{is_listed}
 use Rattle.educe_laws.specs.Listed.{listed}
 use Rattle.educe_make_clone.proofs.Bitwise.{copies_by}
 use Rattle.educe_make_clone.proofs.clone_copying.can_use_bitwise_copy.Goals as goal

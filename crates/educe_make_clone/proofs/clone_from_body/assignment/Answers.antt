@@ -1,4 +1,4 @@
-use Rattle.educe_body.specs.declared.form.Form.{AssignField}
+use Rattle.educe_body_forms.specs.declared.form.Form.{AssignField}
 use Rattle.educe_handlers.specs.Ranked.{how_of}
 use Rattle.educe_handlers.proofs.CalledPaths.{called_is}
 use Rattle.educe_laws.specs.CloneBodies.{assigning}

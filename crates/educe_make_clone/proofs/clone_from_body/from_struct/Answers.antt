@@ -2,7 +2,7 @@ use Rattle.std.proofs.Common.{◌≡◌, ◌≢◌, ◌∙◌, List, map, length
 use Rattle.std.specs.List.{AllZip}
 use Rattle.std.proofs.lemmas.List.{length-map}
 use Rattle.std.proofs.lemmas.Result.{IfOk-weaker}
-use Rattle.educe_body.specs.declared.form.Form.{Form}
+use Rattle.educe_body_forms.specs.declared.form.Form.{Form}
 use Rattle.educe_handlers.specs.Ranked.{kept_of}
 use Rattle.educe_laws.specs.CloneBodies.{IsDiscard, IsAssignment, AreAssignments, IsFromStruct}
 use Rattle.educe_laws.specs.Settings.{Kept}

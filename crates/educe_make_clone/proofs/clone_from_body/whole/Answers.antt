@@ -1,7 +1,7 @@
 use Rattle.std.proofs.Common.{false, ap, subst, sym}
-use Rattle.educe_body.specs.BuiltIn.{IsBuiltIn}
-use Rattle.educe_body.specs.declared.callee.BuiltIn.TheVariants.{Clone}
-use Rattle.educe_body.specs.declared.form.Form.{Form, AssignThrough}
+use Rattle.educe_body_values.specs.BuiltIn.{IsBuiltIn}
+use Rattle.educe_body_values.specs.declared.callee.BuiltIn.TheVariants.{Clone}
+use Rattle.educe_body_forms.specs.declared.form.Form.{Form, AssignThrough}
 use Rattle.educe_make_clone.proofs.clone_from_body.whole.Goals as goal
 
 pub returns : goal.returns

@@ -4,8 +4,8 @@ use Rattle.educe_syntax.specs.DeriveInput.{DeriveInput}
 use Rattle.educe_syntax_self.proofs.Lawful.{lawful_definitions}
 use Rattle.educe_attrs.specs.Phases.{OfHandler}
 use Rattle.educe_attrs.specs.Places.{OfPlace}
-use Rattle.educe_bound.specs.declared.traits.Trait.TheVariants.{Clone}
-use Rattle.educe_bound.specs.Traits.{is_listed}
+use Rattle.educe_bound_traits.specs.declared.traits.Trait.TheVariants.{Clone}
+use Rattle.educe_bound_traits.specs.Traits.{is_listed}
 use Rattle.educe_handlers.specs.SeenTypes.{read_of, touched_of}
 use Rattle.educe_handlers.proofs.Refused.{fields_uncaused, handler_uncaused}
 use Rattle.educe_laws.specs.Blocks.{AreCloneFunctions}

@@ -1,5 +1,5 @@
 use Rattle.std.proofs.Common.{◌∙◌, ◌++◌}
-use Rattle.educe_bound.specs.declared.traits.Trait.TheVariants.{Clone}
+use Rattle.educe_bound_traits.specs.declared.traits.Trait.TheVariants.{Clone}
 use Rattle.educe_handlers.proofs.Formed.{impl_with}
 use Rattle.educe_handlers.proofs.Lists.{one_pushed}
 use Rattle.educe_laws.specs.Blocks.{AreCloneFunctions}

@@ -1,7 +1,7 @@
 use Rattle.std.specs.Prelude.{codes}
 use Rattle.std.proofs.Common.{◌≡◌, refl}
 use Rattle.std.proofs.lemmas.Result.{IfOk-weaker}
-use Rattle.educe_body.specs.declared.form.Form.{Form, WholeCopy}
+use Rattle.educe_body_forms.specs.declared.form.Form.{Form, WholeCopy}
 use Rattle.educe_handlers.proofs.Formed.{function_with}
 use Rattle.educe_laws.specs.Blocks.{AreCopying}
 use Rattle.educe_laws.specs.Making.{HasOneForm}

@@ -1,8 +1,8 @@
 use Rattle.std.proofs.Common.{◌≡◌, true, refl}
 use Rattle.educe_attrs.specs.Phases.{OfHandler}
 use Rattle.educe_attrs.specs.Places.{OfPlace}
-use Rattle.educe_bound.specs.declared.traits.Trait.TheVariants.{Copy}
-use Rattle.educe_bound.specs.Traits.{is_listed}
+use Rattle.educe_bound_traits.specs.declared.traits.Trait.TheVariants.{Copy}
+use Rattle.educe_bound_traits.specs.Traits.{is_listed}
 use Rattle.educe_handlers.proofs.Formed.{impl_with}
 use Rattle.educe_handlers.proofs.Refused.{other_clear, handler_uncaused}
 use Rattle.educe_laws.specs.Blocks.{AreNone}

@@ -4,7 +4,7 @@ use Rattle.educe_tokens.specs.declared.span.Span.{Span}
 use Rattle.educe_syntax.specs.Variant.{Variant}
 use Rattle.educe_attrs.specs.FieldSettings.{FieldSettings}
 use Rattle.educe_attrs.specs.Phases.{OfHandler}
-use Rattle.educe_bound.specs.declared.traits.Trait.TheVariants.{Default}
+use Rattle.educe_bound_traits.specs.declared.traits.Trait.TheVariants.{Default}
 use Rattle.educe_laws.specs.Cases.{fields_in}
 use Rattle.educe_laws.specs.Defaults.{type_values, is_written}
 use Rattle.educe_laws.specs.Handled.{handling}

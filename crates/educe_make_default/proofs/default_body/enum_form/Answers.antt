@@ -2,8 +2,8 @@ use Rattle.std.proofs.Common.{◌≡◌, ◌∙◌, true, sym}
 use Rattle.std.proofs.lemmas.Result.{IfOk-weaker}
 use Rattle.educe_attrs.specs.Causes.{NoCause}
 use Rattle.educe_attrs.specs.Phases.{OfHandler}
-use Rattle.educe_bound.specs.Traits.{is_listed}
-use Rattle.educe_bound.specs.declared.traits.Trait.TheVariants.{Default}
+use Rattle.educe_bound_traits.specs.Traits.{is_listed}
+use Rattle.educe_bound_traits.specs.declared.traits.Trait.TheVariants.{Default}
 use Rattle.educe_laws.specs.Defaults.{by_value}
 use Rattle.educe_laws.specs.Handled.{handling}
 use Rattle.educe_laws.specs.Listed.{listed}

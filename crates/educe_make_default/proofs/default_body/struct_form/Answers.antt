@@ -1,8 +1,8 @@
 use Rattle.std.proofs.Common.{◌≡◌, ◌∙◌, true, List, None, map, ap, subst, sym}
 use Rattle.std.specs.Prelude.{is_none}
 use Rattle.educe_syntax.specs.Field.{Field}
-use Rattle.educe_bound.specs.Traits.{is_listed}
-use Rattle.educe_bound.specs.declared.traits.Trait.TheVariants.{Default}
+use Rattle.educe_bound_traits.specs.Traits.{is_listed}
+use Rattle.educe_bound_traits.specs.declared.traits.Trait.TheVariants.{Default}
 use Rattle.educe_laws.specs.Defaults.{type_values, is_open, IsCase}
 use Rattle.educe_laws.specs.Listed.{listed}
 use Rattle.educe_make_default.specs.Defaults.{settings_by, AreFieldsRead}

@@ -1,7 +1,7 @@
 use Rattle.std.proofs.Common.{◌≡◌, ◌∷◌, true, refl}
-use Rattle.educe_bound.specs.Traits.{is_listed}
-use Rattle.educe_bound.specs.declared.traits.Trait.TheVariants.{Default}
-use Rattle.educe_body.specs.declared.body.Item.TheVariants.{Impl}
+use Rattle.educe_bound_traits.specs.Traits.{is_listed}
+use Rattle.educe_bound_traits.specs.declared.traits.Trait.TheVariants.{Default}
+use Rattle.educe_body_items.specs.declared.items.Item.TheVariants.{Impl}
 use Rattle.educe_handlers.proofs.Headed.{noted_through}
 use Rattle.educe_laws.specs.Listed.{listed}
 use Rattle.educe_make_default.specs.DefaultLaws.{lawful_defaults}

@@ -1,6 +1,6 @@
 use Rattle.std.proofs.Common.{Bool, refl, subst}
 use Rattle.std.specs.Prelude.{codes}
-use Rattle.educe_bound.specs.declared.traits.Trait.TheVariants.{Default}
+use Rattle.educe_bound_traits.specs.declared.traits.Trait.TheVariants.{Default}
 use Rattle.educe_laws.specs.Blocks.{IsFunction, AreNew}
 use Rattle.educe_laws.specs.Making.{IsDefaultBody}
 use Rattle.educe_handlers.proofs.Formed.{function_with, impl_with}

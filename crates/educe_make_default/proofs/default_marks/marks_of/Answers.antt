@@ -6,8 +6,8 @@ use Rattle.educe_attrs.specs.Causes.{OfStop}
 use Rattle.educe_attrs.specs.Phases.{OfHandler}
 use Rattle.educe_attrs.specs.Places.{OfPlace}
 use Rattle.educe_attrs.specs.Row.{Row}
-use Rattle.educe_bound.specs.declared.traits.Trait.{Trait}
-use Rattle.educe_bound.specs.declared.traits.Trait.TheVariants.{Default}
+use Rattle.educe_bound_traits.specs.declared.traits.Trait.{Trait}
+use Rattle.educe_bound_traits.specs.declared.traits.Trait.TheVariants.{Default}
 use Rattle.educe_laws.specs.Defaults.{mark_row, type_values, is_open}
 use Rattle.educe_laws.specs.Handled.{handling}
 use Rattle.educe_laws.specs.Listed.{listed}

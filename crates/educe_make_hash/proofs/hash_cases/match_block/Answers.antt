@@ -3,8 +3,8 @@ use Rattle.std.specs.Prelude.{codes}
 use Rattle.educe_syntax.specs.DeriveInput.{DeriveInput}
 use Rattle.educe_syntax.specs.Ident.{Ident}
 use Rattle.educe_syntax.specs.Variant.{Variant}
-use Rattle.educe_body.specs.declared.form.Arm.{Arm}
-use Rattle.educe_body.specs.declared.form.Form.{Form, MatchValue}
+use Rattle.educe_body_forms.specs.declared.form.Arm.{Arm}
+use Rattle.educe_body_forms.specs.declared.form.Form.{Form, MatchValue}
 use Rattle.educe_handlers.proofs.Lists.{one_pushed}
 use Rattle.educe_laws.specs.Arms.{IsName, AreArms}
 use Rattle.educe_laws.specs.HashBodies.{HashNames, IsHashArm, IsHashEnumBlock}

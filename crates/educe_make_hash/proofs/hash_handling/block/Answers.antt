@@ -2,8 +2,8 @@ use Rattle.std.proofs.Common.{◌≡◌, true, refl}
 use Rattle.std.specs.Prelude.{codes}
 use Rattle.educe_attrs.specs.Phases.{OfHandler}
 use Rattle.educe_attrs.specs.Places.{OfPlace}
-use Rattle.educe_bound.specs.Traits.{is_listed}
-use Rattle.educe_bound.specs.declared.traits.Trait.TheVariants.{Hash}
+use Rattle.educe_bound_traits.specs.Traits.{is_listed}
+use Rattle.educe_bound_traits.specs.declared.traits.Trait.TheVariants.{Hash}
 use Rattle.educe_handlers.proofs.Formed.{function_with, impl_with}
 use Rattle.educe_handlers.proofs.Refused.{other_clear, fields_uncaused, handler_uncaused}
 use Rattle.educe_handlers.proofs.Visited.{sees_all}

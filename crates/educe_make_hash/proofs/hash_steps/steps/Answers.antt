@@ -1,7 +1,7 @@
 use Rattle.std.proofs.Common.{◌≡◌, List, take, subst, arith}
 use Rattle.std.specs.List.{AllZip}
 use Rattle.std.proofs.lemmas.List.{take_all}
-use Rattle.educe_body.specs.declared.form.Form.{Form}
+use Rattle.educe_body_forms.specs.declared.form.Form.{Form}
 use Rattle.educe_handlers.specs.declared.ranked.Ranked.{Ranked}
 use Rattle.educe_handlers.specs.Ranked.{kept_of}
 use Rattle.educe_handlers.specs.Readings.{reading_of}

@@ -1,6 +1,6 @@
 use Rattle.std.proofs.Common.{◌≡◌, ◌∷◌, [], ◌++◌}
 use Rattle.std.proofs.lemmas.Result.{on_ok_weaker}
-use Rattle.educe_body.specs.declared.body.Item.TheVariants.{Marker}
+use Rattle.educe_body_items.specs.declared.items.Item.TheVariants.{Marker}
 use Rattle.educe_make_markers.specs.Marking.{AddsMarker}
 use Rattle.educe_make_markers.proofs.markers.push_item.Goals as goal
 

@@ -1,7 +1,0 @@
-use Rattle.std.proofs.Common.{◌≡◌, drop}
-use Rattle.educe_body.specs.Callees.{first_named, spellings}
-use Rattle.educe_body.proofs.callee.named.Given as goal
-
-abbrev pub invariant-loop-words : goal.invariant-loop-words
-invariant-loop-words l =
-    first_named (drop l.words-index l.known) (spellings l.tokens) ≡ first_named l.known (spellings l.tokens)

@@ -1,5 +1,0 @@
-use Rattle.educe_body.proofs.Lawful.{lawful_forms}
-use Rattle.educe_body.proofs.laws.form_laws.Goals as goal
-
-pub returns : goal.returns
-returns c = lawful_forms

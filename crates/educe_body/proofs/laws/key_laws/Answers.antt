@@ -1,5 +1,0 @@
-use Rattle.educe_body.proofs.Lawful.{lawful_keys}
-use Rattle.educe_body.proofs.laws.key_laws.Goals as goal
-
-pub returns : goal.returns
-returns c = lawful_keys

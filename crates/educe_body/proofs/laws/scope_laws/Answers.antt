@@ -1,5 +1,0 @@
-use Rattle.educe_body.proofs.Lawful.{lawful_scopes}
-use Rattle.educe_body.proofs.laws.scope_laws.Goals as goal
-
-pub returns : goal.returns
-returns c = lawful_scopes

@@ -1,7 +1,0 @@
-use Rattle.std.proofs.Common.{take}
-use Rattle.educe_body.specs.Printouts.{Prints, each}
-use Rattle.educe_body.specs.Tokens.{check_call}
-use Rattle.educe_body.proofs.print_checks.push_calls.Given as goal
-
-abbrev pub invariant-loop-ty : goal.invariant-loop-ty
-invariant-loop-ty l = Prints (each (check_call l.names) (take l.ty-index l.types)) l.fn.tokens l.tokens

@@ -1,7 +1,0 @@
-use Rattle.std.proofs.Common.{take}
-use Rattle.educe_body.specs.Printouts.{Prints, each}
-use Rattle.educe_body.specs.Tokens.{field_printout}
-use Rattle.educe_body.proofs.print_patterns.push_each_field.Given as goal
-
-abbrev pub invariant-loop-field : goal.invariant-loop-field
-invariant-loop-field l = Prints (each field_printout (take l.field-index l.fields)) l.fn.tokens l.tokens

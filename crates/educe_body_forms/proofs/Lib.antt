@@ -1,0 +1,4 @@
+pub mod Printed
+pub mod Separated
+pub mod Indices
+pub mod Prefixed

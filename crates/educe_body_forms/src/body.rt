@@ -1,0 +1,13 @@
+//! The bodies of functions.
+use crate::form::Forms;
+use educe_tokens::{Seq, Word};
+
+/// Names in their order.
+pub type Names = Seq<Word>;
+
+/// The parameters of a function behind `self`, and its forms.
+#[derive(Drop)]
+pub struct Body {
+    pub params: Names,
+    pub block: Forms,
+}

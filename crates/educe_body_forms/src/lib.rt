@@ -1,0 +1,29 @@
+//! The forms that bodies are made of and what they are printed as, the keys of fields, and local
+//! variables for them.
+#![tactic(auto)]
+
+mod bindings;
+mod body;
+mod comparison;
+mod form;
+mod key_function;
+mod keys;
+mod pattern;
+mod position;
+mod print;
+mod print_orders;
+mod print_patterns;
+mod shared;
+mod text;
+
+pub use bindings::{binding, index_binding, name_binding};
+pub use body::{Body, Names};
+pub use comparison::Comparison;
+pub use form::{Arm, Arms, Form, Forms, Init, Inits, Known};
+pub use key_function::{Constant, Distance, KeyArm, KeyArms};
+pub use keys::{has_key, index_of, index_word, key_word};
+pub use pattern::{Pattern, PatternField, PatternFields};
+pub use position::Position;
+pub use print::{push_block, push_comma};
+pub use shared::Shared;
+pub use text::is_text;

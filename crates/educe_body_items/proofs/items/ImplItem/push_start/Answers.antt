@@ -1,0 +1,10 @@
+use Rattle.std.proofs.Common.{ap}
+use Rattle.std.proofs.lemmas.Result.{on_ok_weaker}
+use Rattle.educe_tokens.proofs.Appending.{Appends-append, Appends-same}
+use Rattle.educe_body_items.specs.Headers.{params_printout}
+use Rattle.educe_body_items.proofs.items.ImplItem.push_start.Goals as goal
+
+pub returns-clause-ok : goal.returns-clause-ok
+returns-clause-ok c =
+    let params = ap (λ params. (params_printout params).tokens) c.as_slice.ensures in
+    on_ok_weaker _ (λ back. Appends-append (Appends-append c.in_ok-append_written.ensures.ok c.in_ok-quote.ensures.ok) (Appends-same params back)) c.push_params.ensures.ok

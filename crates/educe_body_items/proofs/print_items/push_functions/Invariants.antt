@@ -1,0 +1,7 @@
+use Rattle.std.proofs.Common.{take}
+use Rattle.educe_body_forms.specs.Printouts.{Prints, each}
+use Rattle.educe_body_items.specs.Items.{function_printout}
+use Rattle.educe_body_items.proofs.print_items.push_functions.Given as goal
+
+abbrev pub invariant-loop-function : goal.invariant-loop-function
+invariant-loop-function l = Prints (each (function_printout l.which) (take l.function-index l.function-items)) l.fn.tokens l.tokens

@@ -1,0 +1,11 @@
+pub mod Rows
+pub mod Binds
+pub mod Steps
+pub mod Tables
+pub mod Places
+pub mod Fields
+pub mod Apart
+pub mod Assigned
+pub mod MadePaths
+pub mod Hiding
+pub mod Lawful

@@ -1,0 +1,10 @@
+pub mod Answering
+pub mod Callees
+pub mod Scoping
+pub mod Types
+pub mod Cases
+pub mod Matching
+pub mod Constants
+pub mod Meaning
+pub mod BuiltIn
+pub mod Laws

@@ -1,0 +1,3 @@
+pub mod Words
+pub mod OneWord
+pub mod Apart

@@ -1,0 +1,4 @@
+pub mod Traits
+pub mod Paths
+pub mod OneWord
+pub mod Named
