@@ -19,7 +19,8 @@ use Rattle.educe_attrs.specs.Rows.{names, param_of}
 use Rattle.educe_attrs.specs.Says.{IsGiven, Says}
 use Rattle.educe_attrs.specs.Settings.{behind}
 use Rattle.educe_attrs.specs.Values.{Values}
-use Rattle.educe_attrs.specs.Words.{is_one_word, path_of}
+use Rattle.educe_bound_traits.specs.OneWord.{is_one_word}
+use Rattle.educe_attrs.specs.Words.{path_of}
 use Rattle.educe_bound_traits.specs.declared.traits.Trait.{Trait}
 use Rattle.educe_attrs.specs.Param.TheVariants.{Ignore}
 use Rattle.educe_laws.specs.Listed.{listed}
