@@ -109,6 +109,7 @@ pub struct TypeAttributeBuilder {
 }
 
 impl AttributeBuilder for TypeAttributeBuilder {
+    ghost use Rattle.educe_bound_traits.specs.declared.traits.Trait.TheVariants.{Debug};
     ghost use Rattle.educe_attrs.specs.Debug.{type_row, IsTyped};
 
     type Attribute = TypeAttribute;

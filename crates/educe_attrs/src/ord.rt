@@ -24,6 +24,7 @@ pub struct TypeAttributeBuilder {
 }
 
 impl AttributeBuilder for TypeAttributeBuilder {
+    ghost use Rattle.educe_bound_traits.specs.declared.traits.Trait.TheVariants.{Ord};
     ghost use Rattle.educe_attrs.specs.Bounds.{bound_row, IsBound};
 
     type Attribute = TypeAttribute;
