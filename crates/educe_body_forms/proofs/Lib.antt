@@ -2,3 +2,4 @@ pub mod Printed
 pub mod Separated
 pub mod Indices
 pub mod Prefixed
+pub mod Literals

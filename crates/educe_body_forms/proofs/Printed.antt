@@ -8,19 +8,23 @@ use Rattle.std.specs.declared.cmp.Ordering.TheVariants.{Equal}
 use Rattle.educe_tokens.specs.declared.word.Word.{Word}
 use Rattle.educe_tokens.specs.Lexes.{Lexeme}
 use Rattle.educe_tokens.specs.Quote.{quoted}
+use Rattle.educe_tokens.specs.declared.written.Written.{Written}
 use Rattle.educe_tokens.specs.WrittenLexemes.{written_lexemes}
 use Rattle.educe_tree.specs.declared.expr.ExprPath.{ExprPath}
 use Rattle.educe_tree.specs.declared.data.FieldForm.{FieldForm}
 use Rattle.educe_tree.specs.declared.data.FieldForm.TheVariants.{Named, Unnamed, Unit}
 use Rattle.educe_tree.specs.declared.ident.Ident.{Ident}
-use Rattle.educe_body_forms.specs.declared.form.Form.{Form, Call, Call', Not, IfReturn, Return, SomeOf, MatchOrdering, MatchValue, MatchValue', IfLet, Block, Block', HashPart, Construct, Construct', AssignField, AssignThrough, Row_of-Form, end_of-Form, more_of-Form, Row_of-Arm, end_of-Arm, more_of-Arm, Row_of-Init, end_of-Init, more_of-Init, items-the_row-Form, items_hidden-the_row-Form-0, items_shown-the_row-Form-0, items-the_row-Arm, items_hidden-the_row-Arm-2, items-the_row-Init, items_hidden-the_row-Init-3}
+use Rattle.educe_body_forms.specs.declared.form.Form.{Form, Call, Call', Not, IfReturn, Return, SomeOf, MatchOrdering, MatchValue, MatchValue', IfLet, Block, Block', HashPart, Construct, Construct', AssignField, AssignThrough, BuilderEntry, MethodArgument, Row_of-Form, end_of-Form, more_of-Form, Row_of-Arm, end_of-Arm, more_of-Arm, Row_of-Init, end_of-Init, more_of-Init, items-the_row-Form, items_hidden-the_row-Form-0, items_shown-the_row-Form-0, items-the_row-Arm, items_hidden-the_row-Arm-2, items-the_row-Init, items_hidden-the_row-Init-3}
 use Rattle.educe_body_forms.specs.declared.form.Arm.{Arm}
 use Rattle.educe_body_forms.specs.declared.form.Init.{Init}
 use Rattle.educe_body_forms.specs.declared.form.Form.TheBlock.{hidden-the_row-Form-1}
 use Rattle.educe_body_forms.specs.declared.pattern.Pattern.{Pattern}
+use Rattle.educe_body_forms.specs.declared.shown.ArgumentNames.{ArgumentNames}
+use Rattle.educe_body_forms.specs.declared.shown.EntryKey.{EntryKey}
 use Rattle.educe_body_forms.specs.Printing.{separated}
 use Rattle.educe_body_forms.specs.Printouts.{Printout, name, each, in_round, in_curly}
 use Rattle.educe_body_forms.specs.Tokens.{order_printout, in_some, other_arms, pattern_printout, if_let_head, if_let_printout, in_form, keyed, self_printout, construct_printout, field_assignment, through_assignment, form_printout, form_lexemes, init_printout, in_a_row, arms_in_a_row, inits_in_a_row, arguments, behind_comma, arms_with, else_with, arm_printout, match_value_printout}
+use Rattle.educe_body_forms.specs.ShownPrintouts.{entry_printout, method_argument}
 
 -- the forms that a call or a block holds
 abbrev row_of : Form → (n : Count) × Row_of-Form n
@@ -154,3 +158,15 @@ pub form_lexemes-AssignThrough : (target : Ident) (path : ExprPath) (value : For
     ≡ (through_assignment handed target path.written (form_printout value)).tokens
 unfolding hidden-the_row-Form-1 hidden
 form_lexemes-AssignThrough target path value handed = refl
+
+-- an entry of a builder, by its value
+pub form_lexemes-BuilderEntry : (builder : Ident) (key : EntryKey) (value : Form) (by_reference : Bool) → form_lexemes (BuilderEntry builder key value by_reference)
+    ≡ (entry_printout builder key by_reference (form_printout value)).tokens
+unfolding hidden-the_row-Form-1 hidden
+form_lexemes-BuilderEntry builder key value by_reference = refl
+
+-- the argument of a method, by what the method is called on
+pub form_lexemes-MethodArgument : (names : ArgumentNames) (value : Form) (ty : Written) (path : ExprPath) → form_lexemes (MethodArgument names value ty path)
+    ≡ (method_argument names (form_printout value) ty path.written).tokens
+unfolding hidden-the_row-Form-1 hidden
+form_lexemes-MethodArgument names value ty path = refl

@@ -1,5 +1,9 @@
+pub mod Quotes
+pub mod LiteralTexts
 pub mod Keys
 pub mod Suffixed
+pub mod Lifetimes
 pub mod Tokens
 pub mod Printing
 pub mod Printouts
+pub mod ShownPrintouts

@@ -3,7 +3,7 @@ use Rattle.std.specs.Prelude.{◌≡◌, ℕ, ◌<◌, ◌^◌, true, IsTrue, Li
 use Rattle.std.specs.List.{flat_map}
 use Rattle.std.proofs.lemmas.Bool.{and_from}
 use Rattle.educe_tokens.specs.Bracket.TheVariants.{Round, Square, Curly}
-use Rattle.educe_tokens.specs.LiteralKind.TheVariants.{Str}
+use Rattle.educe_tokens.specs.LiteralKind.TheVariants.{Int, Str}
 use Rattle.educe_tokens.specs.TokenKind.TheVariants as kind
 use Rattle.educe_tokens.specs.declared.token.Token.{Token}
 use Rattle.educe_tokens.specs.declared.word.Word.{Word}
@@ -68,6 +68,14 @@ string_printable text h = record { written = written-one (kind.Literal Str) text
 -- the token of a string literal that is spelled so; that it is one is computed, and its proof is `refl`
 abbrev pub string : (text : List ℕ) → IsTrue (spells (kind.Literal Str) text) → Printout
 string text h = record { tokens = record { kind = kind.Literal Str; spelling = text } ∷ []; printable = string_printable text h }
+
+-- an integer, as it is spelled
+pub number_printable : (text : List ℕ) → IsTrue (spells (kind.Literal Int) text) → IsPrintable (record { kind = kind.Literal Int; spelling = text } ∷ [])
+number_printable text h = record { written = written-one (kind.Literal Int) text refl; spelled = and_from _ _ h refl }
+
+-- the token of an integer that is spelled so; that it is one is computed, and its proof is `refl`
+abbrev pub number : (text : List ℕ) → IsTrue (spells (kind.Literal Int) text) → Printout
+number text h = record { tokens = record { kind = kind.Literal Int; spelling = text } ∷ []; printable = number_printable text h }
 
 -- a number, as an integer of the type `usize`
 abbrev pub counted : (n : ℕ) → n < 2 ^ 64 → Printout

@@ -13,7 +13,7 @@ use Rattle.educe_tree.specs.declared.ident.Ident.{Ident}
 use Rattle.educe_discriminants.specs.declared.discriminant_type.DiscriminantType.{DiscriminantType}
 use Rattle.educe_body_forms.specs.declared.form.Known.{Known}
 use Rattle.educe_body_forms.specs.declared.form.Known.TheVariants.{Truth, Order, PartialOrder}
-use Rattle.educe_body_forms.specs.declared.form.Form.{Form, Local, Reference, BracedCopy, Key, Call', Not', IfReturn', Return', SomeOf', MatchOrdering', MatchValue', IfLet', KeyFunction, Block', HashPart', Construct', Pasted, WholeCopy, Unreachable, Discard, AssignField', AssignThrough', Row_of-Form, end_of-Form, more_of-Form, Row_of-Arm, end_of-Arm, more_of-Arm, Row_of-Init, end_of-Init, more_of-Init, Held-Form-MatchOrdering-2, None', Some'}
+use Rattle.educe_body_forms.specs.declared.form.Form.{Form, Local, Reference, BracedCopy, Key, Call', Not', IfReturn', Return', SomeOf', MatchOrdering', MatchValue', IfLet', KeyFunction, Block', HashPart', Construct', Pasted, WholeCopy, Unreachable, Discard, AssignField', AssignThrough', WriteText, HelperType, Builder, BuilderEntry', MethodArgument', Finish, Row_of-Form, end_of-Form, more_of-Form, Row_of-Arm, end_of-Arm, more_of-Arm, Row_of-Init, end_of-Init, more_of-Init, Held-Form-MatchOrdering-2, None', Some'}
 use Rattle.educe_body_forms.specs.declared.form.Form as form
 use Rattle.educe_body_forms.specs.declared.form.Arm.{Arm}
 use Rattle.educe_body_forms.specs.declared.form.Init.{Init}
@@ -24,6 +24,7 @@ use Rattle.educe_body_forms.specs.declared.pattern.Pattern.{Pattern}
 use Rattle.educe_body_forms.specs.declared.pattern.PatternField.{PatternField}
 use Rattle.educe_body_forms.specs.declared.position.Position.{Position}
 use Rattle.educe_body_forms.specs.Printouts.{Printout, nothing, says, name, word, written, primitive, steps, place, ◌beside◌, each, in_round, in_curly}
+use Rattle.educe_body_forms.specs.ShownPrintouts.{literal_printout, write_str_printout, helper_printout, builder_printout, entry_printout, method_argument, finish_printout}
 
 -- ---- forms
 
@@ -262,6 +263,12 @@ abbrev mutual
   form_printout (Discard ident) = discard_printout ident
   form_printout (AssignField' key path shape inner handed) = field_assignment handed key path.written (boxed inner)
   form_printout (AssignThrough' target path shape inner handed) = through_assignment handed target path.written (boxed inner)
+  form_printout (WriteText formatter text) = write_str_printout formatter (literal_printout text)
+  form_printout (HelperType helper formatter) = helper_printout helper formatter
+  form_printout (Builder builder formatter opening) = builder_printout builder formatter opening
+  form_printout (BuilderEntry' builder key shape inner by_reference) = entry_printout builder key by_reference (boxed inner)
+  form_printout (MethodArgument' names shape inner ty path) = method_argument names (boxed inner) ty path.written
+  form_printout (Finish builder) = finish_printout builder
 
   -- the one form that a box holds
   pub boxed : {m : _} → Row_of-Form m → Printout

@@ -1,8 +1,10 @@
 //! The forms that bodies are made of.
 use crate::key_function::KeyArms;
+use crate::literal_text::LiteralText;
 use crate::pattern::Pattern;
 use crate::position::Position;
 use crate::shared::Shared;
+use crate::shown::{ArgumentNames, EntryKey, Opening};
 use educe_discriminants::DiscriminantType;
 use educe_tokens::{Boxed, Seq, Word, Written};
 use educe_tree::{ExprPath, FieldForm, Ident};
@@ -76,6 +78,20 @@ pub enum Form {
     /// `*name = path(x);`, or where the truth value holds `path(name, x);`: the name is `self`, or a
     /// variable that a pattern binds to a field of it.
     AssignThrough(Ident, Shared<ExprPath>, Boxed<Form>, bool),
+    /// `f.write_str("N")`: the formatter, and the text.
+    WriteText(Ident, LiteralText),
+    /// `struct Helper(&'static ::core::primitive::str);` and its `Debug`, which writes the text: the name
+    /// of the type, and that of the formatter in its `fmt`.
+    HelperType(Ident, Ident),
+    /// `let mut builder = f.debug_struct("N");` and the like: the name of the builder, and the formatter.
+    Builder(Ident, Ident, Opening),
+    /// `builder.field("key", x);` and the like; where the truth value holds, `&x` stands in place of `x`.
+    BuilderEntry(Ident, EntryKey, Boxed<Form>, bool),
+    /// `let argument = { struct W.. impl.. W(x, |..| path(..)) };`: a value whose `Debug` calls a method
+    /// on `x`, with the names in it, the type of `x` as it was written, and the path of the method.
+    MethodArgument(Shared<ArgumentNames>, Boxed<Form>, Written, Shared<ExprPath>),
+    /// `builder.finish()`
+    Finish(Ident),
 }
 
 /// Forms in their order.

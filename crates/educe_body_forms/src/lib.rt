@@ -8,12 +8,18 @@ mod comparison;
 mod form;
 mod key_function;
 mod keys;
+mod literal_text;
 mod pattern;
 mod position;
 mod print;
+mod print_arguments;
+mod print_fmt;
 mod print_orders;
 mod print_patterns;
+mod print_places;
+mod print_shown;
 mod shared;
+mod shown;
 mod text;
 
 pub use bindings::{binding, index_binding, name_binding};
@@ -22,8 +28,13 @@ pub use comparison::Comparison;
 pub use form::{Arm, Arms, Form, Forms, Init, Inits, Known};
 pub use key_function::{Constant, Distance, KeyArm, KeyArms};
 pub use keys::{has_key, index_of, index_word, key_word};
+pub use literal_text::LiteralText;
 pub use pattern::{Pattern, PatternField, PatternFields};
 pub use position::Position;
 pub use print::{push_block, push_comma};
+pub use print_fmt::{
+    PrintedName, push_fmt_head, push_fmt_result, push_formatter_param, push_formatter_type,
+};
 pub use shared::Shared;
+pub use shown::{ArgumentNames, EntryKey, Opening};
 pub use text::is_text;

@@ -6,14 +6,22 @@ ghost use Rattle.educe_tokens.specs.Quote.{quoted};
 ghost use Rattle.educe_tokens.proofs.Printable.{well_formed_from, ends_apart_from, lexes_back_from};
 ghost use Rattle.educe_body_forms.specs.Printing.{comma_before, separated};
 ghost use Rattle.educe_body_forms.specs.Printouts.{Prints, name, each, in_round, in_curly};
-ghost use Rattle.educe_body_forms.specs.Tokens.{in_some, discard_printout, own_field_printout, lent_field_printout, result_printout, place_and_value, field_assignment, through_assignment, block_arms, known_printout, place_printout, position_printout, self_printout, construct_printout, in_form, form_printout, form_lexemes, arm_printout, init_printout, equal_arm, match_value_printout, if_let_head, if_let_printout, else_printout};
+ghost use Rattle.educe_body_forms.specs.Tokens.{in_some, discard_printout, lent_field_printout, result_printout, place_and_value, field_assignment, through_assignment, block_arms, known_printout, self_printout, construct_printout, in_form, form_printout, form_lexemes, arm_printout, init_printout, equal_arm, match_value_printout, if_let_head, if_let_printout, else_printout};
+ghost use Rattle.educe_body_forms.specs.ShownPrintouts.{entry_rest, argument_rest, wrapped};
 
 use crate::form::{Arm, Form, Forms, Init, Inits, Known};
 use crate::pattern::Pattern;
-use crate::position::Position;
+use crate::print_arguments::{push_argument_start, push_method_closure, push_wrapper};
 use crate::print_orders::{push_arm_block, push_order, push_other_arms, push_some_order};
-use crate::print_patterns::{push_count, push_key, push_key_function, push_pattern};
-use educe_tokens::{TokenStream, Word, append_written, push_word, quote};
+use crate::print_patterns::{push_key, push_key_function, push_pattern};
+use crate::print_places::{
+    push_braced_copy, push_key_call, push_lent_field, push_own_field, push_position, push_reference,
+};
+use crate::print_shown::{
+    push_builder, push_entry_front, push_entry_start, push_finish, push_helper, push_write_text,
+};
+use crate::shown::{ArgumentNames, EntryKey};
+use educe_tokens::{TokenStream, Word, Written, append_written, quote};
 use educe_tree::{ExprPath, FieldForm, Ident, ToTokens};
 use std::alloc::{AllocError, Global};
 use std::cmp::Ordering;
@@ -100,6 +108,21 @@ impl ToTokens for Form {
             Form::AssignThrough(target, path, inner, handed) => {
                 push_through_assignment(alloc, tokens, *handed, target, path.get(), inner.get())
             }
+            Form::WriteText(formatter, text) => push_write_text(alloc, tokens, formatter, text),
+            Form::HelperType(helper, formatter) => push_helper(alloc, tokens, helper, formatter),
+            Form::Builder(builder, formatter, opening) => {
+                push_builder(alloc, tokens, builder, formatter, opening)
+            }
+            Form::BuilderEntry(builder, key, inner, by_reference) => {
+                push_entry_start(alloc, tokens, builder, key)?;
+                push_entry(alloc, tokens, key, *by_reference, inner.get())
+            }
+            Form::MethodArgument(shared, inner, ty, path) => {
+                let names = shared.get();
+                push_argument_start(alloc, tokens, names)?;
+                push_argument(alloc, tokens, names, inner.get(), ty, path.get())
+            }
+            Form::Finish(builder) => push_finish(alloc, tokens, builder),
         }
     }
 }
@@ -146,6 +169,69 @@ fn push_statement(alloc: Global, tokens: &mut TokenStream, inner: &Form) -> Resu
     quote(alloc, tokens, ";")
 }
 
+/// Appends what stands behind the method that adds an entry to a builder.
+#[cycle(print)]
+fn push_entry(
+    alloc: Global,
+    tokens: &mut TokenStream,
+    key: &EntryKey,
+    by_reference: bool,
+    value: &Form,
+) -> Result<(), AllocError>
+    ensures ok { let found = entry_rest key.now by_reference (form_printout value.now) in
+        OnOk result (Prints found tokens.old tokens.new) }
+    ensures prefix { HasPrefix tokens.old tokens.new }
+{
+    quote(alloc, tokens, "(")?;
+    push_entry_front(alloc, tokens, key, by_reference)?;
+    value.to_tokens(alloc, tokens)?;
+    quote(alloc, tokens, ")")?;
+    quote(alloc, tokens, ";")
+}
+
+/// Appends the block that makes the argument of a method, and what stands behind it.
+#[cycle(print)]
+fn push_argument(
+    alloc: Global,
+    tokens: &mut TokenStream,
+    names: &ArgumentNames,
+    value: &Form,
+    ty: &Written,
+    path: &ExprPath,
+) -> Result<(), AllocError>
+    ensures ok { let found = argument_rest names.now (form_printout value.now) ty.now path.now.written in
+        OnOk result (Prints found tokens.old tokens.new) }
+    ensures prefix { HasPrefix tokens.old tokens.new }
+{
+    quote(alloc, tokens, "{")?;
+    push_wrapper(alloc, tokens, names)?;
+    push_wrapped(alloc, tokens, names, value, ty, path)?;
+    quote(alloc, tokens, "}")?;
+    quote(alloc, tokens, ";")
+}
+
+/// Appends a form and the method that is called on it, as a value of the type that wraps both.
+#[cycle(print)]
+fn push_wrapped(
+    alloc: Global,
+    tokens: &mut TokenStream,
+    names: &ArgumentNames,
+    value: &Form,
+    ty: &Written,
+    path: &ExprPath,
+) -> Result<(), AllocError>
+    ensures ok { let found = wrapped names.now (form_printout value.now) ty.now path.now.written in
+        OnOk result (Prints found tokens.old tokens.new) }
+    ensures prefix { HasPrefix tokens.old tokens.new }
+{
+    names.wrapper.to_tokens(alloc, tokens)?;
+    quote(alloc, tokens, "(")?;
+    value.to_tokens(alloc, tokens)?;
+    quote(alloc, tokens, ",")?;
+    push_method_closure(alloc, tokens, names, ty, path)?;
+    quote(alloc, tokens, ")")
+}
+
 /// Appends what stands before the arms of a match on an order.
 #[cycle(print)]
 fn push_matched(alloc: Global, tokens: &mut TokenStream, matched: &Form) -> Result<(), AllocError>
@@ -165,24 +251,6 @@ fn push_discard(alloc: Global, tokens: &mut TokenStream, ident: &Ident) -> Resul
     quote(alloc, tokens, "let _ =")?;
     ident.to_tokens(alloc, tokens)?;
     quote(alloc, tokens, ";")
-}
-
-/// Appends a field of `self`.
-fn push_own_field(alloc: Global, tokens: &mut TokenStream, key: &Word) -> Result<(), AllocError>
-    ensures ok { OnOk result (Prints (own_field_printout key.now) tokens.old tokens.new) }
-    ensures prefix { HasPrefix tokens.old tokens.new }
-{
-    quote(alloc, tokens, "self .")?;
-    push_word(alloc, tokens, key)
-}
-
-/// Appends what may write a field of `self`.
-fn push_lent_field(alloc: Global, tokens: &mut TokenStream, key: &Word) -> Result<(), AllocError>
-    ensures ok { OnOk result (Prints (lent_field_printout key.now) tokens.old tokens.new) }
-    ensures prefix { HasPrefix tokens.old tokens.new }
-{
-    quote(alloc, tokens, "& mut")?;
-    push_own_field(alloc, tokens, key)
 }
 
 /// Appends a form in round brackets.
@@ -300,84 +368,6 @@ fn push_through_assignment(
         target.to_tokens(alloc, tokens)?;
         push_result(alloc, tokens, path, value)
     }
-}
-
-/// Appends the place of a variant.
-fn push_position(
-    alloc: Global,
-    tokens: &mut TokenStream,
-    position: Position,
-) -> Result<(), AllocError>
-    ensures ok { OnOk result (Prints (position_printout position) tokens.old tokens.new) }
-    ensures prefix { HasPrefix tokens.old tokens.new }
-{
-    quote(alloc, tokens, "&")?;
-    push_count(alloc, tokens, position.place)
-}
-
-/// Appends the name of a value and the key of a field of it.
-fn push_place(
-    alloc: Global,
-    tokens: &mut TokenStream,
-    base: &Ident,
-    field: &Word,
-) -> Result<(), AllocError>
-    ensures ok { OnOk result (Prints (place_printout base.now field.now) tokens.old tokens.new) }
-    ensures prefix { HasPrefix tokens.old tokens.new }
-{
-    base.to_tokens(alloc, tokens)?;
-    quote(alloc, tokens, ".")?;
-    push_word(alloc, tokens, field)
-}
-
-/// Appends a reference to a field.
-fn push_reference(
-    alloc: Global,
-    tokens: &mut TokenStream,
-    base: &Ident,
-    field: &Word,
-) -> Result<(), AllocError>
-    ensures ok { let form = Form.Reference base.now field.now in
-        OnOk result (Prints (form_printout form) tokens.old tokens.new) }
-    ensures prefix { HasPrefix tokens.old tokens.new }
-{
-    quote(alloc, tokens, "&")?;
-    push_place(alloc, tokens, base, field)
-}
-
-/// Appends a reference to a copy of a field.
-fn push_braced_copy(
-    alloc: Global,
-    tokens: &mut TokenStream,
-    base: &Ident,
-    field: &Word,
-) -> Result<(), AllocError>
-    ensures ok { let form = Form.BracedCopy base.now field.now in
-        OnOk result (Prints (form_printout form) tokens.old tokens.new) }
-    ensures prefix { HasPrefix tokens.old tokens.new }
-{
-    quote(alloc, tokens, "&")?;
-    quote(alloc, tokens, "{")?;
-    push_place(alloc, tokens, base, field)?;
-    quote(alloc, tokens, "}")
-}
-
-/// Appends a call of a key function.
-fn push_key_call(
-    alloc: Global,
-    tokens: &mut TokenStream,
-    function: &Ident,
-    value: &Ident,
-) -> Result<(), AllocError>
-    ensures ok { let form = Form.Key function.now value.now in
-        OnOk result (Prints (form_printout form) tokens.old tokens.new) }
-    ensures prefix { HasPrefix tokens.old tokens.new }
-{
-    quote(alloc, tokens, "&")?;
-    function.to_tokens(alloc, tokens)?;
-    quote(alloc, tokens, "(")?;
-    value.to_tokens(alloc, tokens)?;
-    quote(alloc, tokens, ")")
 }
 
 /// Appends the arms of a match on an order, with a block for `Equal`, in curly brackets.

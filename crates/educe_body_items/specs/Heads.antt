@@ -9,6 +9,7 @@ use Rattle.educe_body_items.specs.declared.print_heads.Head.{Head}
 use Rattle.educe_body_items.specs.declared.print_heads.Head.TheVariants as head
 use Rattle.educe_body_items.specs.declared.items.Function.{Function}
 use Rattle.educe_body_forms.specs.Printouts.{Printout, nothing, says, word, ◌beside◌, in_round, in_angle}
+use Rattle.educe_body_forms.specs.ShownPrintouts.{fmt_head}
 
 -- ---- names
 
@@ -31,7 +32,7 @@ first_head (Some own) other = Some own
 
 -- the head of a trait's function of a name; of a name that the trait does not have there is none
 abbrev pub head_of : Trait → List ℕ → Option Head
-head_of trait.Debug own = None
+head_of trait.Debug own = if_named own (codes "fmt") head.Fmt
 head_of trait.Clone own = first_head (if_named own (codes "clone") head.Clone) (if_named own (codes "clone_from") head.CloneFrom)
 head_of trait.Copy own = None
 head_of trait.PartialEq own = if_named own (codes "eq") head.Eq
@@ -87,6 +88,7 @@ own_head head.Hash params = hash_head params
 own_head head.Default params = says (codes "fn default ( ) -> Self") refl
 own_head head.Clone params = says (codes "fn clone ( & self ) -> Self") refl
 own_head head.CloneFrom params = clone_from_head params
+own_head head.Fmt params = fmt_head (name_at 0 params)
 
 -- a function of a name that the trait does not have has no parameters and no result
 abbrev pub other_head : Word → Printout

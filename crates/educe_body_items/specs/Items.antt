@@ -1,5 +1,5 @@
 -- What functions and items are printed as, spans aside, and their text.
-use Rattle.std.specs.Prelude.{◌≡◌, ℕ, true, List, [], ◌∷◌, ◌++◌, codes}
+use Rattle.std.specs.Prelude.{◌≡◌, ℕ, Bool, true, false, List, [], ◌∷◌, ◌++◌, codes}
 use Rattle.std.specs.List.{flat_map}
 use Rattle.std.proofs.Common.{refl}
 use Rattle.educe_tokens.specs.declared.word.Word.{Word}
@@ -20,7 +20,8 @@ use Rattle.educe_body_items.specs.declared.items.Item.{Item}
 use Rattle.educe_body_items.specs.declared.items.Item.TheVariants.{Impl, New, FieldCheck, Marker}
 use Rattle.educe_body_items.specs.Headers.{params_printout, arguments_printout, where_printout}
 use Rattle.educe_body_items.specs.Heads.{name_at, function_head}
-use Rattle.educe_body_forms.specs.Printouts.{Printout, says, name, word, written, string, ◌beside◌, each, in_round, in_square, in_curly, in_angle}
+use Rattle.educe_body_forms.specs.Printouts.{Printout, nothing, says, name, word, written, string, ◌beside◌, each, in_round, in_square, in_curly, in_angle}
+use Rattle.educe_body_forms.specs.ShownPrintouts.{formatter_param, fmt_result}
 use Rattle.educe_body_forms.specs.Tokens.{form_printout}
 
 -- forms in curly brackets
@@ -117,21 +118,45 @@ constant_start attributes = written attributes beside says (codes "const _ : ( )
 abbrev pub check_printout : CheckItem → Printout
 check_printout check = constant_start check.attributes beside in_curly (outer_function check) beside says (codes ";") refl
 
+-- a method of the trait is handed a formatter besides, and has its result
+abbrev pub has_formatter : Trait → Bool
+has_formatter trait.Debug = true
+has_formatter _ = false
+
 -- `NAME : & Type ,`
-abbrev pub marker_parameter : MarkerItem → Printout
-marker_parameter marker = name_at 1 marker.names beside says (codes ": &") refl beside written marker.ty.written beside says (codes ",") refl
+abbrev pub marker_value : MarkerItem → Printout
+marker_value marker = name_at 1 marker.names beside says (codes ": &") refl beside written marker.ty.written beside says (codes ",") refl
+
+-- with true `NAME : & mut :: core :: fmt :: Formatter < '_ > ,`
+abbrev pub marker_formatter : Bool → List Word → Printout
+marker_formatter false names = nothing
+marker_formatter true names = formatter_param (name_at 2 names) beside says (codes ",") refl
+
+-- `NAME : & Type ,`, and where there is one the formatter
+abbrev pub marker_parameters : MarkerItem → Printout
+marker_parameters marker = marker_value marker beside marker_formatter (has_formatter marker.which) marker.names
 
 -- `fn NAME G ( NAME : & Type , )`
 abbrev pub marker_start : MarkerItem → Printout
-marker_start marker = says (codes "fn") refl beside name_at 0 marker.names beside params_printout marker.generics.params beside in_round (marker_parameter marker)
+marker_start marker = says (codes "fn") refl beside name_at 0 marker.names beside params_printout marker.generics.params beside in_round (marker_parameters marker)
+
+-- `-> Type`, or with true the result of `fmt`
+abbrev pub marker_result : Bool → Ty → Printout
+marker_result false ty = says (codes "->") refl beside written ty.written
+marker_result true ty = fmt_result
 
 -- `fn NAME G ( NAME : & Type , ) -> Type W`
 abbrev pub marker_head : MarkerItem → Printout
-marker_head marker = marker_start marker beside says (codes "->") refl beside written marker.ty.written beside where_printout marker.generics.predicates
+marker_head marker = marker_start marker beside marker_result (has_formatter marker.which) marker.ty beside where_printout marker.generics.predicates
+
+-- `NAME`, or with true `NAME , NAME`
+abbrev pub marker_arguments : Bool → List Word → Printout
+marker_arguments false names = name_at 1 names
+marker_arguments true names = name_at 1 names beside says (codes ",") refl beside name_at 2 names
 
 -- `method ( NAME )`
 abbrev pub marker_call : MarkerItem → Printout
-marker_call marker = written marker.method.written beside in_round (name_at 1 marker.names)
+marker_call marker = written marker.method.written beside in_round (marker_arguments (has_formatter marker.which) marker.names)
 
 -- `fn NAME G ( NAME : & Type , ) -> Type W { method ( NAME ) }`
 abbrev pub marker_function : MarkerItem → Printout

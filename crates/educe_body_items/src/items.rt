@@ -39,7 +39,7 @@ pub struct CheckItem {
 
 /// A function that is never called and calls the method of a field, behind its attributes, so that
 /// the method counts as used and has to fit the field's type. The names are those of the function
-/// and of its parameter.
+/// and of its parameters: the value, and for `Debug` the formatter.
 #[derive(Drop)]
 pub struct MarkerItem {
     pub which: Trait,

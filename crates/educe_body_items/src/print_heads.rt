@@ -8,7 +8,7 @@ ghost use Rattle.educe_body_items.specs.Heads as spec;
 ghost use Rattle.educe_body_forms.specs.Printouts.{Prints};
 
 use crate::items::Function;
-use educe_body_forms::Names;
+use educe_body_forms::{Names, PrintedName, push_fmt_head};
 use educe_bound_traits::Trait;
 use educe_tokens::{TokenStream, Word, push_word, quote};
 use std::alloc::{AllocError, Global};
@@ -30,6 +30,8 @@ enum Head {
     Clone,
     /// That of `Clone::clone_from`.
     CloneFrom,
+    /// That of `Debug::fmt`.
+    Fmt,
 }
 
 /// This head, if the name is this.
@@ -58,7 +60,8 @@ fn head_of(which: Trait, name: &Word) -> Option<Head>
             Some(head) => Some(head),
             None => if_named(name, "clone_from", Head::CloneFrom),
         },
-        Trait::Debug | Trait::Copy | Trait::Eq => None,
+        Trait::Debug => if_named(name, "fmt", Head::Fmt),
+        Trait::Copy | Trait::Eq => None,
     }
 }
 
@@ -112,6 +115,14 @@ fn push_own_head(
         Head::Default => quote(alloc, tokens, "fn default ( ) -> Self"),
         Head::Clone => quote(alloc, tokens, "fn clone ( & self ) -> Self"),
         Head::CloneFrom => push_clone_from_head(alloc, tokens, params),
+        Head::Fmt => push_fmt_head(
+            alloc,
+            tokens,
+            &NameAt {
+                names: params,
+                index: 0,
+            },
+        ),
     }
 }
 
@@ -220,6 +231,23 @@ fn push_other_head(alloc: Global, tokens: &mut TokenStream, name: &Word) -> Resu
     quote(alloc, tokens, "fn")?;
     push_word(alloc, tokens, name)?;
     quote(alloc, tokens, "( )")
+}
+
+/// The name at an index, if there is one.
+#[derive(Clone, Copy)]
+pub(crate) struct NameAt<'a> {
+    pub(crate) names: &'a Names,
+    pub(crate) index: usize,
+}
+
+impl PrintedName for NameAt<'_> {
+    ghost use Rattle.educe_body_items.specs.Heads.{name_at};
+
+    ghost printed = { λ at. name_at at.index at.names.now };
+
+    fn push_name(&self, alloc: Global, tokens: &mut TokenStream) -> Result<(), AllocError> {
+        push_name(alloc, tokens, self.names, self.index)
+    }
 }
 
 /// Appends the name at an index, if there is one.

@@ -1,22 +1,34 @@
 //! The tokens of functions that call the methods of fields.
-ghost use Rattle.std.specs.Prelude.{OnOk};
+ghost use Rattle.std.specs.Prelude.{◌≡◌, OnOk};
 ghost use Rattle.educe_tokens.specs.Appends.{HasPrefix};
 ghost use Rattle.educe_tokens.proofs.Printable.{well_formed_from, ends_apart_from, lexes_back_from};
 ghost use Rattle.educe_body_forms.specs.Printouts.{Prints, in_round};
-ghost use Rattle.educe_body_items.specs.Items.{marker_parameter, marker_start, marker_head, marker_call, marker_function, marker_printout};
+ghost use Rattle.educe_body_items.specs.Items.{has_formatter, marker_value, marker_formatter, marker_parameters, marker_start, marker_result, marker_head, marker_arguments, marker_call, marker_function, marker_printout};
 
 use crate::items::MarkerItem;
 use crate::print_checks::push_constant;
 use crate::print_headers::{push_params, push_where};
-use crate::print_heads::push_name;
+use crate::print_heads::{NameAt, push_name};
+use educe_body_forms::{push_fmt_result, push_formatter_param};
+use educe_bound_traits::Trait;
 use educe_tokens::{TokenStream, append_written, quote};
 use educe_tree::ToTokens;
 use std::alloc::{AllocError, Global};
 
+/// Whether a method of a trait is handed a formatter besides, and has its result.
+fn has_formatter(which: Trait) -> bool
+    ensures { result ≡ has_formatter which }
+{
+    match which {
+        Trait::Debug => true,
+        _ => false,
+    }
+}
+
 impl MarkerItem {
-    /// Appends the parameter of the function.
-    fn push_typed(&self, alloc: Global, tokens: &mut TokenStream) -> Result<(), AllocError>
-        ensures ok { OnOk result (Prints (marker_parameter self.now) tokens.old tokens.new) }
+    /// Appends the parameter of the function that is the value.
+    fn push_value(&self, alloc: Global, tokens: &mut TokenStream) -> Result<(), AllocError>
+        ensures ok { OnOk result (Prints (marker_value self.now) tokens.old tokens.new) }
         ensures prefix { HasPrefix tokens.old tokens.new }
     {
         push_name(alloc, tokens, &self.names, 1)?;
@@ -25,13 +37,44 @@ impl MarkerItem {
         quote(alloc, tokens, ",")
     }
 
-    /// Appends the parameter of the function in round brackets.
-    fn push_parameter(&self, alloc: Global, tokens: &mut TokenStream) -> Result<(), AllocError>
-        ensures ok { OnOk result (Prints (in_round (marker_parameter self.now)) tokens.old tokens.new) }
+    /// With true appends the parameter that is the formatter.
+    fn push_formatter(
+        &self,
+        alloc: Global,
+        tokens: &mut TokenStream,
+        formatter: bool,
+    ) -> Result<(), AllocError>
+        ensures ok { OnOk result (Prints (marker_formatter formatter self.now.names) tokens.old tokens.new) }
+        ensures prefix { HasPrefix tokens.old tokens.new }
+    {
+        if formatter {
+            let name = NameAt {
+                names: &self.names,
+                index: 2,
+            };
+            push_formatter_param(alloc, tokens, &name)?;
+            quote(alloc, tokens, ",")
+        } else {
+            Ok(())
+        }
+    }
+
+    /// Appends the parameters of the function.
+    fn push_parameters(&self, alloc: Global, tokens: &mut TokenStream) -> Result<(), AllocError>
+        ensures ok { OnOk result (Prints (marker_parameters self.now) tokens.old tokens.new) }
+        ensures prefix { HasPrefix tokens.old tokens.new }
+    {
+        self.push_value(alloc, tokens)?;
+        self.push_formatter(alloc, tokens, has_formatter(self.which))
+    }
+
+    /// Appends the parameters of the function in round brackets.
+    fn push_in_round(&self, alloc: Global, tokens: &mut TokenStream) -> Result<(), AllocError>
+        ensures ok { OnOk result (Prints (in_round (marker_parameters self.now)) tokens.old tokens.new) }
         ensures prefix { HasPrefix tokens.old tokens.new }
     {
         quote(alloc, tokens, "(")?;
-        self.push_typed(alloc, tokens)?;
+        self.push_parameters(alloc, tokens)?;
         quote(alloc, tokens, ")")
     }
 
@@ -43,7 +86,25 @@ impl MarkerItem {
         quote(alloc, tokens, "fn")?;
         push_name(alloc, tokens, &self.names, 0)?;
         push_params(alloc, tokens, self.generics.params.as_slice())?;
-        self.push_parameter(alloc, tokens)
+        self.push_in_round(alloc, tokens)
+    }
+
+    /// Appends the result of the function: the field's type, or with true that of `fmt`.
+    fn push_result(
+        &self,
+        alloc: Global,
+        tokens: &mut TokenStream,
+        formatter: bool,
+    ) -> Result<(), AllocError>
+        ensures ok { OnOk result (Prints (marker_result formatter self.now.ty) tokens.old tokens.new) }
+        ensures prefix { HasPrefix tokens.old tokens.new }
+    {
+        if formatter {
+            push_fmt_result(alloc, tokens)
+        } else {
+            quote(alloc, tokens, "->")?;
+            append_written(alloc, tokens, &self.ty.written)
+        }
     }
 
     /// Appends what stands before the block of the function.
@@ -52,9 +113,27 @@ impl MarkerItem {
         ensures prefix { HasPrefix tokens.old tokens.new }
     {
         self.push_start(alloc, tokens)?;
-        quote(alloc, tokens, "->")?;
-        append_written(alloc, tokens, &self.ty.written)?;
+        self.push_result(alloc, tokens, has_formatter(self.which))?;
         push_where(alloc, tokens, self.generics.predicates.as_slice())
+    }
+
+    /// Appends the arguments of the method: the value, and with true the formatter.
+    fn push_arguments(
+        &self,
+        alloc: Global,
+        tokens: &mut TokenStream,
+        formatter: bool,
+    ) -> Result<(), AllocError>
+        ensures ok { OnOk result (Prints (marker_arguments formatter self.now.names) tokens.old tokens.new) }
+        ensures prefix { HasPrefix tokens.old tokens.new }
+    {
+        push_name(alloc, tokens, &self.names, 1)?;
+        if formatter {
+            quote(alloc, tokens, ",")?;
+            push_name(alloc, tokens, &self.names, 2)
+        } else {
+            Ok(())
+        }
     }
 
     /// Appends the call of the method.
@@ -64,7 +143,7 @@ impl MarkerItem {
     {
         append_written(alloc, tokens, &self.method.written)?;
         quote(alloc, tokens, "(")?;
-        push_name(alloc, tokens, &self.names, 1)?;
+        self.push_arguments(alloc, tokens, has_formatter(self.which))?;
         quote(alloc, tokens, ")")
     }
 

@@ -1,13 +1,16 @@
-use Rattle.std.proofs.Common.{List, ◌++◌, Option, Some, None, sym, ap, ◌∙◌, codes, arith}
+use Rattle.std.proofs.Common.{◌≡◌, List, ◌++◌, Option, Some, None, sym, ap, ◌∙◌, codes, arith}
 use Rattle.std.proofs.lemmas.Result.{on_ok_weaker}
+use Rattle.educe_tokens.specs.Lexes.{Lexeme}
 use Rattle.educe_tokens.specs.Quote.{quoted}
 use Rattle.educe_tokens.proofs.Appending.{Appends-append, Appends-nil, Appends-same, HasPrefix-trans}
 use Rattle.educe_tree.specs.declared.expr.ExprPath.{ExprPath}
 use Rattle.educe_body_forms.specs.declared.form.Arm.{Arm}
 use Rattle.educe_body_forms.specs.declared.form.Form.{Form, MatchOrdering, IfLet}
+use Rattle.educe_body_forms.specs.declared.shown.ArgumentNames.{ArgumentNames}
 use Rattle.educe_body_forms.specs.Printouts.{each, in_curly}
+use Rattle.educe_body_forms.specs.ShownPrintouts.{entry_printout, method_argument}
 use Rattle.educe_body_forms.specs.Tokens.{in_some, in_form, field_assignment, through_assignment, form_printout, form_lexemes, if_let_printout, init_printout, match_value_printout}
-use Rattle.educe_body_forms.proofs.Printed.{form_lexemes-Call, form_lexemes-Not, form_lexemes-IfReturn, form_lexemes-Return, form_lexemes-SomeOf, form_lexemes-MatchOrdering, form_lexemes-MatchValue, form_lexemes-IfLet, form_lexemes-Block, form_lexemes-HashPart, form_lexemes-Construct, form_lexemes-AssignField, form_lexemes-AssignThrough}
+use Rattle.educe_body_forms.proofs.Printed.{form_lexemes-Call, form_lexemes-Not, form_lexemes-IfReturn, form_lexemes-Return, form_lexemes-SomeOf, form_lexemes-MatchOrdering, form_lexemes-MatchValue, form_lexemes-IfLet, form_lexemes-Block, form_lexemes-HashPart, form_lexemes-Construct, form_lexemes-AssignField, form_lexemes-AssignThrough, form_lexemes-BuilderEntry, form_lexemes-MethodArgument}
 use Rattle.educe_body_forms.proofs.Separated.{separated-take}
 use Rattle.educe_body_forms.proofs.print.+print.Goals as goal
 
@@ -96,6 +99,26 @@ FormToTokens::to_tokens-returns-in-AssignThrough-clause-ok t c =
     let same = held ∙ given ∙ sym (ap form_lexemes arm.is ∙ form_lexemes-AssignThrough arm.target arm.path arm.inner arm.handed) in
     on_ok_weaker _ (λ found. Appends-same same found) c.push_through_assignment.ensures.ok
 
+pub FormToTokens::to_tokens-returns-in_ok-push_entry_start-in-BuilderEntry-clause-ok :
+    goal.FormToTokens::to_tokens-returns-in_ok-push_entry_start-in-BuilderEntry-clause-ok
+FormToTokens::to_tokens-returns-in_ok-push_entry_start-in-BuilderEntry-clause-ok t c =
+    let arm = c.in-BuilderEntry in
+    let given = ap (λ value. (entry_printout arm.builder arm.key arm.by_reference (form_printout value)).tokens) c.get-in-BuilderEntry.ensures in
+    let same = given ∙ sym (ap form_lexemes arm.is ∙ form_lexemes-BuilderEntry arm.builder arm.key arm.inner arm.by_reference) in
+    on_ok_weaker _ (λ back. Appends-same same (Appends-append c.in_ok-push_entry_start-in-BuilderEntry.ensures.ok back)) c.push_entry.ensures.ok
+
+pub FormToTokens::to_tokens-returns-in_ok-push_argument_start-in-MethodArgument-clause-ok :
+    goal.FormToTokens::to_tokens-returns-in_ok-push_argument_start-in-MethodArgument-clause-ok
+FormToTokens::to_tokens-returns-in_ok-push_argument_start-in-MethodArgument-clause-ok t c =
+    let arm = c.in-MethodArgument in
+    let found : ArgumentNames → Form → ExprPath → List Lexeme = λ names value path. (method_argument names (form_printout value) arm.ty path.written).tokens in
+    let names = c.get-names in
+    let value = c.get-in-MethodArgument in
+    let path = c.get-in-MethodArgument-2 in
+    let held : found names.result.now value.result.now path.result.now ≡ found arm.shared arm.inner arm.path = λ i. found (names.ensures i) (value.ensures i) (path.ensures i) in
+    let same = held ∙ sym (ap form_lexemes arm.is ∙ form_lexemes-MethodArgument arm.shared arm.inner arm.ty arm.path) in
+    on_ok_weaker _ (λ back. Appends-same same (Appends-append c.in_ok-push_argument_start-in-MethodArgument.ensures.ok back)) c.push_argument.ensures.ok
+
 pub push_not-returns-clause-ok : goal.push_not-returns-clause-ok
 push_not-returns-clause-ok t c =
     let same = sym (form_lexemes-Not c.args.inner.now) in
@@ -117,6 +140,38 @@ pub push_statement-returns-clause-ok : goal.push_statement-returns-clause-ok
 push_statement-returns-clause-ok t c =
     let same = sym (form_lexemes-HashPart c.args.inner.now) in
     on_ok_weaker _ (λ back. Appends-same same (Appends-append c.in_ok-to_tokens.ensures.ok back)) c.quote.ensures.ok
+
+pub push_entry-returns-clause-ok : goal.push_entry-returns-clause-ok
+push_entry-returns-clause-ok t c =
+    let inside = Appends-append c.in_ok-push_entry_front.ensures.ok c.in_ok-to_tokens.ensures.ok in
+    let brackets = Appends-append (Appends-append c.in_ok-quote.ensures.ok inside) c.in_ok-quote-2.ensures.ok in
+    on_ok_weaker _ (λ back. Appends-append brackets back) c.quote-3.ensures.ok
+
+pub push_entry-returns-clause-prefix : goal.push_entry-returns-clause-prefix
+push_entry-returns-clause-prefix t c =
+    let front = HasPrefix-trans c.in_ok-quote.ensures.prefix c.in_ok-push_entry_front.ensures.prefix in
+    HasPrefix-trans (HasPrefix-trans (HasPrefix-trans front c.in_ok-to_tokens.ensures.prefix) c.in_ok-quote-2.ensures.prefix) c.quote-3.ensures.prefix
+
+pub push_argument-returns-clause-ok : goal.push_argument-returns-clause-ok
+push_argument-returns-clause-ok t c =
+    let inside = Appends-append c.in_ok-push_wrapper.ensures.ok c.in_ok-push_wrapped.ensures.ok in
+    let brackets = Appends-append (Appends-append c.in_ok-quote.ensures.ok inside) c.in_ok-quote-2.ensures.ok in
+    on_ok_weaker _ (λ back. Appends-append brackets back) c.quote-3.ensures.ok
+
+pub push_argument-returns-clause-prefix : goal.push_argument-returns-clause-prefix
+push_argument-returns-clause-prefix t c =
+    let front = HasPrefix-trans c.in_ok-quote.ensures.prefix c.in_ok-push_wrapper.ensures.prefix in
+    HasPrefix-trans (HasPrefix-trans (HasPrefix-trans front c.in_ok-push_wrapped.ensures.prefix) c.in_ok-quote-2.ensures.prefix) c.quote-3.ensures.prefix
+
+pub push_wrapped-returns-clause-ok : goal.push_wrapped-returns-clause-ok
+push_wrapped-returns-clause-ok t c =
+    let inside = Appends-append (Appends-append c.in_ok-to_tokens-2.ensures.ok c.in_ok-quote-2.ensures.ok) c.in_ok-push_method_closure.ensures.ok in
+    on_ok_weaker _ (λ back. Appends-append c.in_ok-to_tokens.ensures.ok (Appends-append (Appends-append c.in_ok-quote.ensures.ok inside) back)) c.quote-3.ensures.ok
+
+pub push_wrapped-returns-clause-prefix : goal.push_wrapped-returns-clause-prefix
+push_wrapped-returns-clause-prefix t c =
+    let front = HasPrefix-trans (HasPrefix-trans c.in_ok-to_tokens.ensures.prefix c.in_ok-quote.ensures.prefix) c.in_ok-to_tokens-2.ensures.prefix in
+    HasPrefix-trans (HasPrefix-trans (HasPrefix-trans front c.in_ok-quote-2.ensures.prefix) c.in_ok-push_method_closure.ensures.prefix) c.quote-3.ensures.prefix
 
 pub push_matched-returns-clause-ok : goal.push_matched-returns-clause-ok
 push_matched-returns-clause-ok t c = on_ok_weaker _ (λ back. Appends-append c.in_ok-quote.ensures.ok back) c.to_tokens.ensures.ok

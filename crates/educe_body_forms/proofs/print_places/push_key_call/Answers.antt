@@ -1,0 +1,15 @@
+use Rattle.std.proofs.lemmas.Result.{on_ok_weaker}
+use Rattle.educe_tokens.proofs.Appending.{Appends-append, HasPrefix-trans}
+use Rattle.educe_body_forms.proofs.print_places.push_key_call.Goals as goal
+
+pub returns-clause-ok : goal.returns-clause-ok
+returns-clause-ok c =
+    let front = Appends-append c.in_ok-quote.ensures.ok c.in_ok-to_tokens.ensures.ok in
+    let inside = Appends-append c.in_ok-quote-2.ensures.ok c.in_ok-to_tokens-2.ensures.ok in
+    on_ok_weaker _ (λ back. Appends-append front (Appends-append inside back)) c.quote-3.ensures.ok
+
+pub returns-clause-prefix : goal.returns-clause-prefix
+returns-clause-prefix c =
+    let front = HasPrefix-trans c.in_ok-quote.ensures.prefix c.in_ok-to_tokens.ensures.prefix in
+    let inside = HasPrefix-trans (HasPrefix-trans front c.in_ok-quote-2.ensures.prefix) c.in_ok-to_tokens-2.ensures.prefix in
+    HasPrefix-trans inside c.quote-3.ensures.prefix

@@ -1,0 +1,6 @@
+use Rattle.std.proofs.lemmas.Result.{on_ok_weaker}
+use Rattle.educe_tokens.proofs.Appending.{Appends-append}
+use Rattle.educe_body_forms.proofs.print_shown.push_finish.Goals as goal
+
+pub returns-clause-ok : goal.returns-clause-ok
+returns-clause-ok c = on_ok_weaker _ (λ back. Appends-append c.in_ok-to_tokens.ensures.ok back) c.quote.ensures.ok

@@ -1,0 +1,7 @@
+use Rattle.std.proofs.lemmas.Result.{on_ok_weaker}
+use Rattle.educe_tokens.proofs.Appending.{Appends-append}
+use Rattle.educe_body_items.proofs.items.MarkerItem.push_in_round.Goals as goal
+
+pub returns-clause-ok : goal.returns-clause-ok
+returns-clause-ok c =
+    on_ok_weaker _ (λ back. Appends-append (Appends-append c.in_ok-quote.ensures.ok c.in_ok-push_parameters.ensures.ok) back) c.quote-2.ensures.ok
