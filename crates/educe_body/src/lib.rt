@@ -4,15 +4,16 @@
 #![tactic(auto)]
 
 pub use educe_body_forms::{
-    Arm, Arms, Body, Comparison, Constant, Distance, Form, Forms, Init, Inits, KeyArm, KeyArms,
-    Known, Names, Pattern, PatternField, PatternFields, Position, Shared, binding, index_binding,
-    index_word, key_word, name_binding,
+    ArgumentNames, Arm, Arms, Body, Comparison, Constant, Distance, EntryKey, Form, Forms, Init,
+    Inits, KeyArm, KeyArms, Known, LiteralText, Names, Opening, Pattern, PatternField,
+    PatternFields, Position, Shared, binding, index_binding, index_word, key_word, name_binding,
 };
 pub use educe_body_items::{
     CheckItem, Function, Functions, ImplItem, Item, Items, MarkerItem, spell,
 };
 pub use educe_body_values::{
-    Answer, Answers, BuiltIn, Callee, FieldValue, FieldValues, Outcome, Parts, Row, Rows, Scope,
-    Value, built_in, built_in_path, eval, form_laws, key_laws, scope_laws,
+    Answer, Answers, BuiltIn, Callee, DebugShape, Entry, FieldValue, FieldValues, Outcome, Parts,
+    Row, Rows, Scope, ShapeForm, Value, built_in, built_in_path, eval, form_laws, key_laws,
+    scope_laws,
 };
 pub use educe_names::{UsedIdents, has_word, name_laws};

@@ -9,7 +9,7 @@ use Rattle.educe_body_values.specs.declared.environment.Binding.{Binding}
 use Rattle.educe_body_values.specs.declared.environment.Env.{Env}
 use Rattle.educe_body_forms.specs.declared.pattern.PatternField.{PatternField}
 use Rattle.educe_body_values.specs.declared.environment.Referent.{Referent}
-use Rattle.educe_body_values.specs.declared.environment.Referent.TheVariants.{This, Other, OwnField, Bound, Keys, Inert}
+use Rattle.educe_body_values.specs.declared.environment.Referent.TheVariants.{This, Other, OwnField, Bound, Keys, BuilderName, Helper, Argument, Inert}
 use Rattle.educe_body_values.specs.declared.value.FieldValue.{FieldValue}
 use Rattle.educe_body_values.specs.declared.value.Value.{Value}
 use Rattle.educe_body_values.specs.Matching.{has_key, bound_to, fields_bound}
@@ -64,6 +64,9 @@ fields_from-named (Some Other) value = fields_from-bound (Some Other) (λ place 
 fields_from-named (Some (OwnField own)) value = fields_from-bound (Some (OwnField own)) (λ place x. refl) 0 value.fields
 fields_from-named (Some (Bound bound)) value = fields_from-bound (Some (Bound bound)) (λ place x. refl) 0 value.fields
 fields_from-named (Some (Keys this other)) value = fields_from-bound (Some (Keys this other)) (λ place x. refl) 0 value.fields
+fields_from-named (Some BuilderName) value = fields_from-bound (Some BuilderName) (λ place x. refl) 0 value.fields
+fields_from-named (Some Helper) value = fields_from-bound (Some Helper) (λ place x. refl) 0 value.fields
+fields_from-named (Some (Argument made)) value = fields_from-bound (Some (Argument made)) (λ place x. refl) 0 value.fields
 fields_from-named (Some Inert) value = fields_from-bound (Some Inert) (λ place x. refl) 0 value.fields
 
 -- what the next field of a pattern binds, by whether it has the key of its field

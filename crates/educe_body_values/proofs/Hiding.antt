@@ -45,7 +45,8 @@ module _ (input : List Token) where
       by_kind true h = and_right (is_ident token.kind) (is_hidden names (unraw token.spelling)) (hidden-none names (unraw token.spelling) each (own h))
       by_kind false h = and_left (is_ident token.kind) (is_hidden names (unraw token.spelling)) h
 
-  names_bound-none : (names : List Binding) (tokens : List Token) → AllByRecursion (IsApart input) names → AreOwnNames input tokens → names_bound names tokens ≡ false
+  -- a text whose identifiers are words of the input has no name in scope
+  pub names_bound-none : (names : List Binding) (tokens : List Token) → AllByRecursion (IsApart input) names → AreOwnNames input tokens → names_bound names tokens ≡ false
   names_bound-none names [] each own = refl
   names_bound-none names (t ∷ tokens) each own = or_from (is_bound names t) (names_bound names tokens) (bound-none names t each own.0) (names_bound-none names tokens each own.1)
 

@@ -8,4 +8,5 @@ pub mod Apart
 pub mod Assigned
 pub mod MadePaths
 pub mod Hiding
+pub mod Pushed
 pub mod Lawful

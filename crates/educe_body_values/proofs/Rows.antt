@@ -9,16 +9,19 @@ use Rattle.std.proofs.lemmas.List.Elements.{filter-append}
 use Rattle.std.proofs.lemmas.Option.{none-some, same_Some}
 use Rattle.std.specs.declared.cmp.Ordering.{Ordering}
 use Rattle.educe_tokens.specs.declared.word.Word.{Word}
+use Rattle.educe_tokens.specs.declared.written.Written.{Written}
 use Rattle.educe_tree.specs.declared.data.Field.{Field}
 use Rattle.educe_tree.specs.declared.data.FieldForm.{FieldForm}
 use Rattle.educe_tree.specs.declared.data.Variant.{Variant}
 use Rattle.educe_tree.specs.declared.expr.ExprPath.{ExprPath}
 use Rattle.educe_tree.specs.declared.ident.Ident.{Ident}
-use Rattle.educe_body_forms.specs.declared.form.Form.{Form, Call, Call', Not, IfReturn, Return, SomeOf, MatchOrdering, MatchValue, MatchValue', IfLet, Block, Block', HashPart, Construct, Construct', AssignField, AssignThrough, Row_of-Form, end_of-Form, more_of-Form, Row_of-Arm, end_of-Arm, more_of-Arm, Row_of-Init, end_of-Init, more_of-Init, back-Form-MatchOrdering-2, items-the_row-Form, items_hidden-the_row-Form-0, items_shown-the_row-Form-0, items-the_row-Arm, items_hidden-the_row-Arm-2, items-the_row-Init, items_hidden-the_row-Init-3}
+use Rattle.educe_body_forms.specs.declared.form.Form.{Form, Call, Call', Not, IfReturn, Return, SomeOf, MatchOrdering, MatchValue, MatchValue', IfLet, Block, Block', HashPart, Construct, Construct', AssignField, AssignThrough, BuilderEntry, MethodArgument, Row_of-Form, end_of-Form, more_of-Form, Row_of-Arm, end_of-Arm, more_of-Arm, Row_of-Init, end_of-Init, more_of-Init, back-Form-MatchOrdering-2, items-the_row-Form, items_hidden-the_row-Form-0, items_shown-the_row-Form-0, items-the_row-Arm, items_hidden-the_row-Arm-2, items-the_row-Init, items_hidden-the_row-Init-3}
 use Rattle.educe_body_forms.specs.declared.form.Arm.{Arm}
 use Rattle.educe_body_forms.specs.declared.form.Init.{Init}
 use Rattle.educe_body_forms.specs.declared.form.Form.TheBlock.{hidden-the_row-Form-1}
 use Rattle.educe_body_forms.specs.declared.pattern.Pattern.{Pattern}
+use Rattle.educe_body_forms.specs.declared.shown.ArgumentNames.{ArgumentNames}
+use Rattle.educe_body_forms.specs.declared.shown.EntryKey.{EntryKey}
 use Rattle.educe_body_values.specs.declared.value.FieldValue.{FieldValue}
 use Rattle.educe_body_values.specs.declared.value.Value.{Value}
 use Rattle.educe_body_values.specs.declared.answers.Answers.{Answers}
@@ -31,7 +34,7 @@ use Rattle.educe_body_values.specs.declared.flow.Flow.{Flow}
 use Rattle.educe_body_values.specs.declared.flow.Flow.TheVariants.{Gives, Returns, Stuck}
 use Rattle.educe_body_values.specs.Cases.{case_named}
 use Rattle.educe_body_values.specs.Matching.{has_key, fits, variant_of, bound_of, bindings_of}
-use Rattle.educe_body_values.specs.Meaning.{Scene, form_value, row_value, args_value, args_list, list_value, held_value, held_list, arms_value, arms_list, if_let_value, value_named, fields_named, bound_named, look_up, with_value, with_named, within, field_named, assign, or_nothing, call_value, go_on, leave, opposite, some_of, unless_true, hash_part, order_match, block_arm, taken, inits_value, inits_list, built, built_value, with_case, if_made, made_value, with_made, for_field, counts, counted, call_named, call_answer}
+use Rattle.educe_body_values.specs.Meaning.{Scene, form_value, row_value, args_value, args_list, list_value, held_value, held_list, arms_value, arms_list, if_let_value, value_named, fields_named, bound_named, look_up, with_value, with_named, within, field_named, assign, or_nothing, call_value, go_on, leave, opposite, some_of, unless_true, hash_part, entry_flow, argument_flow, order_match, block_arm, taken, inits_value, inits_list, built, built_value, with_case, if_made, made_value, with_made, for_field, counts, counted, call_named, call_answer}
 
 -- flows that go on alike have one end
 pub go_on-alike : (flow : Flow) (next other : Env → Thing → Flow) → ((env : Env) (thing : Thing) → next env thing ≡ other env thing) → go_on flow next ≡ go_on flow other
@@ -156,6 +159,18 @@ module _ (scene : Scene) where
       → form_value scene env (AssignThrough name path held handed) ≡ go_on (form_value scene env held) (assign scene path handed (look_up env.names name.text))
   unfolding hidden-the_row-Form-1 hidden
   form_value-AssignThrough env name path held handed = refl
+
+  -- an entry of what is shown, by the value that it shows
+  pub form_value-BuilderEntry : (env : Env) (builder : Ident) (key : EntryKey) (held : Form) (by_reference : Bool)
+      → form_value scene env (BuilderEntry builder key held by_reference) ≡ go_on (form_value scene env held) (entry_flow (look_up env.names builder.text) key)
+  unfolding hidden-the_row-Form-1 hidden
+  form_value-BuilderEntry env builder key held by_reference = refl
+
+  -- the argument of a method, by the field that it is made of
+  pub form_value-MethodArgument : (env : Env) (own : ArgumentNames) (held : Form) (type : Written) (path : ExprPath)
+      → form_value scene env (MethodArgument own held type path) ≡ go_on (form_value scene env held) (argument_flow own type path)
+  unfolding hidden-the_row-Form-1 hidden
+  form_value-MethodArgument env own held type path = refl
 
   -- the forms of a block in order
   block_value-items : (env : Env) (forms : List Form) → row_value scene env (row_of (Block forms)).1 Nothing ≡ list_value scene env Nothing forms

@@ -1,9 +1,10 @@
 -- What holds of bodies with no call: of the keys of fields, of what paths call, and of the values of forms that hold forms.
-use Rattle.std.specs.Prelude.{◌≡◌, ◌≤◌, ◌^◌, ℕ, Bool, List, [], ◌∷◌, map, Option, Some, length}
+use Rattle.std.specs.Prelude.{◌≡◌, ◌≤◌, ◌^◌, ℕ, Bool, false, List, [], ◌∷◌, map, Option, Some, length}
 use Rattle.std.specs.List.{AllByRecursion}
 use Rattle.std.specs.declared.cmp.Ordering.{Ordering}
 use Rattle.educe_tokens.specs.declared.token.Token.{Token}
 use Rattle.educe_tokens.specs.declared.word.Word.{Word}
+use Rattle.educe_tokens.specs.declared.written.Written.{Written}
 use Rattle.educe_tokens.specs.WrittenLexemes.{written_lexemes}
 use Rattle.educe_tree.specs.declared.data.Field.{Field}
 use Rattle.educe_tree.specs.declared.data.FieldForm.{FieldForm}
@@ -13,15 +14,20 @@ use Rattle.educe_tree.specs.declared.expr.ExprPath.{ExprPath}
 use Rattle.educe_tree.specs.declared.ident.Ident.{Ident}
 use Rattle.educe_tree.specs.Names.{unraw}
 use Rattle.educe_grammar.specs.Naming.{field_names, AreApart, AreNamesApart}
-use Rattle.educe_body_forms.specs.declared.form.Form.{Form, Call, Not, IfReturn, Return, SomeOf, MatchOrdering, MatchValue, IfLet, Block, HashPart, Construct, AssignField, AssignThrough}
+use Rattle.educe_body_forms.specs.declared.form.Form.{Form, Call, Not, IfReturn, Return, SomeOf, MatchOrdering, MatchValue, IfLet, Block, HashPart, Construct, AssignField, AssignThrough, WriteText, HelperType, Builder, BuilderEntry, MethodArgument, Finish}
 use Rattle.educe_body_forms.specs.declared.form.Arm.{Arm}
 use Rattle.educe_body_forms.specs.declared.form.Init.{Init}
+use Rattle.educe_body_forms.specs.declared.literal_text.LiteralText.{LiteralText}
 use Rattle.educe_body_forms.specs.declared.pattern.Pattern.{Pattern}
+use Rattle.educe_body_forms.specs.declared.shown.ArgumentNames.{ArgumentNames}
+use Rattle.educe_body_forms.specs.declared.shown.EntryKey.{EntryKey}
+use Rattle.educe_body_forms.specs.declared.shown.Opening.{Opening}
 use Rattle.educe_body_values.specs.declared.answers.Answers.{Answers}
 use Rattle.educe_body_values.specs.declared.value.FieldValue.{FieldValue}
 use Rattle.educe_body_values.specs.declared.callee.BuiltIn.{BuiltIn}
 use Rattle.educe_body_values.specs.declared.environment.Binding.{Binding}
 use Rattle.educe_body_values.specs.declared.environment.Env.{Env}
+use Rattle.educe_body_values.specs.declared.environment.Referent.TheVariants.{Helper}
 use Rattle.educe_body_values.specs.declared.flow.Thing.{Thing}
 use Rattle.educe_body_values.specs.declared.flow.Thing.TheVariants.{Nothing}
 use Rattle.educe_body_values.specs.declared.flow.Flow.TheVariants.{Gives, Returns}
@@ -30,8 +36,8 @@ use Rattle.educe_body_values.specs.Callees.{built_in, as_callee, callee_of}
 use Rattle.educe_body_values.specs.Cases.{case_named}
 use Rattle.educe_body_values.specs.Constants.{number_of, number_in}
 use Rattle.educe_body_forms.specs.Keys.{AreDifferent, fields_of, keys_from, keys_of}
-use Rattle.educe_body_values.specs.Scoping.{callee_in, IsApart, AreOwnNames}
-use Rattle.educe_body_values.specs.Meaning.{Scene, form_value, list_value, args_list, held_list, arms_list, if_let_value, part_of, call_value, with_named, field_named, look_up, go_on, leave, opposite, some_of, unless_true, hash_part, order_match, with_case, built_value, assign}
+use Rattle.educe_body_values.specs.Scoping.{names_bound, callee_in, IsApart, AreOwnNames}
+use Rattle.educe_body_values.specs.Meaning.{Scene, form_value, list_value, args_list, held_list, arms_list, if_let_value, part_of, call_value, with_named, field_named, look_up, go_on, leave, opposite, some_of, unless_true, hash_part, order_match, with_case, built_value, assign, text_flow, declared, builder_flow, entry_flow, argument_flow, finished}
 
 -- by this look-up the keys give the values, one for each
 abbrev pub KeysGive : (List ℕ → Option FieldValue) → List (List ℕ) → List FieldValue → Type 0
@@ -63,6 +69,8 @@ pub record ScopeLaws : Type 0 where
   -- an expression whose identifiers are words of the input has the number that it has where no name is in scope
   pub number : (input : List Token) (table : Answers) (names : List Binding) (value : Expr) → AllByRecursion (IsApart input) names → AreOwnNames input value.written.tokens
       → number_in table names value ≡ number_of table value
+  -- tokens whose identifiers are words of the input have no name in scope
+  pub free : (input : List Token) (names : List Binding) (tokens : List Token) → AllByRecursion (IsApart input) names → AreOwnNames input tokens → names_bound names tokens ≡ false
 
 -- Forms that hold forms.
 pub record FormLaws : Type 0 where
@@ -101,3 +109,18 @@ pub record FormLaws : Type 0 where
   -- of an assignment to what a name stands for, by the value that is assigned
   pub assign_through : (scene : Scene) (env : Env) (name : Ident) (path : ExprPath) (held : Form) (handed : Bool)
       → form_value scene env (AssignThrough name path held handed) ≡ go_on (form_value scene env held) (assign scene path handed (look_up env.names name.text))
+  -- of a text that is written
+  pub write_text : (scene : Scene) (env : Env) (formatter : Ident) (text : LiteralText) → form_value scene env (WriteText formatter text) ≡ text_flow env (look_up env.names formatter.text) text.text
+  -- of a helper type
+  pub helper_type : (scene : Scene) (env : Env) (helper formatter : Ident) → form_value scene env (HelperType helper formatter) ≡ declared env helper.text Helper
+  -- of a builder that is begun
+  pub builder : (scene : Scene) (env : Env) (builder formatter : Ident) (opening : Opening)
+      → form_value scene env (Builder builder formatter opening) ≡ builder_flow env (look_up env.names formatter.text) builder.text opening
+  -- of an entry, by the value that it shows, be it a reference to this or not
+  pub entry : (scene : Scene) (env : Env) (builder : Ident) (key : EntryKey) (held : Form) (by_reference : Bool)
+      → form_value scene env (BuilderEntry builder key held by_reference) ≡ go_on (form_value scene env held) (entry_flow (look_up env.names builder.text) key)
+  -- of the argument of a method, by the field that it is made of
+  pub argument : (scene : Scene) (env : Env) (own : ArgumentNames) (held : Form) (type : Written) (path : ExprPath)
+      → form_value scene env (MethodArgument own held type path) ≡ go_on (form_value scene env held) (argument_flow own type path)
+  -- of the end of a builder
+  pub finish : (scene : Scene) (env : Env) (builder : Ident) → form_value scene env (Finish builder) ≡ finished env (look_up env.names builder.text)

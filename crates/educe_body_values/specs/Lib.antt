@@ -6,5 +6,6 @@ pub mod Cases
 pub mod Matching
 pub mod Constants
 pub mod Meaning
+pub mod PlainTexts
 pub mod BuiltIn
 pub mod Laws

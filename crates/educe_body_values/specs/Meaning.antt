@@ -1,5 +1,5 @@
 -- What a body evaluates to, over an environment from names to values: a value, a return, or nothing.
-use Rattle.std.specs.Prelude.{ℕ, zero, suc, ℤ, ◌+◌, ◌-◌, ◌^◌, pos, length, take, map, slice_get, Bool, true, false, not, List, [], ◌∷◌, ◌++◌, Option, Some, None, if◌then◌else◌, codes}
+use Rattle.std.specs.Prelude.{ℕ, zero, suc, ℤ, ◌+◌, ◌-◌, ◌^◌, pos, length, take, map, slice_get, Bool, true, false, not, List, [], ◌∷◌, ◌++◌, Option, Some, None, is_none, if◌then◌else◌, codes}
 use Rattle.std.specs.List.{filter}
 use Rattle.std.specs.Option.{option_copied, option_map, option_and_then}
 use Rattle.std.specs.Ordering.{int_cmp}
@@ -21,33 +21,44 @@ use Rattle.educe_body_values.specs.declared.answers.Answer.TheVariants.{Truth as
 use Rattle.educe_body_values.specs.declared.answers.Answers.{Answers}
 use Rattle.educe_body_forms.specs.declared.form.Known.{Known}
 use Rattle.educe_body_forms.specs.declared.form.Known.TheVariants.{Truth as KnownTruth, Order as KnownOrder, PartialOrder as KnownPartialOrder}
-use Rattle.educe_body_forms.specs.declared.form.Form.{Form, Local, Reference, BracedCopy, Key, Call', Not', IfReturn', Return', SomeOf', MatchOrdering', MatchValue', IfLet', KeyFunction, Block', HashPart', Construct', Pasted, WholeCopy, Unreachable, Discard, AssignField', AssignThrough', Row_of-Form, end_of-Form, more_of-Form, Row_of-Arm, end_of-Arm, more_of-Arm, Row_of-Init, end_of-Init, more_of-Init, Held-Form-MatchOrdering-2, None', Some'}
+use Rattle.educe_body_forms.specs.declared.form.Form.{Form, Local, Reference, BracedCopy, Key, Call', Not', IfReturn', Return', SomeOf', MatchOrdering', MatchValue', IfLet', KeyFunction, Block', HashPart', Construct', Pasted, WholeCopy, Unreachable, Discard, AssignField', AssignThrough', WriteText, HelperType, Builder, BuilderEntry', MethodArgument', Finish, Row_of-Form, end_of-Form, more_of-Form, Row_of-Arm, end_of-Arm, more_of-Arm, Row_of-Init, end_of-Init, more_of-Init, Held-Form-MatchOrdering-2, None', Some'}
 use Rattle.educe_body_forms.specs.declared.form.Form as form
 use Rattle.educe_body_forms.specs.declared.form.Arm.{Arm}
 use Rattle.educe_body_forms.specs.declared.form.Init.{Init}
 use Rattle.educe_body_forms.specs.declared.key_function.KeyArm.{KeyArm}
+use Rattle.educe_body_forms.specs.declared.shown.ArgumentNames.{ArgumentNames}
+use Rattle.educe_body_forms.specs.declared.shown.EntryKey.{EntryKey}
+use Rattle.educe_body_forms.specs.declared.shown.EntryKey.TheVariants.{Unnamed, Named, Mapped}
+use Rattle.educe_body_forms.specs.declared.shown.Opening.{Opening}
+use Rattle.educe_body_forms.specs.declared.shown.Opening.TheVariants.{Struct as OpenStruct, Tuple as OpenTuple, Map as OpenMap}
 use Rattle.educe_body_forms.specs.declared.pattern.Pattern.{Pattern}
 use Rattle.educe_body_forms.specs.declared.body.Body.{Body}
 use Rattle.educe_body_values.specs.declared.evaluator.Outcome.{Outcome}
-use Rattle.educe_body_values.specs.declared.evaluator.Outcome.TheVariants.{Truth as OutcomeTruth, Order as OutcomeOrder, PartialOrder as OutcomePartialOrder, Parts as OutcomeParts, Made as OutcomeMade, Whole as OutcomeWhole, Stuck as OutcomeStuck}
+use Rattle.educe_body_values.specs.declared.evaluator.Outcome.TheVariants.{Truth as OutcomeTruth, Order as OutcomeOrder, PartialOrder as OutcomePartialOrder, Parts as OutcomeParts, Made as OutcomeMade, Whole as OutcomeWhole, Shape as OutcomeShape, Stuck as OutcomeStuck}
 use Rattle.educe_body_values.specs.declared.environment.Scope.{Scope}
+use Rattle.educe_body_values.specs.declared.shape.DebugShape.{DebugShape}
+use Rattle.educe_body_values.specs.declared.shape.Entry.{Entry}
+use Rattle.educe_body_values.specs.declared.shape.ShapeForm.{ShapeForm}
+use Rattle.educe_body_values.specs.declared.shape.ShapeForm.TheVariants as shape
 use Rattle.educe_body_values.specs.declared.stage.Stage.{Stage}
 use Rattle.educe_body_values.specs.declared.environment.Referent.{Referent}
-use Rattle.educe_body_values.specs.declared.environment.Referent.TheVariants.{This, Other, OwnField, Bound, Keys, Inert}
+use Rattle.educe_body_values.specs.declared.environment.Referent.TheVariants.{This, Other, OwnField, Bound, Keys, BuilderName, Helper, Argument, Inert}
 use Rattle.educe_body_values.specs.declared.environment.Own.{Own}
 use Rattle.educe_body_values.specs.declared.environment.Own.TheVariants as own
 use Rattle.educe_body_values.specs.declared.environment.Binding.{Binding}
+use Rattle.educe_body_values.specs.declared.environment.ArgumentMade.{ArgumentMade}
 use Rattle.educe_body_values.specs.declared.environment.Env.{Env}
 use Rattle.educe_body_values.specs.declared.flow.Thing.{Thing}
-use Rattle.educe_body_values.specs.declared.flow.Thing.TheVariants.{Nothing, Truth, Order, PartialOrder, Part, Number, Position, Hashed, Made, Built, Inert as InertThing}
+use Rattle.educe_body_values.specs.declared.flow.Thing.TheVariants.{Nothing, Truth, Order, PartialOrder, Part, Number, Position, Hashed, Made, Built, Argument as ArgumentThing, Shown, Inert as InertThing}
 use Rattle.educe_body_values.specs.declared.flow.Flow.{Flow}
 use Rattle.educe_body_values.specs.declared.flow.Flow.TheVariants.{Gives, Returns, Stuck}
 use Rattle.educe_body_values.specs.Answering.{answer_of}
+use Rattle.educe_body_values.specs.Callees.{text_of_path}
 use Rattle.educe_body_values.specs.Cases.{case_named}
 use Rattle.educe_body_values.specs.Constants.{key_number}
 use Rattle.educe_body_forms.specs.Keys.{keys_of}
 use Rattle.educe_body_values.specs.Matching.{has_key, fits, bindings_of}
-use Rattle.educe_body_values.specs.Scoping.{callee_in}
+use Rattle.educe_body_values.specs.Scoping.{callee_in, names_bound}
 use Rattle.educe_body_values.specs.Types.{pasted_callee}
 
 -- what forms are evaluated over: the definition, the value of `self` as the body begins and that of the parameter, the table, and in an
@@ -194,9 +205,10 @@ abbrev pub part_flow : Env → Option FieldValue → Flow
 part_flow env None = Stuck
 part_flow env (Some x) = Gives env (Part x)
 
--- what a name gives: a value, as a table is shown it, or what does not count
+-- what a name gives: a value, as a table is shown it, an argument, or what does not count
 abbrev pub local_flow : Scene → Env → Option Referent → Flow
 local_flow scene env (Some Inert) = Gives env InertThing
+local_flow scene env (Some (Argument place)) = Gives env (ArgumentThing place)
 local_flow scene env found = part_flow env (local_value scene env found)
 
 -- the value of the field of this key of the value that the base stands for, which is read in place or from a copy
@@ -462,6 +474,110 @@ abbrev pub assign : Scene → ExprPath → Bool → Option Referent → Env → 
 assign scene path handed target env thing =
     with_target handed (local_value scene env target) (λ front. go_on (call_value scene env.names path env (front ++ thing ∷ [])) (if_made (stored target)))
 
+-- ---- what is shown
+
+-- the name of an entry
+abbrev pub key_text : EntryKey → List ℕ
+key_text Unnamed = []
+key_text (Named key) = key.text
+key_text (Mapped helper key) = key.text
+
+-- the name stands for the type of the keys of a map
+abbrev pub is_helper : Option Referent → Bool
+is_helper (Some Helper) = true
+is_helper found = false
+
+-- an entry with this key is one of what is shown so: with a name in a struct, without one in a tuple, and with a name of the helper
+-- type in a map
+abbrev pub fits_form : List Binding → ShapeForm → EntryKey → Bool
+fits_form names shape.Struct (Named key) = true
+fits_form names shape.Tuple Unnamed = true
+fits_form names shape.Map (Mapped helper key) = is_helper (look_up names helper.text)
+fits_form names form key = false
+
+-- what is shown so under a name, without entries
+abbrev pub bare_shape : ShapeForm → List ℕ → DebugShape
+bare_shape form name = record { form = form; name = name; entries = [] }
+
+-- what is shown as a builder is begun
+abbrev pub opened : Opening → DebugShape
+opened (OpenStruct shown) = bare_shape shape.Struct shown.text
+opened (OpenTuple shown) = bare_shape shape.Tuple shown.text
+opened OpenMap = bare_shape shape.Map []
+
+-- something may be shown through what a name stands for: that is the parameter, which is the formatter, and nothing is shown so far
+abbrev pub may_show : Env → Option Referent → Bool
+may_show env (Some Other) = is_none env.shown
+may_show env found = false
+
+-- this is shown from now on, where it may be
+abbrev pub shows : Env → Option Referent → DebugShape → (Env → Flow) → Flow
+shows env found first next = if may_show env found then next (record env { shown = Some first }) else Stuck
+
+-- a text is written
+abbrev pub text_flow : Env → Option Referent → List ℕ → Flow
+text_flow env found text = shows env found (bare_shape shape.Word text) (λ after. Gives after Shown)
+
+-- a name, and what it stands for, from now on
+abbrev pub declared : Env → List ℕ → Referent → Flow
+declared env name referent = Gives (enter env (record { name = name; referent = referent } ∷ [])) Nothing
+
+-- a builder is begun, and has this name
+abbrev pub builder_flow : Env → Option Referent → List ℕ → Opening → Flow
+builder_flow env found builder opening = shows env found (opened opening) (λ after. declared after builder BuilderName)
+
+-- the entry of an argument, with its method
+abbrev pub entry_with : List ℕ → ArgumentMade → Entry
+entry_with key argument = record { key = key; method = Some argument.method; value = argument.value }
+
+-- the entry of a value: of a field, or of an argument
+abbrev pub entry_of : List ℕ → List ArgumentMade → Thing → Option Entry
+entry_of key arguments (Part x) = Some (record { key = key; method = None; value = x })
+entry_of key arguments (ArgumentThing place) = option_map (entry_with key) (slice_get arguments place)
+entry_of key arguments thing = None
+
+-- the entry is added, where there is one
+abbrev pub added : Env → DebugShape → Option Entry → Flow
+added env shown None = Stuck
+added env shown (Some entry) = Gives (record env { shown = Some (record shown { entries = shown.entries ++ entry ∷ [] }) }) Nothing
+
+-- an entry with this key and value, where it is one of what is shown
+abbrev pub entered : EntryKey → Env → Option DebugShape → Thing → Flow
+entered key env None thing = Stuck
+entered key env (Some shown) thing = if fits_form env.names shown.form key then added env shown (entry_of (key_text key) env.arguments thing) else Stuck
+
+-- the same where the name is that of the builder
+abbrev pub entry_flow : Option Referent → EntryKey → Env → Thing → Flow
+entry_flow (Some BuilderName) key env thing = entered key env env.shown thing
+entry_flow found key env thing = Stuck
+
+-- the names that stand around the type of an argument, and around its method
+abbrev pub inert : Ident → Binding
+inert name = record { name = name.text; referent = Inert }
+
+abbrev pub around_type : List Binding → ArgumentNames → List Binding
+around_type names own = names ++ inert own.wrapper ∷ []
+
+abbrev pub around_method : List Binding → ArgumentNames → List Binding
+around_method names own = names ++ inert own.wrapper ∷ inert own.own_value ∷ inert own.own_formatter ∷ []
+
+-- an argument is made of a field, where the method calls something there
+abbrev pub argument_made : Env → List ℕ → ExprPath → FieldValue → Option Callee → Flow
+argument_made env name path x None = Stuck
+argument_made env name path x (Some callee) =
+    declared (record env { arguments = env.arguments ++ record { method = text_of_path path; value = x } ∷ [] }) name (Argument (length env.arguments))
+
+-- an argument is made of a field of this type and the method, where neither text has a name in scope
+abbrev pub argument_flow : ArgumentNames → Written → ExprPath → Env → Thing → Flow
+argument_flow own ty path env thing =
+    if_part (λ x.
+    if names_bound (around_type env.names own) ty.tokens then Stuck else argument_made env own.argument.text path x (callee_in (around_method env.names own) path)) thing
+
+-- what is shown, where the name is that of the builder
+abbrev pub finished : Env → Option Referent → Flow
+finished env (Some BuilderName) = Gives env Shown
+finished env found = Stuck
+
 -- ---- values that are built
 
 -- goes on with the case that is built, where there is one: the place of its variant, and its fields
@@ -508,6 +624,14 @@ abbrev mutual
   form_value scene env (AssignField' key path shape inner handed) = go_on (inner_value scene env inner) (assign scene path handed (field_named scene key.text))
   form_value scene env (AssignThrough' name path shape inner handed) =
       go_on (inner_value scene env inner) (assign scene path handed (look_up env.names name.text))
+  form_value scene env (WriteText formatter text) = text_flow env (look_up env.names formatter.text) text.text
+  -- the formatter in a helper type is that of its own function
+  form_value scene env (HelperType helper formatter) = declared env helper.text Helper
+  form_value scene env (Builder builder formatter opening) = builder_flow env (look_up env.names formatter.text) builder.text opening
+  -- a reference to a value shows what the value shows
+  form_value scene env (BuilderEntry' builder key shape inner by_reference) = go_on (inner_value scene env inner) (entry_flow (look_up env.names builder.text) key)
+  form_value scene env (MethodArgument' own shape inner ty path) = go_on (inner_value scene env inner) (argument_flow own ty path)
+  form_value scene env (Finish builder) = finished env (look_up env.names builder.text)
 
   -- the value of the one form that a box holds
   pub inner_value : Scene → Env → {m : _} → Row_of-Form m → Flow
@@ -599,20 +723,26 @@ own_outcome None = OutcomeStuck
 own_outcome (Some (own.Value value)) = OutcomeMade value
 own_outcome (Some (own.Whole x)) = OutcomeWhole x
 
--- what a body may evaluate to; one that gives nothing is there for what it does to `self`
-abbrev pub outcome_of_thing : Option Own → Thing → Outcome
-outcome_of_thing self Nothing = own_outcome self
-outcome_of_thing self (Truth b) = OutcomeTruth b
-outcome_of_thing self (Order o) = OutcomeOrder o
-outcome_of_thing self (PartialOrder p) = OutcomePartialOrder p
-outcome_of_thing self (Built value) = OutcomeMade value
-outcome_of_thing self (Made x) = OutcomeWhole x
-outcome_of_thing self thing = OutcomeStuck
+-- what is shown when a body ends
+abbrev pub shown_outcome : Option DebugShape → Outcome
+shown_outcome None = OutcomeStuck
+shown_outcome (Some shown) = OutcomeShape shown
+
+-- what a body may evaluate to; one that gives nothing is there for what it does to `self`, and one that shows something for that
+abbrev pub outcome_of_thing : Env → Thing → Outcome
+outcome_of_thing env Nothing = own_outcome env.own
+outcome_of_thing env (Truth b) = OutcomeTruth b
+outcome_of_thing env (Order o) = OutcomeOrder o
+outcome_of_thing env (PartialOrder p) = OutcomePartialOrder p
+outcome_of_thing env (Built value) = OutcomeMade value
+outcome_of_thing env (Made x) = OutcomeWhole x
+outcome_of_thing env Shown = shown_outcome env.shown
+outcome_of_thing env thing = OutcomeStuck
 
 -- the value that is given or returned
 abbrev pub outcome_of : Flow → Outcome
-outcome_of (Gives env thing) = outcome_of_thing env.own thing
-outcome_of (Returns env thing) = outcome_of_thing env.own thing
+outcome_of (Gives env thing) = outcome_of_thing env thing
+outcome_of (Returns env thing) = outcome_of_thing env thing
 outcome_of Stuck = OutcomeStuck
 
 -- what was fed to a hasher, whatever is given or returned
@@ -639,9 +769,9 @@ all_bound referent names = map (λ (name : Word). record { name = name.text; ref
 abbrev pub first_bindings : List Word → List Binding
 first_bindings params = record { name = codes "self"; referent = This } ∷ all_bound (param_referent params) params
 
--- the names that are in scope as a body begins, and the value of `self`; nothing was fed
+-- the names that are in scope as a body begins, and the value of `self`; nothing was fed, nothing is shown, and no argument was made
 abbrev pub start : List Word → Option Value → Env
-start params this = record { names = first_bindings params; parts = []; own = first_own this }
+start params this = record { names = first_bindings params; parts = []; own = first_own this; shown = None; arguments = [] }
 
 -- the value of a body
 abbrev pub value : Body → Scene → Outcome

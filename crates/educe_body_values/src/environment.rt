@@ -3,6 +3,7 @@ ghost use Rattle.std.specs.Prelude.{◌≡◌, [], ◌∷◌, ◌++◌, length, 
 ghost use Rattle.std.specs.Option.{option_copied};
 ghost use Rattle.educe_body_values.specs.Meaning.{start, all_bound, param_referent, first_own, own_value};
 
+use crate::shape::DebugShape;
 use crate::value::{FieldValue, Parts, Value};
 use educe_body_forms::Names;
 use educe_discriminants::Number;
@@ -24,7 +25,7 @@ pub struct Scope<'a> {
 pub enum Referent {
     /// The value of `self`.
     This,
-    /// The value of the parameter.
+    /// The value of the parameter; where it has none, it may be a formatter.
     Other,
     /// The field at a place of the value of `self`, which a pattern binds.
     OwnField(usize),
@@ -32,6 +33,12 @@ pub enum Referent {
     Bound(FieldValue),
     /// A key function, by its numbers for the value of `self` and for that of the parameter.
     Keys(Option<Number>, Option<Number>),
+    /// The builder of what is shown.
+    BuilderName,
+    /// The helper type that stands for the type of the keys of a map.
+    Helper,
+    /// An argument, by its place among those that were made.
+    Argument(usize),
     /// What has no value of its own: the parameter of a key function, a hasher and its type.
     Inert,
 }
@@ -127,13 +134,23 @@ pub(crate) fn own_value(own: &Option<Own>) -> Option<&Value>
     }
 }
 
-/// What changes as forms are evaluated: the names in scope, what was fed to a hasher, and what `self`
-/// is, where there is one.
+/// An argument whose `Debug` calls a method on a field: the text of the method, and the value of the
+/// field.
+#[derive(Drop)]
+pub struct ArgumentMade {
+    pub method: Spelling,
+    pub value: FieldValue,
+}
+
+/// What changes as forms are evaluated: the names in scope, what was fed to a hasher, what `self` is,
+/// where there is one, what is shown, where something is, and the arguments that were made, in order.
 #[derive(Drop)]
 pub struct Env {
     pub names: Bindings,
     pub parts: Parts,
     pub own: Option<Own>,
+    pub shown: Option<DebugShape>,
+    pub arguments: Seq<ArgumentMade>,
 }
 
 impl Env {
@@ -151,7 +168,14 @@ impl Env {
         let names = bind_all(alloc, names, param_referent(params), params)?;
         let parts = Seq::new(alloc);
         let own = first_own(alloc, this)?;
-        Ok(Env { names, parts, own })
+        let arguments = Seq::new(alloc);
+        Ok(Env {
+            names,
+            parts,
+            own,
+            shown: None,
+            arguments,
+        })
     }
 }
 

@@ -3,9 +3,10 @@ ghost use Rattle.std.specs.Prelude.{◌≡◌, IfOk};
 ghost use Rattle.educe_body_values.specs.declared.environment.Env.{Env};
 ghost use Rattle.educe_body_values.specs.Cases as spec;
 ghost use Rattle.educe_body_values.specs.Meaning as meaning;
-ghost use Rattle.educe_body_values.specs.Meaning.{scene, scene_at, look_up, read_flow, key_of, leave, value, parts_of, outcome_of, own_outcome, outcome_of_thing, list_value, taken, arms_list, with_named, go_on, block_arm, form_value, args_list, inits_list, built, built_value, with_case, call_value, assign};
+ghost use Rattle.educe_body_values.specs.Meaning.{scene, scene_at, look_up, read_flow, key_of, leave, value, parts_of, outcome_of, own_outcome, shown_outcome, outcome_of_thing, list_value, taken, arms_list, with_named, go_on, block_arm, form_value, args_list, inits_list, built, built_value, with_case, call_value, assign};
 
 use crate::answers::Answers;
+use crate::arguments::argument_flow;
 use crate::assigning::assign;
 use crate::calls::called;
 use crate::cases::case_named;
@@ -18,6 +19,8 @@ use crate::matching::{bind_pattern, fits, fits_named, has_key};
 use crate::numbers::bind_keys;
 use crate::reading::{field_named, find, key, local, named, reference};
 use crate::scoping::callee_in;
+use crate::shape::DebugShape;
+use crate::showing::{builder_flow, declared, entry_flow, finished, text_flow};
 use crate::stage::Stage;
 use crate::types::pasted_callee;
 use crate::value::{FieldValue, FieldValues, Parts, Value};
@@ -39,19 +42,24 @@ pub enum Outcome {
     Made(Value),
     /// What a call makes of a whole type, or of a whole value, also where `self` becomes this.
     Whole(FieldValue),
+    /// What `fmt` shows.
+    Shape(DebugShape),
     /// There is no value.
     Stuck,
 }
 
 /// What a body evaluates to over a definition, two values and a table: what it returns, or the
 /// value of its last form; for a body with two parameters, a hasher and its type, what it feeds to the
-/// hasher; and for one that gives nothing, what `self` becomes. `Stuck` where a name stands for
+/// hasher; for one that gives nothing, what `self` becomes; and for one that ends in what it hands to
+/// its parameter, a formatter, what this shows. `Stuck` where a name stands for
 /// nothing, a value has no field of that key, no arm or no field of a pattern fits, a path that is not
-/// built in, an expression or a default value has a name in scope, more than two arguments of a call
-/// count, the table has no answer, a form takes another kind of value, no variant has the name of what
-/// is built, its fields have other keys or there are more or fewer, what is assigned to is not `self`
-/// and no field of it, the fields of `self` are read behind an assignment to the whole, or the result is
-/// no truth, no order, no value that is built and none that is made.
+/// built in, an expression, a default value or the type of an argument has a name in scope, more than two
+/// arguments of a call count, the table has no answer, a form takes another kind of value, no variant has
+/// the name of what is built, its fields have other keys or there are more or fewer, what is assigned to
+/// is not `self` and no field of it, the fields of `self` are read behind an assignment to the whole,
+/// something is shown already or through another name than that of the formatter or of the builder, an
+/// entry has a key of another form, or the result is no truth, no order, nothing that is shown, no value
+/// that is built and none that is made.
 /// What is built of a variant, and a default value by the type of its field, are also `Stuck` where
 /// the place of the variant or of the type is 2^32 or more.
 pub fn eval<'a>(
@@ -98,8 +106,8 @@ fn outcome_of(flow: Flow) -> Outcome
     ensures { result ≡ outcome_of flow }
 {
     match flow {
-        Flow::Gives(env, thing) => ended_with(env.own, thing),
-        Flow::Returns(env, thing) => ended_with(env.own, thing),
+        Flow::Gives(env, thing) => ended_with(env, thing),
+        Flow::Returns(env, thing) => ended_with(env, thing),
         Flow::Stuck => Outcome::Stuck,
     }
 }
@@ -115,16 +123,27 @@ fn own_outcome(own: Option<Own>) -> Outcome
     }
 }
 
-fn ended_with(own: Option<Own>, thing: Thing) -> Outcome
-    ensures { result ≡ outcome_of_thing own thing }
+/// What is shown when a body ends.
+fn shown_outcome(shown: Option<DebugShape>) -> Outcome
+    ensures { result ≡ shown_outcome shown }
+{
+    match shown {
+        Some(shown) => Outcome::Shape(shown),
+        None => Outcome::Stuck,
+    }
+}
+
+fn ended_with(env: Env, thing: Thing) -> Outcome
+    ensures { result ≡ outcome_of_thing env thing }
 {
     match thing {
-        Thing::Nothing => own_outcome(own),
+        Thing::Nothing => own_outcome(env.own),
         Thing::Truth(b) => Outcome::Truth(b),
         Thing::Order(o) => Outcome::Order(o),
         Thing::PartialOrder(p) => Outcome::PartialOrder(p),
         Thing::Built(value) => Outcome::Made(value),
         Thing::Made(x) => Outcome::Whole(x),
+        Thing::Shown => shown_outcome(env.shown),
         _ => Outcome::Stuck,
     }
 }
@@ -228,6 +247,32 @@ fn run_form(alloc: Global, form: &Form, env: Env, stage: &Stage) -> Result<Flow,
         Form::AssignThrough(name, path, inner, handed) => {
             let target = find(env.names.as_slice(), &name.text);
             run_assign(alloc, path.get(), inner.get(), *handed, &target, env, stage)
+        }
+        Form::WriteText(formatter, text) => {
+            let found = find(env.names.as_slice(), &formatter.text);
+            text_flow(alloc, env, &found, &text.text)
+        }
+        Form::HelperType(helper, _) => declared(alloc, env, &helper.text, Referent::Helper),
+        Form::Builder(builder, formatter, opening) => {
+            let found = find(env.names.as_slice(), &formatter.text);
+            builder_flow(alloc, env, &found, &builder.text, opening)
+        }
+        Form::BuilderEntry(builder, key, inner, _) => {
+            let found = find(env.names.as_slice(), &builder.text);
+            entry_flow(
+                alloc,
+                &found,
+                key,
+                run_form(alloc, inner.get(), env, stage)?,
+            )
+        }
+        Form::MethodArgument(own, inner, ty, path) => {
+            let inner = run_form(alloc, inner.get(), env, stage)?;
+            argument_flow(alloc, own.get(), ty, path.get(), inner)
+        }
+        Form::Finish(builder) => {
+            let found = find(env.names.as_slice(), &builder.text);
+            Ok(finished(env, &found))
         }
     }
 }

@@ -28,6 +28,10 @@ pub enum Thing {
     Made(FieldValue),
     /// A value that is built of its fields.
     Built(Value),
+    /// An argument, by its place among those that were made.
+    Argument(usize),
+    /// What is shown.
+    Shown,
     /// What does not count among the arguments of a call: a hasher.
     Inert,
 }

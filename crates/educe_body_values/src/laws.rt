@@ -8,7 +8,8 @@ pub fn key_laws()
 {}
 
 /// A path whose identifiers are words of an input calls what it names wherever the names in scope,
-/// `self` aside, are none of its words, and an expression of such identifiers has its number there.
+/// `self` aside, are none of its words, an expression of such identifiers has its number there, and no
+/// other text of such identifiers has a name in scope.
 /// A path that is built in calls its function in any scope.
 pub fn scope_laws()
     ensures { ScopeLaws }

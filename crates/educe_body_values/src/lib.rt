@@ -3,6 +3,7 @@
 #![tactic(auto)]
 
 mod answers;
+mod arguments;
 mod assigning;
 mod built_in_paths;
 mod callee;
@@ -14,8 +15,11 @@ mod flow;
 mod laws;
 mod matching;
 mod numbers;
+mod plain_texts;
 mod reading;
 mod scoping;
+mod shape;
+mod showing;
 mod stage;
 mod types;
 mod value;
@@ -26,4 +30,5 @@ pub use callee::{BuiltIn, Callee, built_in};
 pub use environment::Scope;
 pub use evaluator::{Outcome, eval};
 pub use laws::{form_laws, key_laws, scope_laws};
+pub use shape::{DebugShape, Entry, ShapeForm};
 pub use value::{FieldValue, FieldValues, Parts, Value};

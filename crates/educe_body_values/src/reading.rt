@@ -50,12 +50,14 @@ pub(crate) fn local_value(stage: &Stage, env: &Env, found: &Option<Referent>) ->
     }
 }
 
-/// What a name gives, by what it stands for: a value, as a table is shown it, or what does not count.
+/// What a name gives, by what it stands for: a value, as a table is shown it, an argument, or what does
+/// not count.
 pub(crate) fn local(stage: &Stage, env: Env, found: &Option<Referent>) -> Flow
     ensures { result ≡ local_flow (scene_at stage.now) env found.now }
 {
     match found {
         Some(Referent::Inert) => Flow::Gives(env, Thing::Inert),
+        Some(Referent::Argument(place)) => Flow::Gives(env, Thing::Argument(*place)),
         _ => {
             let part = local_value(stage, &env, found);
             part_flow(env, part)

@@ -5,8 +5,8 @@ use Rattle.educe_body_forms.specs.declared.form.Form.{Form}
 use Rattle.educe_body_values.specs.declared.flow.Flow.{Flow}
 use Rattle.educe_body_values.specs.declared.flow.Flow.TheVariants.{Gives, Returns, Stuck}
 use Rattle.educe_body_values.specs.Scoping.{callee_in}
-use Rattle.educe_body_values.specs.Meaning.{scene_at, form_value, args_list, arms_list, held_list, call_named, call_value, look_up, with_named, go_on, assign, or_nothing, Scene, built}
-use Rattle.educe_body_values.proofs.Rows.{form_value-Call, form_value-Not, form_value-SomeOf, form_value-IfReturn, form_value-Return, form_value-HashPart, form_value-Construct, form_value-MatchOrdering, form_value-MatchValue, form_value-Block, form_value-AssignField, form_value-AssignThrough, match_held, if_let_known, args_list-step, args_list-gathered, args_list-all, counted-gathers, inits_list-step, inits_list-gathered, inits_list-fewer, inits_list-all}
+use Rattle.educe_body_values.specs.Meaning.{scene_at, form_value, args_list, arms_list, held_list, call_named, call_value, look_up, with_named, go_on, assign, entry_flow, argument_flow, or_nothing, Scene, built}
+use Rattle.educe_body_values.proofs.Rows.{form_value-Call, form_value-Not, form_value-SomeOf, form_value-IfReturn, form_value-Return, form_value-HashPart, form_value-Construct, form_value-MatchOrdering, form_value-MatchValue, form_value-Block, form_value-AssignField, form_value-AssignThrough, form_value-BuilderEntry, form_value-MethodArgument, match_held, if_let_known, args_list-step, args_list-gathered, args_list-all, counted-gathers, inits_list-step, inits_list-gathered, inits_list-fewer, inits_list-all}
 use Rattle.educe_body_values.proofs.evaluator.+run.Goals as goal
 
 -- a result that ends as one flow ends as another that is the same
@@ -125,6 +125,31 @@ run_form-returns-in-AssignThrough t c =
     ∙ sym (ap (form_value s c.args.env) arm.is ∙ form_value-AssignThrough s c.args.env arm.name arm.path arm.inner arm.handed)
     )
     c.run_assign-in-AssignThrough.ensures
+
+pub run_form-returns-in_ok-run_form-in-BuilderEntry : goal.run_form-returns-in_ok-run_form-in-BuilderEntry
+run_form-returns-in_ok-run_form-in-BuilderEntry t c =
+    let s = scene_at c.args.stage.now in
+    let arm = c.in-BuilderEntry in
+    let found = c.find-found-in-BuilderEntry.ensures ∙ ap (λ names. look_up names arm.builder.text) c.as_slice-in-BuilderEntry.ensures in
+    let gives = c.in_ok-run_form-in-BuilderEntry.ensures ∙ ap (form_value s c.args.env) c.get-in-BuilderEntry.ensures in
+    ends_alike c.entry_flow.result _ _
+    (
+    (λ i. go_on (gives i) (entry_flow (found i) arm.key))
+    ∙ sym (ap (form_value s c.args.env) arm.is ∙ form_value-BuilderEntry s c.args.env arm.builder arm.key arm.inner arm.field-3)
+    )
+    c.entry_flow.ensures
+
+pub run_form-returns-in_ok-inner-in-MethodArgument : goal.run_form-returns-in_ok-inner-in-MethodArgument
+run_form-returns-in_ok-inner-in-MethodArgument t c =
+    let s = scene_at c.args.stage.now in
+    let arm = c.in-MethodArgument in
+    let gives = c.in_ok-inner-in-MethodArgument.ensures ∙ ap (form_value s c.args.env) c.get-in-MethodArgument.ensures in
+    ends_alike c.argument_flow.result _ _
+    (
+    (λ i. go_on (gives i) (argument_flow (c.get-in-MethodArgument-2.ensures i) arm.ty (c.get-in-MethodArgument-3.ensures i)))
+    ∙ sym (ap (form_value s c.args.env) arm.is ∙ form_value-MethodArgument s c.args.env arm.own arm.inner arm.ty arm.path)
+    )
+    c.argument_flow.ensures
 
 pub run_form-returns-in-Block : goal.run_form-returns-in-Block
 run_form-returns-in-Block t c =

@@ -1,0 +1,7 @@
+use Rattle.std.proofs.lemmas.Str.{IsUtf8-string_bytes}
+use Rattle.educe_tree.specs.TokenLaws.{ascii_chars}
+use Rattle.educe_body_values.proofs.Pushed.{pushed}
+use Rattle.educe_body_values.proofs.plain_texts.push_word.Goals as goal
+
+pub returns : goal.returns
+returns c = pushed _ _ _ _ (IsUtf8-string_bytes c.args.out.now) c.in_ok-push_str.ensures.bytes (ascii_chars c.args.word.now c.requires)
