@@ -198,7 +198,7 @@ lists_clear d e own variants fields cause =
 
 -- what `Clone` is refused for besides: nothing that the type says of `Copy` is wrong, where that is listed, and each marker is built
 pub record IsClear (which : Trait) (d : DeriveInput) : Type 0 where
-  pub copy : (e : EduceError) → which ≡ trait.Clone → is_listed (listed d) trait.Copy ≡ true → IsSaidCause trait.Copy (type_row trait.Copy) d.attrs e → ⊥
+  pub copy : (e : EduceError) → which ≡ trait.Clone → is_listed (listed d) trait.Copy ≡ true → IsSaidCause trait.Copy (type_row trait.Copy d) d.attrs e → ⊥
   pub marked : (field : Field) → In field (all_fields d) → IsUnbuiltMarker which d field → ⊥
 
 -- another trait is refused for neither
@@ -218,7 +218,7 @@ module _ (which : Trait) (d : DeriveInput) (shape_uncaused : NoCause (OfShape wh
       each_weaker (λ field. In field (all_fields d)) (λ (field : Field). NoCause (OfField which (field_row which) (listed d) field.attrs))
       field_uncaused (all_fields d) (each_in (all_fields d))
 
-  module _ (type_uncaused : NoCause (OfPlace which (type_row which) (listed d) d.attrs)) where
+  module _ (type_uncaused : NoCause (OfPlace which (type_row which d) (listed d) d.attrs)) where
     -- nor has a list of a place
     lists_uncaused : (e : EduceError) → IsListsCause d e → ⊥
     lists_uncaused e cause =

@@ -14,6 +14,7 @@ fn are_built(listed: &[Trait]) -> bool
     ensures { result ≡ spec.are_built listed.now }
 {
     let built = [
+        Trait::Debug,
         Trait::Clone,
         Trait::Copy,
         Trait::PartialEq,

@@ -37,8 +37,8 @@ pub struct Header {
 pub fn bound_of_type(alloc: Global, task: Task<'_, '_>) -> Result<Bound, Stop>
     requires { task.listed.now ≡ listing.listed task.ast.now }
     ensures ok { IfOk result (λ bound. bound ≡ settings.bound_for task.entry.which task.entry.ast.now) }
-    ensures uncaused { IfOk result (λ _. NoCause (OfPlace task.entry.which (rows.type_row task.entry.which) (listing.listed task.entry.ast.now) task.entry.ast.now.attrs)) }
-    ensures err { IfErr result (λ s. OfStop (OfPlace task.entry.which (rows.type_row task.entry.which) (listing.listed task.entry.ast.now) task.entry.ast.now.attrs) s) }
+    ensures uncaused { IfOk result (λ _. NoCause (OfPlace task.entry.which (rows.type_row task.entry.which task.entry.ast.now) (listing.listed task.entry.ast.now) task.entry.ast.now.attrs)) }
+    ensures err { IfErr result (λ s. OfStop (OfPlace task.entry.which (rows.type_row task.entry.which task.entry.ast.now) (listing.listed task.entry.ast.now) task.entry.ast.now.attrs) s) }
 {
     let Values { bound, .. } = type_values(alloc, task)?;
     Ok(bound_said(bound))

@@ -38,7 +38,7 @@ pub use patterns::{bare_pattern, has_brackets, key, pattern};
 pub use ranked::{How, Ranked};
 pub use ranks::{fields_in_order, kept_fields};
 pub use reading::{Reading, read};
-pub use rows::{is_order, reads_fields};
+pub use rows::{is_order, reads_fields, struct_names, variant_names};
 pub use said::{field_settings, type_values, variant_values};
 pub use seen_types::{SeenTypes, no_types, see_each};
 pub use settings::is_kept;

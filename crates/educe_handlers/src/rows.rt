@@ -3,9 +3,10 @@ ghost use Rattle.std.specs.Prelude.{◌≡◌};
 ghost use Rattle.educe_laws.specs.Rows as spec;
 
 use educe_attrs::clone::FieldAttributeBuilder;
-use educe_attrs::default::TypeAttributeBuilder;
-use educe_attrs::{AttributeBuilder, Row, bound_row, compared_row};
+use educe_attrs::debug::TypeName;
+use educe_attrs::{AttributeBuilder, Row, bound_row, compared_row, debug, default};
 use educe_bound::Trait;
+use educe_syntax::{DeriveInput, FieldForm, Shape};
 
 /// Whether the trait is one of the two orders.
 pub fn is_order(which: Trait) -> bool
@@ -30,13 +31,57 @@ pub fn reads_fields(which: Trait) -> bool
     }
 }
 
-/// The forms of its attribute at a type (documentation of `educe`, each trait's section).
-pub fn type_row(which: Trait) -> Row
-    ensures { result ≡ spec.type_row which }
+/// Whether the names of the fields of a struct are shown, where nothing is said of that.
+pub fn struct_names(form: FieldForm) -> bool
+    ensures { result ≡ spec.struct_names form }
+{
+    !matches!(form, FieldForm::Unnamed)
+}
+
+/// So it is of a variant.
+pub fn variant_names(form: FieldForm) -> bool
+    ensures { result ≡ spec.variant_names form }
+{
+    matches!(form, FieldForm::Named)
+}
+
+/// The name of the type that is shown, where nothing is said of that.
+pub fn own_type_name(shape: &Shape) -> TypeName
+    ensures { result ≡ spec.own_type_name shape.now }
+{
+    match shape {
+        Shape::Struct(_) => TypeName::Default,
+        Shape::Enum(_) => TypeName::Disable,
+    }
+}
+
+/// The forms of the attribute of `Debug` at a type (documentation of `educe`, Debug).
+fn debug_row(shape: &Shape) -> Row
+    ensures { result ≡ spec.debug_row shape.now }
+{
+    let (enable_named_field, named_field) = match shape {
+        Shape::Struct(shape) => (true, struct_names(shape.form)),
+        Shape::Enum(_) => (false, false),
+    };
+    let builder = debug::TypeAttributeBuilder {
+        enable_flag: true,
+        enable_name: true,
+        enable_named_field,
+        enable_bound: true,
+        name: own_type_name(shape),
+        named_field,
+    };
+    builder.row()
+}
+
+/// The forms of the attribute of a trait at a type (documentation of `educe`, each trait's section).
+pub fn type_row(which: Trait, ast: &DeriveInput) -> Row
+    ensures { result ≡ spec.type_row which ast.now }
 {
     match which {
+        Trait::Debug => debug_row(&ast.shape),
         Trait::Default => {
-            let builder = TypeAttributeBuilder {
+            let builder = default::TypeAttributeBuilder {
                 enable_flag: true,
                 enable_new: true,
                 enable_expression: true,

@@ -19,15 +19,15 @@ use std::alloc::Global;
 /// memory fails.
 pub fn type_values(alloc: Global, task: Task<'_, '_>) -> Result<Values, Stop>
     requires { task.listed.now ≡ listing.listed task.ast.now }
-    ensures are { IfOk result (λ values. values ≡ places.place_settings task.entry.which (rows.type_row task.entry.which) (listing.listed task.entry.ast.now) task.entry.ast.now.attrs) }
-    ensures uncaused { IfOk result (λ _. NoCause (places.OfPlace task.entry.which (rows.type_row task.entry.which) (listing.listed task.entry.ast.now) task.entry.ast.now.attrs)) }
-    ensures err { IfErr result (λ s. OfStop (places.OfPlace task.entry.which (rows.type_row task.entry.which) (listing.listed task.entry.ast.now) task.entry.ast.now.attrs) s) }
+    ensures are { IfOk result (λ values. values ≡ places.place_settings task.entry.which (rows.type_row task.entry.which task.entry.ast.now) (listing.listed task.entry.ast.now) task.entry.ast.now.attrs) }
+    ensures uncaused { IfOk result (λ _. NoCause (places.OfPlace task.entry.which (rows.type_row task.entry.which task.entry.ast.now) (listing.listed task.entry.ast.now) task.entry.ast.now.attrs)) }
+    ensures err { IfErr result (λ s. OfStop (places.OfPlace task.entry.which (rows.type_row task.entry.which task.entry.ast.now) (listing.listed task.entry.ast.now) task.entry.ast.now.attrs) s) }
 {
     let attributes = task.ast.attrs.as_slice();
     place_settings(
         alloc,
         task.which,
-        &type_row(task.which),
+        &type_row(task.which, task.ast),
         task.listed,
         attributes,
     )

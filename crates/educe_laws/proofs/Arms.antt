@@ -17,7 +17,6 @@ use Rattle.educe_syntax.specs.Shape.{Shape}
 use Rattle.educe_syntax.specs.Variant.{Variant}
 use Rattle.educe_attrs.specs.FieldSettings.{FieldSettings}
 use Rattle.educe_body_values.specs.declared.answers.Answers.{Answers}
-use Rattle.educe_bound_traits.specs.declared.traits.Trait.{Trait}
 use Rattle.educe_bound_traits.specs.declared.traits.Trait.TheVariants as trait
 use Rattle.educe_body_forms.specs.declared.comparison.Comparison.{Comparison}
 use Rattle.educe_body_forms.specs.declared.comparison.Comparison.TheVariants.{PartialEq}
@@ -45,16 +44,16 @@ use Rattle.educe_body_values.specs.Matching.{variant_of, is_named, fits, has_key
 use Rattle.educe_body_values.specs.Meaning.{Scene, look_up, part_of, own_value, own_field, own_fields, part_flow, local_flow, with_value, with_named, go_on, leave, within, or_nothing, known_thing, form_value, list_value, held_list, taken, if_let_value, arms_list, outcome_of}
 use Rattle.educe_body_values.specs.Scoping.{IsApart}
 use Rattle.educe_body_values.proofs.Fields.{bytes_eq-differ}
-use Rattle.educe_laws.specs.Arms.{Names, AreNames, AreArms, IsKey, IsBound, ArePatternFields, IsPattern, IsArm, IsMatch}
+use Rattle.educe_laws.specs.Arms.{Names, AreNames, AreArms, IsKey, IsBound, ArePatternFields, IsPatternBy, IsArm, IsMatch}
 use Rattle.educe_laws.specs.Blocks.{scene_of}
 use Rattle.educe_laws.specs.BodyLaws.{lawful_forms, lawful_keys}
 use Rattle.educe_laws.specs.Cases.{fields_in, shape_cases, case_of}
 use Rattle.educe_laws.specs.Comparisons.{trait_of}
 use Rattle.educe_laws.specs.Comparing.{Compared, HasShape, says, neutral, paired_from, compared, differs, word_of}
-use Rattle.educe_laws.specs.Settings.{Kept, keeps, settings_of, kept_with, kept_from, kept_fields}
+use Rattle.educe_laws.specs.Settings.{Kept, keeps, settings_of, kept_with, kept_by, kept_fields}
 use Rattle.educe_laws.specs.Steps.{bound}
 use Rattle.educe_laws.proofs.Elements.{In, In-all, In-found, map_at, each_in, each_map, each_mapped, each_weaker}
-use Rattle.educe_laws.proofs.Facts.{AreFit, IsOuter}
+use Rattle.educe_laws.proofs.Facts.{IsEnumOf, AreFit, IsOuter}
 use Rattle.educe_laws.proofs.Least.{first_where}
 use Rattle.educe_laws.proofs.Meanings.{each_in_order, fields_meaning, means_in_order, steps_ended}
 use Rattle.educe_laws.proofs.Pairing.{Look, FieldsGive, value_in, part_in, IsPlaced, each_placed, seen, paired-seen, length_from_types}
@@ -87,25 +86,25 @@ module _ (prefix : List ℕ) (refer : Refer) where
   binds_one s true place f r kept (Some name) is at = λ i. record { name = is.is i; referent = sym at i } ∷ map (own_binding prefix refer) kept
 
   -- the fields that take part are bound to their variables
-  binds : (which : Trait) (d : DeriveInput) (place : ℕ) (fs : List Field) (rs : List Referent) (ps : List PatternField) → FieldsRefer refer place fs rs
-      → ArePatternFields prefix place fs (map (settings_of which d) fs) ps → fields_bound fs ps rs ≡ Some (map (own_binding prefix refer) (kept_from which d place fs))
-  binds which d place [] [] [] refers are = refl
-  binds which d place [] [] (p ∷ ps) refers are = absurd are
-  binds which d place [] (r ∷ rs) ps refers are = absurd refers
-  binds which d place (f ∷ fs) [] ps refers are = absurd refers
-  binds which d place (f ∷ fs) (r ∷ rs) [] refers are = absurd are
-  binds which d place (f ∷ fs) (r ∷ rs) (p ∷ ps) refers are =
+  binds : (settings : Field → FieldSettings) (place : ℕ) (fs : List Field) (rs : List Referent) (ps : List PatternField) → FieldsRefer refer place fs rs
+      → ArePatternFields prefix place fs (map settings fs) ps → fields_bound fs ps rs ≡ Some (map (own_binding prefix refer) (kept_by place fs (map settings fs)))
+  binds settings place [] [] [] refers are = refl
+  binds settings place [] [] (p ∷ ps) refers are = absurd are
+  binds settings place [] (r ∷ rs) ps refers are = absurd refers
+  binds settings place (f ∷ fs) [] ps refers are = absurd refers
+  binds settings place (f ∷ fs) (r ∷ rs) [] refers are = absurd are
+  binds settings place (f ∷ fs) (r ∷ rs) (p ∷ ps) refers are =
       ap (λ (b : Bool). if b then option_map (bound_to p.name r) (fields_bound fs ps rs) else None) (key_fits f.ident p.key are.0.key_is)
-      ∙ ap (option_map (bound_to p.name r)) (binds which d (place + 1) fs rs ps refers.1 are.1)
-      ∙ ap Some (binds_one (settings_of which d f) (keeps (settings_of which d f)) place f r (kept_from which d (place + 1) fs) p.name are.0.name_is refers.0)
+      ∙ ap (option_map (bound_to p.name r)) (binds settings (place + 1) fs rs ps refers.1 are.1)
+      ∙ ap Some (binds_one (settings f) (keeps (settings f)) place f r (kept_by (place + 1) fs (map settings fs)) p.name are.0.name_is refers.0)
 
   -- so a pattern binds them of a value of its variant
-  pattern_binds : (which : Trait) (d : DeriveInput) (v : Variant) (value : Value) (pattern : Pattern) (rs : List Referent) → variant_of d value ≡ Some v → FieldsRefer refer 0 (fields_in v) rs
-      → IsPattern which d prefix v pattern → bindings_of d pattern value rs ≡ Some (map (own_binding prefix refer) (kept_from which d 0 (fields_in v)))
-  pattern_binds which d v value pattern rs found refers is =
+  pattern_binds : (settings : Field → FieldSettings) (d : DeriveInput) (v : Variant) (value : Value) (pattern : Pattern) (rs : List Referent) → variant_of d value ≡ Some v → FieldsRefer refer 0 (fields_in v) rs
+      → IsPatternBy prefix v (map settings (fields_in v)) pattern → bindings_of d pattern value rs ≡ Some (map (own_binding prefix refer) (kept_by 0 (fields_in v) (map settings (fields_in v))))
+  pattern_binds settings d v value pattern rs found refers is =
       ap (λ (o : Option Variant). bound_of o pattern rs) found
       ∙ ap (λ (b : Bool). if b then Some [] else fields_bound (fields_in v) pattern.fields rs) is.whole
-      ∙ binds which d 0 (fields_in v) rs pattern.fields refers is.fields_are
+      ∙ binds settings 0 (fields_in v) rs pattern.fields refers is.fields_are
 
 module _ (prefix : List ℕ) (look : Look) where
   -- so they do for the places of the fields
@@ -122,15 +121,19 @@ module _ (prefix : List ℕ) (look : Look) where
   values_refer place (f ∷ fs) [] give = absurd give
   values_refer place (f ∷ fs) (x ∷ xs) give = (ap (λ found. Bound (part_in found)) give.0, values_refer (place + 1) fs xs give.1)
 
-  module _ (which : Trait) (d : DeriveInput) (v : Variant) (value : Value) (pattern : Pattern) (found : variant_of d value ≡ Some v) (give : FieldsGive look 0 (fields_in v) value.fields)
-      (is : IsPattern which d prefix v pattern) where
+  module _ (settings : Field → FieldSettings) (d : DeriveInput) (v : Variant) (value : Value) (pattern : Pattern) (found : variant_of d value ≡ Some v) (give : FieldsGive look 0 (fields_in v) value.fields)
+      (is : IsPatternBy prefix v (map settings (fields_in v)) pattern) where
+    -- the fields that take part by these settings
+    abbrev kept_in : List Kept
+    kept_in = kept_by 0 (fields_in v) (map settings (fields_in v))
+
     -- a pattern on `self` binds the places of the fields that take part
-    pub places_bound : bindings_of d pattern value (own_fields 0 value.fields) ≡ Some (map (own_binding prefix by_place) (kept_from which d 0 (fields_in v)))
-    places_bound = pattern_binds prefix by_place which d v value pattern (own_fields 0 value.fields) found (places_refer 0 (fields_in v) value.fields give) is
+    pub places_bound : bindings_of d pattern value (own_fields 0 value.fields) ≡ Some (map (own_binding prefix by_place) kept_in)
+    places_bound = pattern_binds prefix by_place settings d v value pattern (own_fields 0 value.fields) found (places_refer 0 (fields_in v) value.fields give) is
 
     -- one on the parameter binds their values
-    pub values_bound : bindings_of d pattern value (map Bound value.fields) ≡ Some (map (own_binding prefix (by_value look)) (kept_from which d 0 (fields_in v)))
-    values_bound = pattern_binds prefix (by_value look) which d v value pattern (map Bound value.fields) found (values_refer 0 (fields_in v) value.fields give) is
+    pub values_bound : bindings_of d pattern value (map Bound value.fields) ≡ Some (map (own_binding prefix (by_value look)) kept_in)
+    values_bound = pattern_binds prefix (by_value look) settings d v value pattern (map Bound value.fields) found (values_refer 0 (fields_in v) value.fields give) is
 
 -- where `self` is a value, the place of a field gives the field's value
 pub place_gives : (scene : Scene) (env : Env) (a : Value) (look : Look) (k : Kept) → env.own ≡ Some (OwnValue a) → IsPlaced look a.fields k
@@ -163,8 +166,8 @@ pub record IsOf (d : DeriveInput) (variants : List Variant) (value : Value) : Ty
   pub give : FieldsGive (look_in variant value) 0 (fields_in variant) value.fields
 
 -- a value that has the shape of an enum is of one of its variants
-pub is_of : (which : Trait) (d : DeriveInput) (variants : List Variant) → AreFit which d variants → (value : Value) → HasShape d value → IsOf d variants value
-is_of which d variants fit value shape =
+pub is_of : (d : DeriveInput) (variants : List Variant) → IsEnumOf d variants → (value : Value) → HasShape d value → IsOf d variants value
+is_of d variants fit value shape =
     let there = map_at fields_in variants value.variant shape.fields (ap (λ (s : Shape). slice_get (shape_cases s) value.variant) (sym fit.is) ∙ shape.exists) in
     let v = there.0 in
     let fs = fields_in v in
@@ -374,8 +377,8 @@ pub match_same : (which : Comparison) (d : DeriveInput) (table : Answers) (a b :
 match_same which d table a b names variants are fit outer around block m shape_a shape_b same known =
     let sc = scene_of d a b table in
     let outside : Env = env_of a outer in
-    let of_a = is_of (trait_of which) d variants fit a shape_a in
-    let of_b = is_of (trait_of which) d variants fit b shape_b in
+    let of_a = is_of d variants fit.enum a shape_a in
+    let of_b = is_of d variants fit.enum b shape_b in
     let v = of_a.variant in
     let fs = fields_in v in
     let kept = kept_fields (trait_of which) d fs in
@@ -387,19 +390,19 @@ match_same which d table a b names variants are fit outer around block m shape_a
     let differ = fields_different (trait_of which) d fs of_a.names of_a.few in
     let Own : ℕ → Variant → Arm → Type 0 = λ _. IsArm which d names in
     let picked = arm_at Own (λ _ v arm is. is.own_is.variant_is) sc outside a (own_fields 0 a.fields) v of_a.found 0 variants m.arms a.variant
-    (arms_placed (IsArm which d names) 0 variants m.arms m.arms_are) fit.names of_a.at in
+    (arms_placed (IsArm which d names) 0 variants m.arms m.arms_are) fit.enum.names of_a.at in
     let is = picked.is in
     let paired : compared which d a b ≡ map (seen look_a look_b) kept =
     ap (λ (own : List Field). paired_from (trait_of which) d 0 own a.fields b.fields) of_a.case_is ∙ paired-seen look_a look_b (trait_of which) d 0 fs a.fields b.fields of_a.give give_b in
     let Known : Compared → Type 0 = λ c. IsSome (says which table c) in
     let each = each_map Known (seen look_a look_b) kept (subst (AllByRecursion Known) paired known) in
     let named = In-all (λ (v : Variant). AllByRecursion (λ k. HasOwnPath d.tokens k.how) (kept_fields (trait_of which) d (fields_in v))) variants v fit.methods of_a.inside in
-    let placed = each_placed look_a (trait_of which) d fs a.fields of_a.give in
+    let placed = each_placed look_a (settings_of (trait_of which) d) fs a.fields of_a.give in
     let arm_value = arm_same which d table a b names are outer around kept differ look_a look_b placed v picked.arm is
-    (places_bound names.own look_a (trait_of which) d v a picked.arm.pattern of_a.found of_a.give is.own_is)
+    (places_bound names.own look_a (settings_of (trait_of which) d) d v a picked.arm.pattern of_a.found of_a.give is.own_is)
     (each_in_order (trait_of which) (λ k. In k kept) kept is.ordered is.ordered_is (each_in kept)) (each_in_order (trait_of which) (λ k. HasOwnPath d.tokens k.how) kept is.ordered is.ordered_is named)
     (each_mapped Known (seen look_a look_b) is.ordered (each_in_order (trait_of which) (λ k. Known (seen look_a look_b k)) kept is.ordered is.ordered_is each))
-    (fits_own d b v found_b is.inner is.inner_is.variant_is) (values_bound names.others look_b (trait_of which) d v b is.inner found_b give_b is.inner_is) in
+    (fits_own d b v found_b is.inner is.inner_is.variant_is) (values_bound names.others look_b (settings_of (trait_of which) d) d v b is.inner found_b give_b is.inner_is) in
     ap outcome_of (matched which d table a b names are outer around variants block m
     ∙ ap (then_neutral which d table a b names are outer around variants block m) (picked.value_is ∙ arm_value))
     ∙ steps_ended sc outside d.tokens (around_apart d names are outer around.known) which (first_where (differs which table) (map (seen look_a look_b) is.ordered))
@@ -412,20 +415,20 @@ pub match_differs : (d : DeriveInput) (table : Answers) (a b : Value) (names : N
 match_differs d table a b names variants are fit outer around block m shape_a shape_b other =
     let sc = scene_of d a b table in
     let outside : Env = env_of a outer in
-    let of_a = is_of trait.PartialEq d variants fit a shape_a in
-    let of_b = is_of trait.PartialEq d variants fit b shape_b in
+    let of_a = is_of d variants fit.enum a shape_a in
+    let of_b = is_of d variants fit.enum b shape_b in
     let v = of_a.variant in
     let kept = kept_fields trait.PartialEq d (fields_in v) in
     let look_a = look_in v a in
     let differ = fields_different trait.PartialEq d (fields_in v) of_a.names of_a.few in
     let Own : ℕ → Variant → Arm → Type 0 = λ _. IsArm PartialEq d names in
     let picked = arm_at Own (λ _ v arm is. is.own_is.variant_is) sc outside a (own_fields 0 a.fields) v of_a.found 0 variants m.arms a.variant
-    (arms_placed (IsArm PartialEq d names) 0 variants m.arms m.arms_are) fit.names of_a.at in
+    (arms_placed (IsArm PartialEq d names) 0 variants m.arms m.arms_are) fit.enum.names of_a.at in
     let is = picked.is in
-    let fails = fits_no_other d b of_b.variant of_b.found v is.inner is.inner_is.variant_is (apart_at variants a.variant b.variant v of_b.variant fit.names of_a.at of_b.at other) in
-    let placed = each_placed look_a trait.PartialEq d (fields_in v) a.fields of_a.give in
+    let fails = fits_no_other d b of_b.variant of_b.found v is.inner is.inner_is.variant_is (apart_at variants a.variant b.variant v of_b.variant fit.enum.names of_a.at of_b.at other) in
+    let placed = each_placed look_a (settings_of trait.PartialEq d) (fields_in v) a.fields of_a.give in
     let arm_value = arm_differs PartialEq d table a b names are outer around kept differ look_a look_a placed v picked.arm is
-    (places_bound names.own look_a trait.PartialEq d v a picked.arm.pattern of_a.found of_a.give is.own_is) fails in
+    (places_bound names.own look_a (settings_of trait.PartialEq d) d v a picked.arm.pattern of_a.found of_a.give is.own_is) fails in
     let own_env : Env = env_of a (with_variables outer names.own by_place kept) in
     let end : Flow → Flow = then_neutral PartialEq d table a b names are outer around variants block m in
     ap outcome_of (matched PartialEq d table a b names are outer around variants block m ∙ ap end (picked.value_is ∙ arm_value)

@@ -26,7 +26,7 @@ use Rattle.educe_body_items.specs.declared.items.Item.{Item}
 use Rattle.educe_body_items.specs.declared.items.Item.TheVariants.{Impl, Marker}
 use Rattle.educe_body_forms.specs.declared.comparison.Comparison.{Comparison}
 use Rattle.educe_body_forms.specs.declared.comparison.Comparison.TheVariants.{PartialEq, PartialOrd, Ord}
-use Rattle.educe_laws.specs.Blocks.{IsBody, function_name, IsFunction, IsImpl, IsImplBlock, IsComparisonBlock, AreNew, IsDefaultImpl, AreNone, has_check, IsEqBlockWith, AreCloneFunctions, IsCloneBlock, IsBlock, Blocks, OneEach, HasTightBounds}
+use Rattle.educe_laws.specs.Blocks.{IsBody, function_name, IsFunction, IsImpl, IsImplBlock, IsComparisonBlock, AreNew, IsDefaultImpl, AreNone, has_check, IsEqBlockWith, AreCloneFunctions, IsCloneBlock, IsDebugBlock, IsBlock, Blocks, OneEach, HasTightBounds}
 use Rattle.educe_laws.specs.Cases.{fields_in, shape_cases, cases_of}
 use Rattle.educe_laws.specs.Comparisons.{trait_of}
 use Rattle.educe_laws.specs.Copying.{copies_whole}
@@ -36,10 +36,13 @@ use Rattle.educe_laws.specs.Headers.{Inherits, IsHeader, AreTight}
 use Rattle.educe_laws.specs.Listed.{listed, listed_in_order}
 use Rattle.educe_laws.specs.Making.{has_new}
 use Rattle.educe_laws.specs.Settings.{bound_for, Kept, How, plainly, by_method, by_order, is_kept, kept_at, kept_from, kept_fields}
+use Rattle.educe_laws.specs.Shown.{all_shown}
+use Rattle.educe_laws.specs.ShownBodies.{IsDebugBody}
 use Rattle.educe_laws.specs.Types.{AreVisited, type_of, touched_by, touched_types, AreOfFields, checked_with, checked_types, AreCloneTypes, AreTypes}
 use Rattle.educe_laws.proofs.Choosing.{written_hold}
 use Rattle.educe_laws.proofs.Elements.{each_mapped, each_apart, each_joined}
 use Rattle.educe_laws.proofs.Meanings.{each_in_order}
+use Rattle.educe_laws.proofs.ShownFields.{all_shown_hold}
 
 -- ---- lists that are extended
 
@@ -151,7 +154,8 @@ module _ (d : DeriveInput) (types : AllByRecursion IsFieldRead (all_fields d)) w
   trait_read trait.PartialOrd read touched are = fields_read trait.PartialOrd read touched are
   trait_read trait.Ord read touched are = fields_read trait.Ord read touched are
   trait_read trait.Hash read touched are = fields_read trait.Hash read touched are
-  trait_read trait.Debug read touched are = absurd are
+  trait_read trait.Debug read touched are =
+      subst (AllByRecursion IsReading) (sym are.touched_are) (touched_hold IsReading (all_shown d) (all_shown_hold IsFieldRead d types))
   trait_read trait.Default read touched are = subst (AllByRecursion IsReading) (sym are.touched_are) defaults_read
 
 -- ---- one impl
@@ -225,6 +229,12 @@ module _ (suffice : AlwaysSuffice) (minimal : AreAlwaysMinimal) (d : DeriveInput
       let own = item_tight trait.Clone (AreCloneFunctions (copies_whole d) d k.names) k.item k.impl_is in
       subst (AllByRecursion (HasTightBounds d)) (sym k.are) (own, markers_tight k.markers)
 
+  -- those of the block of `Debug`
+  debug_tight : (items : List Item) → IsDebugBlock d items → AllByRecursion (HasTightBounds d) items
+  debug_tight items k =
+      let own = item_tight trait.Debug (IsFunction (codes "fmt") (IsDebugBody d k.names)) k.item k.impl_is in
+      subst (AllByRecursion (HasTightBounds d)) (sym k.are) (own, markers_tight k.markers)
+
   -- those of the block of any trait
   block_tight : (which : Trait) (items : List Item) → IsBlock which d items → AllByRecursion (HasTightBounds d) items
   block_tight trait.Clone items k = clone_tight items k
@@ -234,7 +244,7 @@ module _ (suffice : AlwaysSuffice) (minimal : AreAlwaysMinimal) (d : DeriveInput
   block_tight trait.PartialOrd items k = comparison_tight PartialOrd items k
   block_tight trait.Ord items k = comparison_tight Ord items k
   block_tight trait.Hash items k = impl_tight trait.Hash (IsFunction (codes "hash") (IsHashBody d)) items k
-  block_tight trait.Debug items k = absurd k
+  block_tight trait.Debug items k = debug_tight items k
   block_tight trait.Default items k = subst (AllByRecursion (HasTightBounds d)) (sym k.are) (default_tight k.item k.impl_is, new_tight (has_new d) k.item k.impl_is k.more k.more_are)
 
   -- and those of the blocks of several, one behind the other

@@ -1,5 +1,5 @@
 -- The functions of the blocks of `Clone` and of `Copy` evaluate to what they mean.
-use Rattle.std.proofs.Common.{◌≡◌, ◌≢◌, ◌≤◌, ◌^◌, ◌↔◌, Bool, true, false, List, [], ◌∷◌, Some, map, length, refl, sym, ap, ◌∙◌, subst}
+use Rattle.std.proofs.Common.{◌≡◌, ◌≢◌, ◌≤◌, ◌^◌, ◌↔◌, Bool, true, false, List, [], ◌∷◌, Some, length, refl, sym, ap, ◌∙◌, subst}
 use Rattle.std.specs.Prelude.{IsTrue, if◌then◌else◌, codes}
 use Rattle.std.specs.List.{AllByRecursion, flat_map}
 use Rattle.std.proofs.lemmas.Bool.{false≢true}
@@ -19,8 +19,6 @@ use Rattle.educe_body_values.specs.Meaning.{first_bindings, start, form_value, l
 use Rattle.educe_body_forms.specs.declared.body.Body.{Body}
 use Rattle.educe_body_items.specs.declared.items.Function.{Function}
 use Rattle.educe_body_items.specs.declared.items.Item.{Item}
-use Rattle.educe_body_items.specs.declared.items.Item.TheVariants.{Marker}
-use Rattle.educe_body_items.specs.declared.items.MarkerItem.{MarkerItem}
 use Rattle.educe_body_values.specs.declared.evaluator.Outcome.TheVariants.{Made}
 use Rattle.educe_body_values.specs.declared.flow.Thing.TheVariants.{Nothing}
 use Rattle.educe_body_forms.specs.declared.form.Form.{Form, MatchValue}
@@ -44,7 +42,7 @@ use Rattle.educe_laws.proofs.CloneEnums.{AreAllKept, enum_clones}
 use Rattle.educe_laws.proofs.CloneNames.{marker_scope, clone_arm_scope}
 use Rattle.educe_laws.proofs.CloneStructs.{struct_clones, struct_clones_from}
 use Rattle.educe_laws.proofs.Elements.{each_joined, each_apart}
-use Rattle.educe_laws.proofs.Fitting.{struct_fits, are_fit, function_means, none_evaluate}
+use Rattle.educe_laws.proofs.Fitting.{enum_of, struct_fits, are_fit, function_means, none_evaluate, markers_evaluate}
 use Rattle.educe_laws.proofs.FromEnums.{enum_clones_from}
 use Rattle.educe_laws.proofs.Making.{one_form}
 use Rattle.educe_laws.proofs.Structs.{names_for, env_of}
@@ -101,7 +99,7 @@ module _ (d : DeriveInput) (is : IsDefinition d.tokens d) (small : length d.toke
             let fits = struct_fits trait.Clone d is small uncaused shape same in
             one_form (scene_with d a other table) body block.form found k.params_are block.block_is
             (struct_clones d shape body.block same fits.differ fits.methods (struct_every shape.fields (ap shape_fields same)) block table a other found has meant)
-        by_shape (Enum []) same block = absurd (is_of trait.Clone d [] (are_fit trait.Clone d is small uncaused [] same) a has).inside
+        by_shape (Enum []) same block = absurd (is_of d [] (enum_of d is small [] same) a has).inside
         by_shape (Enum (v ∷ vs)) same block =
             one_form (scene_with d a other table) body (MatchValue block.value block.arms) found k.params_are block.block_is
             (enum_clones d (v ∷ vs) (are_fit trait.Clone d is small uncaused (v ∷ vs) same) (enum_every (v ∷ vs) same) names are table a other has body.block block found meant)
@@ -119,7 +117,7 @@ module _ (d : DeriveInput) (is : IsDefinition d.tokens d) (small : length d.toke
             let steps = subst (λ (copied : Bool). AreAssignments copied names.source (kept_fields trait.Clone d shape.fields) body.block)
             (same_test block.copied copied block.copied_are.is copied_are.is) block.steps_are in
             struct_clones_from d names are table a b copied shape body.block same fits.differ fits.methods (struct_every shape.fields (ap shape_fields same)) steps found has_a has_b means
-        by_shape (Enum []) same block = absurd (is_of trait.Clone d [] (are_fit trait.Clone d is small uncaused [] same) a has_a).inside
+        by_shape (Enum []) same block = absurd (is_of d [] (enum_of d is small [] same) a has_a).inside
         by_shape (Enum (v ∷ vs)) same block =
             let plain = enum_not_copied d copied (ap is_struct same) copied_are in
             enum_clones_from d (v ∷ vs) (are_fit trait.Clone d is small uncaused (v ∷ vs) same) (enum_every (v ∷ vs) same) names are table a b has_a has_b body.block block found
@@ -138,17 +136,12 @@ module _ (d : DeriveInput) (is : IsDefinition d.tokens d) (small : length d.toke
         (function_means (Evaluates trait.Clone d) (codes "clone_from") (IsFromBody d names)
         (λ f named right. ((λ other. absurd (names_apart (sym other ∙ named))), (λ _. body_clones_from f.body right))) k.second k.clone_from_is))
 
-  -- those of markers are never called
-  markers_evaluate : (markers : List MarkerItem) → AllByRecursion (EachEvaluates d) (map Marker markers)
-  markers_evaluate [] = tt
-  markers_evaluate (m ∷ markers) = (tt, markers_evaluate markers)
-
   -- those of the block
   block_evaluates : (items : List Item) → IsCloneBlock d items → AllByRecursion (EachEvaluates d) items
   block_evaluates items k =
       let EachOf : Trait → Type 0 = λ which. AllByRecursion (Evaluates which d) k.item.functions in
       let own = functions_evaluate k.names k.names_are (copies_whole d) refl k.item.functions k.impl_is.functions_are in
-      subst (AllByRecursion (EachEvaluates d)) (sym k.are) (subst EachOf (sym k.impl_is.which_is) own, markers_evaluate k.markers)
+      subst (AllByRecursion (EachEvaluates d)) (sym k.are) (subst EachOf (sym k.impl_is.which_is) own, markers_evaluate d k.markers)
 
 -- the block of `Copy` has none
 copy_evaluates : (d : DeriveInput) (items : List Item) → IsCopyBlock d items → AllByRecursion (EachEvaluates d) items

@@ -32,7 +32,7 @@ use Rattle.educe_laws.specs.Cloning.{fields_cloned, fields_cloned_from, clone_fr
 use Rattle.educe_laws.specs.Comparing.{HasShape, paired_from, paired}
 use Rattle.educe_laws.specs.Hashing.{valued_from, valued}
 use Rattle.educe_laws.specs.Making.{value_of, placed_value}
-use Rattle.educe_laws.specs.Settings.{Kept, kept_fields}
+use Rattle.educe_laws.specs.Settings.{Kept, settings_of, kept_fields}
 use Rattle.educe_laws.specs.Steps.{of_base}
 use Rattle.educe_laws.proofs.AllKept.{AreKept, InPlace, IsNamed, kept_in_place, kept_values, kept_named}
 use Rattle.educe_laws.proofs.CloneNames.{source_found, outer_hides_none}
@@ -63,7 +63,7 @@ struct_clones d shape block is differ own all k table a other found has means =
     let apart : AllByRecursion (IsApart d.tokens) (first_bindings []) = (own_self refl, tt) in
     let reads : (f : Kept) → IsGiven look f → ReadsField sc env d.tokens apart reading look f =
     λ f there x r field. reads_of (for_field sc field) env k.copied (codes "self") This refl f x r ∙ ap (part_flow env) there in
-    let each = each_weaker (IsGiven look) (ReadsField sc env d.tokens apart reading look) reads kept (each_given look trait.Clone d 0 fs a.fields of_a.give) in
+    let each = each_weaker (IsGiven look) (ReadsField sc env d.tokens apart reading look) reads kept (each_given look (settings_of trait.Clone d) 0 fs a.fields of_a.give) in
     let name = k.form_is.variant in
     let case = ap (λ (s : Shape). case_of_shape s name) is ∙ ap (case_of_shape (Struct shape)) (no_name name k.form_is.variant_is) in
     cloned_gives sc env d.tokens apart reading look None shape k.form 0 found k.form_is all case own each made
@@ -128,7 +128,7 @@ module _ (d : DeriveInput) (names : CloneNames) (are : AreCloneNames d names) (t
       let keys : keys_from 0 fs ≡ keys_of d = ap (λ (s : Shape). keys_from 0 (shape_fields s)) (sym is) in
       let named : AllByRecursion (IsNamed (keys_of d)) kept =
       subst (λ keys. AllByRecursion (IsNamed keys) kept) keys (kept_named trait.Clone d fs all (subst AreDifferent (sym keys) differ)) in
-      let given_b = each_given at_b trait.Clone d 0 fs b.fields of_b.give in
+      let given_b = each_given at_b (settings_of trait.Clone d) 0 fs b.fields of_b.give in
       let known = each_weaker (λ k. In k kept) (λ k. IsGiven at_b k × IsNamed (keys_of d) k)
       (λ k found. (In-all (IsGiven at_b) kept k given_b found, In-all (IsNamed (keys_of d)) kept k named found)) kept (each_in kept) in
       ap (λ (fields : List FieldValue). outcome_of (list_value scene (env_of (record a { fields = fields }) outer) Nothing block)) (sym (kept_values trait.Clone d at_a fs a.fields all of_a.give))

@@ -31,7 +31,7 @@ module _ (d : DeriveInput) where
   Refuses e = OfHandler (handling d) Default e
 
   -- a cause of the attributes of the type is one of the handler
-  pub type_refused : (e : EduceError) → OfPlace Default (type_row Default) (listed d) d.attrs e → Refuses e
+  pub type_refused : (e : EduceError) → OfPlace Default (type_row Default d) (listed d) d.attrs e → Refuses e
   type_refused e (inl in_lists) = inl (record { attributes = d.attrs; stand = type_stands d; cause = in_lists })
   type_refused e (inr said) = inr (IsDefaultCause.by_type said.1)
 
@@ -59,8 +59,8 @@ module _ (d : DeriveInput) where
 module _ (d : DeriveInput) (uncaused : NoCause (OfHandler (handling d) Default)) where
   own_settings : AreTypeSettings d (type_values d)
   own_settings =
-      let read : NoCause (OfPlace Default (type_row Default) (listed d) d.attrs) = record { none_stands = λ e cause. uncaused.none_stands e (type_refused d e cause) } in
-      record { read = read; said = lawful_settings.place_said Default (type_row Default) (listed d) d.attrs read }
+      let read : NoCause (OfPlace Default (type_row Default d) (listed d) d.attrs) = record { none_stands = λ e cause. uncaused.none_stands e (type_refused d e cause) } in
+      record { read = read; said = lawful_settings.place_said Default (type_row Default d) (listed d) d.attrs read }
 
   mark_settings : (variant : Variant) → IsAmong variant (variants_of d) → AreMarkSettings d (type_values d) variant (mark_values d variant)
   mark_settings variant among =

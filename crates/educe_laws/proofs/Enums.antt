@@ -1,10 +1,9 @@
 -- What the bodies of the comparisons of enums evaluate to.
-use Rattle.std.proofs.Common.{◌≡◌, ℕ, zero, suc, ℤ, Bool, true, false, ◌&&◌, ◌==◌, not, IsTrue, List, [], ◌∷◌, map, length, Option, Some, None, slice_get, int_cmp, int_eq, Ordering, Less, Equal, Greater, refl, sym, ap, ◌∙◌}
+use Rattle.std.proofs.Common.{◌≡◌, ℕ, zero, suc, ℤ, Bool, true, false, ◌&&◌, ◌==◌, IsTrue, List, [], ◌∷◌, map, Option, Some, None, slice_get, int_cmp, int_eq, Ordering, Less, Equal, Greater, refl, sym, ap, ◌∙◌}
 use Rattle.std.specs.Cmp.{Equal-is}
 use Rattle.std.specs.List.{AllByRecursion, IsDistinct}
-use Rattle.std.proofs.lemmas.Bool.{true≢false, false≢true, eqb-true, eq-eqb, and_parts}
+use Rattle.std.proofs.lemmas.Bool.{true≢false, false≢true, eqb-true, eq-eqb}
 use Rattle.std.proofs.lemmas.Bool.Decides.{Decides-int_eq}
-use Rattle.std.proofs.lemmas.List.{nil_from_length}
 use Rattle.std.proofs.lemmas.List.Elements.{recursion_from_All}
 use Rattle.std.proofs.lemmas.List.Sums.{AllPass-from_list_all}
 use Rattle.std.proofs.lemmas.Map.Lookups.{exact_signed}
@@ -26,17 +25,17 @@ use Rattle.educe_body_values.specs.declared.flow.Thing.TheVariants.{Nothing, Ord
 use Rattle.educe_body_forms.specs.declared.form.Form.{Form}
 use Rattle.educe_body_forms.specs.declared.form.Known.{Known}
 use Rattle.educe_body_values.specs.declared.value.Value.{Value}
-use Rattle.educe_laws.specs.Arms.{Names, AreNames, IsMatch, IsKeyComparison, in_answer, is_partial, IsDecision, has_brackets, is_unit, are_units, IsKeyed, IsEnumBlock}
+use Rattle.educe_laws.specs.Arms.{Names, AreNames, IsMatch, IsKeyComparison, in_answer, is_partial, IsDecision, is_unit, are_units, IsKeyed, IsEnumBlock}
 use Rattle.educe_laws.specs.Blocks.{IsEnumBody, Compares, scene_of}
 use Rattle.educe_laws.specs.BodyLaws.{lawful_forms}
-use Rattle.educe_laws.specs.Cases.{fields_in, case_of}
+use Rattle.educe_laws.specs.Cases.{case_of}
 use Rattle.educe_laws.specs.Comparing.{paired_from, compared, Covers, equal, neutral, order, number_order, as_answer, discriminants_first, outcome, meaning}
 use Rattle.educe_laws.specs.Comparisons.{trait_of}
 use Rattle.educe_laws.specs.Rows.{is_order}
 use Rattle.educe_laws.specs.Discriminants.{discriminant, flat, counted, discriminant_of}
 use Rattle.educe_laws.proofs.Arms.{IsOf, is_of, go_on-end, match_same, match_differs}
 use Rattle.educe_laws.proofs.Elements.{In-found, In-all}
-use Rattle.educe_laws.proofs.Facts.{AreFit, IsOuter}
+use Rattle.educe_laws.proofs.Facts.{AreFit, unit_has_none, IsOuter}
 use Rattle.educe_laws.proofs.KeyFunctions.{keyed, outer_values, outer_keyed, number_at, keys_value, keys_compared}
 use Rattle.educe_laws.proofs.Meanings.{same_case}
 use Rattle.educe_laws.proofs.Structs.{names_for, env_of}
@@ -97,8 +96,7 @@ unit_fields : (d : DeriveInput) (variants : List Variant) (value : Value) → Is
 unit_fields d variants value of units =
     let v = of.variant in
     let unit = In-all (λ v. is_unit v ≡ true) variants v (recursion_from_All (λ v. is_unit v ≡ true) variants (AllPass-from_list_all is_unit variants units)) of.inside in
-    let none = and_parts (not (has_brackets v.fields.form)) (length (fields_in v) == 0) unit in
-    of.case_is ∙ nil_from_length (fields_in v) (eqb-true (length (fields_in v)) 0 none.1)
+    of.case_is ∙ unit_has_none v unit
 
 -- ---- the blocks of enums
 
@@ -113,10 +111,10 @@ module _ (which : Comparison) (d : DeriveInput) (variants : List Variant) (fit :
 
   -- each value is of a variant
   abbrev of_a : IsOf d variants a
-  of_a = is_of (trait_of which) d variants fit a covers.first
+  of_a = is_of d variants fit.enum a covers.first
 
   abbrev of_b : IsOf d variants b
-  of_b = is_of (trait_of which) d variants fit b covers.second
+  of_b = is_of d variants fit.enum b covers.second
 
   -- in any scope a match on two values of one variant evaluates to what the comparison means
   matched : (outer : List Binding) → IsOuter names outer → (block : List Form) → IsMatch which d names variants block → a.variant ≡ b.variant
@@ -199,7 +197,7 @@ enum_evaluates which d variants body fit k table a b covers =
   where
     by_trait : (which : Comparison) (variants : List Variant) (fit : AreFit (trait_of which) d variants) → IsEnumBlock which d k.names variants body.block → (covers : Covers which table d a b)
         → Means which d variants fit k.names k.names_are table a b covers body.block
-    by_trait which [] fit is covers = absurd (is_of (trait_of which) d [] fit a covers.first).inside
+    by_trait which [] fit is covers = absurd (is_of d [] fit.enum a covers.first).inside
     by_trait PartialEq (v ∷ vs) fit is covers = equal_value d (v ∷ vs) fit k.names k.names_are table a b covers body.block is
     by_trait PartialOrd (v ∷ vs) fit is covers = order_value PartialOrd d (v ∷ vs) fit k.names k.names_are table a b covers refl body.block is
     by_trait Ord (v ∷ vs) fit is covers = order_value Ord d (v ∷ vs) fit k.names k.names_are table a b covers refl body.block is

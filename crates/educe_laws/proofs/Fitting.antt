@@ -17,7 +17,8 @@ use Rattle.educe_body_forms.specs.declared.body.Body.{Body}
 use Rattle.educe_body_items.specs.declared.items.Function.{Function}
 use Rattle.educe_body_items.specs.declared.items.ImplItem.{ImplItem}
 use Rattle.educe_body_items.specs.declared.items.Item.{Item}
-use Rattle.educe_body_items.specs.declared.items.Item.TheVariants.{Impl}
+use Rattle.educe_body_items.specs.declared.items.Item.TheVariants.{Impl, Marker}
+use Rattle.educe_body_items.specs.declared.items.MarkerItem.{MarkerItem}
 use Rattle.educe_body_forms.specs.Keys.{AreDifferent, fields_of, keys_of}
 use Rattle.educe_body_forms.specs.Keys as keys
 use Rattle.educe_laws.specs.Blocks.{IsFunction, IsImpl, IsImplBlock, AreNone, Evaluates, EachEvaluates}
@@ -26,7 +27,7 @@ use Rattle.educe_laws.specs.Cases.{fields_in, shape_cases}
 use Rattle.educe_laws.specs.Listed.{listed}
 use Rattle.educe_laws.specs.Rows.{field_row}
 use Rattle.educe_laws.proofs.Elements.{each_map}
-use Rattle.educe_laws.proofs.Facts.{AreFit}
+use Rattle.educe_laws.proofs.Facts.{IsEnumOf, AreFit}
 use Rattle.educe_laws.proofs.OwnTexts.{HasOwnNumber, own_methods, own_numbers}
 use Rattle.educe_laws.proofs.Structs.{HaveOwnMethods}
 
@@ -44,32 +45,45 @@ pub record IsStructFit (which : Trait) (d : DeriveInput) (shape : FieldShape) : 
   pub differ : AreDifferent (keys_of d)
   pub methods : HaveOwnMethods which d shape.fields
 
-module _ (which : Trait) (d : DeriveInput) (is : IsDefinition d.tokens d) (small : length d.tokens ≤ 2 ^ 64) (uncaused : HaveNoCauses which (field_row which) (listed d) (all_fields d)) where
+module _ (d : DeriveInput) (is : IsDefinition d.tokens d) (small : length d.tokens ≤ 2 ^ 64) where
   fields_few : length (all_fields d) ≤ 2 ^ 64
   fields_few = let own = (few d.tokens d is.whole).fields in omega arith
 
-  -- what a struct rests on holds
-  pub struct_fits : (shape : FieldShape) → d.shape ≡ Struct shape → IsStructFit which d shape
-  struct_fits shape same =
+  -- the keys of the fields of a struct differ
+  pub keys_differ : (shape : FieldShape) → d.shape ≡ Struct shape → AreDifferent (keys_of d)
+  keys_differ shape same =
       let own : fields_of d ≡ shape.fields = ap keys.shape_fields same in
       let all : all_fields d ≡ shape.fields = ap shape_fields same in
-      let methods : AllByRecursion (HaveOwnMethods which d) (shape.fields ∷ []) =
-      subst (λ (s : Shape). AllByRecursion (HaveOwnMethods which d) (shape_cases s)) same (own_methods which d is.whole uncaused) in
       let few_own : length (fields_of d) ≤ 2 ^ 64 = subst (λ (fs : List Field). length fs ≤ 2 ^ 64) (all ∙ sym own) fields_few in
-      record { differ = lawful_keys.differ d is.apart few_own; methods = methods.0 }
+      lawful_keys.differ d is.apart few_own
 
-  -- what an enum rests on holds
-  pub are_fit : (variants : List Variant) → d.shape ≡ Enum variants → AreFit which d variants
-  are_fit variants shape =
+  -- the names of an enum are apart
+  pub enum_of : (variants : List Variant) → d.shape ≡ Enum variants → IsEnumOf d variants
+  enum_of variants shape =
       let scopes : AllApart (shape_scopes (Enum variants)) = subst (λ s. AllApart (shape_scopes s)) shape is.apart.1.1 in
       let fields : all_fields d ≡ flat_map fields_in variants = ap shape_fields shape in
-      let methods : AllByRecursion (HaveOwnMethods which d) (map fields_in variants) =
-      subst (λ (s : Shape). AllByRecursion (HaveOwnMethods which d) (shape_cases s)) shape (own_methods which d is.whole uncaused) in
       record {
         is = shape;
         names = scopes.0;
         fields = each_map AreApart (λ (v : Variant). field_names (fields_in v)) variants scopes.1;
         few = each_few (2 ^ 64) variants (subst (λ (fs : List Field). length fs ≤ 2 ^ 64) fields fields_few);
+      }
+
+module _ (which : Trait) (d : DeriveInput) (is : IsDefinition d.tokens d) (small : length d.tokens ≤ 2 ^ 64) (uncaused : HaveNoCauses which (field_row which) (listed d) (all_fields d)) where
+  -- what a struct rests on holds
+  pub struct_fits : (shape : FieldShape) → d.shape ≡ Struct shape → IsStructFit which d shape
+  struct_fits shape same =
+      let methods : AllByRecursion (HaveOwnMethods which d) (shape.fields ∷ []) =
+      subst (λ (s : Shape). AllByRecursion (HaveOwnMethods which d) (shape_cases s)) same (own_methods which d is.whole uncaused) in
+      record { differ = keys_differ d is small shape same; methods = methods.0 }
+
+  -- what an enum rests on holds
+  pub are_fit : (variants : List Variant) → d.shape ≡ Enum variants → AreFit which d variants
+  are_fit variants shape =
+      let methods : AllByRecursion (HaveOwnMethods which d) (map fields_in variants) =
+      subst (λ (s : Shape). AllByRecursion (HaveOwnMethods which d) (shape_cases s)) shape (own_methods which d is.whole uncaused) in
+      record {
+        enum = enum_of d is small variants shape;
         methods = each_map (HaveOwnMethods which d) fields_in variants methods;
         numbers = subst (λ (vs : List Variant). AllByRecursion (λ (v : Variant). HasOwnNumber d.tokens v.discriminant) vs) (ap shape_variants shape) (own_numbers d is.whole);
       }
@@ -96,3 +110,8 @@ none_evaluate which d item is = subst (AllByRecursion (Evaluates item.which d)) 
 pub impl_evaluates : (which : Trait) (d : DeriveInput) (name : List ℕ) (IsRight : Body → Type 0) → ((f : Function) → f.name.text ≡ name → IsRight f.body → Evaluates which d f) → (items : List Item)
     → IsImplBlock which d (IsFunction name IsRight) items → AllByRecursion (EachEvaluates d) items
 impl_evaluates which d name IsRight each items k = subst (AllByRecursion (EachEvaluates d)) (sym k.are) (item_evaluates which d name IsRight each k.item k.impl_is, tt)
+
+-- the functions of markers are never called
+pub markers_evaluate : (d : DeriveInput) (markers : List MarkerItem) → AllByRecursion (EachEvaluates d) (map Marker markers)
+markers_evaluate d [] = tt
+markers_evaluate d (m ∷ markers) = (tt, markers_evaluate d markers)

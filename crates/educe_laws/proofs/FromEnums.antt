@@ -30,14 +30,15 @@ use Rattle.educe_body_forms.specs.declared.form.Arm.{Arm}
 use Rattle.educe_body_forms.specs.declared.form.Form.{Form, Local, MatchValue, IfLet}
 use Rattle.educe_body_values.specs.declared.value.FieldValue.{FieldValue}
 use Rattle.educe_body_values.specs.declared.value.Value.{Value}
+use Rattle.educe_laws.specs.Arms.{IsMatchOnSelf}
 use Rattle.educe_laws.specs.Blocks.{scene_of}
 use Rattle.educe_laws.specs.BodyLaws.{lawful_forms}
 use Rattle.educe_laws.specs.Cases.{fields_in}
-use Rattle.educe_laws.specs.CloneBodies.{CloneNames, AreCloneNames, IsMatchOnSelf, hands_over, IsThrough, IsWhole, IsFromArm}
+use Rattle.educe_laws.specs.CloneBodies.{CloneNames, AreCloneNames, hands_over, IsThrough, IsWhole, IsFromArm}
 use Rattle.educe_laws.specs.Cloning.{fields_cloned_from, clone_from_of}
 use Rattle.educe_laws.specs.Comparing.{HasShape, paired_from, paired}
 use Rattle.educe_laws.specs.Making.{value_made}
-use Rattle.educe_laws.specs.Settings.{Kept, plainly, kept_fields}
+use Rattle.educe_laws.specs.Settings.{Kept, plainly, settings_of, kept_fields}
 use Rattle.educe_laws.proofs.AllKept.{AreKept, kept_in_place, kept_values}
 use Rattle.educe_laws.proofs.Arms.{look_in, IsOf, is_of, places_bound, values_bound, apart_at, fits_own, fits_no_other, arms_placed, arm_at, self_matched, go_on-end}
 use Rattle.educe_laws.proofs.CloneEnums.{AreAllKept, outcome_left}
@@ -61,10 +62,10 @@ module _ (d : DeriveInput) (variants : List Variant) (fit : AreFit trait.Clone d
 
   -- the variants of the two values
   abbrev of_a : IsOf d variants a
-  of_a = is_of trait.Clone d variants fit a has_a
+  of_a = is_of d variants fit.enum a has_a
 
   abbrev of_b : IsOf d variants b
-  of_b = is_of trait.Clone d variants fit b has_b
+  of_b = is_of d variants fit.enum b has_b
 
   abbrev v : Variant
   v = of_a.variant
@@ -135,7 +136,7 @@ module _ (d : DeriveInput) (variants : List Variant) (fit : AreFit trait.Clone d
         let others = Some (is.whole ∷ []) in
         let next = if_let_value scene behind is.inner is.steps others in
         ap (λ (o : Option (List Binding)). outcome_of (within env o (λ inner. list_value scene inner Nothing arm.block)))
-        (places_bound names.own at_a trait.Clone d v a arm.pattern of_a.found of_a.give is.own_is)
+        (places_bound names.own at_a (settings_of trait.Clone d) d v a arm.pattern of_a.found of_a.give is.own_is)
         ∙ outcome_left env.names (list_value scene behind Nothing arm.block)
         ∙ ap (λ (forms : List Form). outcome_of (list_value scene behind Nothing forms)) is.block_is
         ∙ ap outcome_of (go_on-end (form_value scene behind (IfLet is.inner is.value is.steps others))
@@ -151,7 +152,7 @@ module _ (d : DeriveInput) (variants : List Variant) (fit : AreFit trait.Clone d
         let own = In-all (λ (v : Variant). HaveOwnMethods trait.Clone d (fields_in v)) variants v fit.methods of_a.inside in
         let assigns = zip_weaker (λ k. In k kept) (IsThrough names) (Assigns scene false inner d.tokens apart a at_a at_b) is_assigning kept is.steps (each_in kept) is.steps_are in
         ap (λ (o : Option (List Binding)). outcome_of (within behind o (λ inner. list_value scene inner Nothing is.steps)))
-        (values_bound names.sources at_b trait.Clone d v b is.inner found_b give_b is.inner_is)
+        (values_bound names.sources at_b (settings_of trait.Clone d) d v b is.inner found_b give_b is.inner_is)
         ∙ outcome_left behind.names (list_value scene (env_of a inner) Nothing is.steps)
         ∙ ap (λ (fields : List FieldValue). outcome_of (list_value scene (env_of (record a { fields = fields }) inner) Nothing is.steps)) (sym (kept_values trait.Clone d at_a (fields_in v) a.fields all of_a.give))
         ∙ ap outcome_of (steps_value scene false inner d.tokens apart a at_a at_b [] kept is.steps values (kept_in_place trait.Clone d (fields_in v) all) assigns own made)
@@ -178,7 +179,7 @@ module _ (d : DeriveInput) (variants : List Variant) (fit : AreFit trait.Clone d
         let differs : a.variant ≡ b.variant → ⊥ = λ same. false≢true (sym test ∙ eq-eqb a.variant b.variant same) in
         let made = whole_made (value_made (answer_of table callee.Clone source None)) found (means_by table false d a b found false test means) in
         ap (λ (t : Bool). outcome_of (inner_or_else t))
-        (fits_no_other d b of_b.variant of_b.found v is.inner is.inner_is.variant_is (apart_at variants a.variant b.variant v of_b.variant fit.names of_a.at of_b.at differs))
+        (fits_no_other d b of_b.variant of_b.found v is.inner is.inner_is.variant_is (apart_at variants a.variant b.variant v of_b.variant fit.enum.names of_a.at of_b.at differs))
         ∙ arm_other made.0 made.1 ∙ made.2
 
   -- so the match leaves `self` as it is meant
@@ -186,7 +187,7 @@ module _ (d : DeriveInput) (variants : List Variant) (fit : AreFit trait.Clone d
       → outcome_of (list_value scene env Nothing block) ≡ found
   enum_clones_from block m found means =
       let picked = arm_at (λ _. IsFromArm d names) (λ place w arm is. is.own_is.variant_is) scene env a (own_fields 0 a.fields) v of_a.found 0 variants m.arms a.variant
-      (arms_placed (IsFromArm d names) 0 variants m.arms m.arms_are) fit.names of_a.at in
+      (arms_placed (IsFromArm d names) 0 variants m.arms m.arms_are) fit.enum.names of_a.at in
       ap (λ (forms : List Form). outcome_of (list_value scene env Nothing forms)) m.block_is
       ∙ ap outcome_of (go_on-end (form_value scene env (MatchValue m.value m.arms)) ∙ self_matched scene env a refl (self_found d names are) m.value m.arms m.value_is.is ∙ picked.value_is)
       ∙ arm_is picked.arm picked.is ∙ arm_means picked.arm picked.is found (a.variant == b.variant) refl means

@@ -26,7 +26,7 @@ use Rattle.educe_laws.specs.Blocks.{scene_with}
 use Rattle.educe_laws.specs.Cases.{fields_in}
 use Rattle.educe_laws.specs.HashBodies.{HashNames, plain_params, chosen_params, AreHashNames, AreHashSteps, IsPlaceStep, IsHashArm, IsHashMatch, IsHashEnumBlock}
 use Rattle.educe_laws.specs.Hashing.{Valued, valued_from, valued, AllFeed, fed_by, variant_parts, hash_of, HashCovers}
-use Rattle.educe_laws.specs.Settings.{Kept, kept_fields}
+use Rattle.educe_laws.specs.Settings.{Kept, settings_of, kept_fields}
 use Rattle.educe_laws.specs.Steps.{bound}
 use Rattle.educe_laws.proofs.Arms.{look_in, IsOf, is_of, places_bound, place_gives, arm_at, self_matched, go_on-end}
 use Rattle.educe_laws.proofs.Elements.{In, In-all, each_in, each_weaker}
@@ -55,7 +55,7 @@ module _ (d : DeriveInput) (variants : List Variant) (fit : AreFit trait.Hash d 
 
   -- the variant of the value
   abbrev of_a : IsOf d variants a
-  of_a = is_of trait.Hash d variants fit a covers.shape
+  of_a = is_of d variants fit.enum a covers.shape
 
   -- its fields that take part, and their values
   abbrev kept : List Kept
@@ -88,7 +88,7 @@ module _ (d : DeriveInput) (variants : List Variant) (fit : AreFit trait.Hash d 
       ap (form_value scene (at inner fed self)) r.is
       ∙ ap (λ (text : List ℕ). local_flow scene (at inner fed self) (look_up inner text)) r.name_is
       ∙ ap (local_flow scene (at inner fed self)) (variable_found (outer names) names.prefix by_place kept differ k found)
-      ∙ place_gives scene (at inner fed self) a look k refl (In-all (IsPlaced look a.fields) kept k (each_placed look trait.Hash d (fields_in of_a.variant) a.fields of_a.give) found)
+      ∙ place_gives scene (at inner fed self) a look k refl (In-all (IsPlaced look a.fields) kept k (each_placed look (settings_of trait.Hash d) (fields_in of_a.variant) a.fields of_a.give) found)
 
   -- the arm of a variant feeds its place, and then what its fields feed
   arm_value : (place : ℕ) (block : List Form) (first : Form) (steps : List Form) → block ≡ first ∷ steps → IsPlaceStep names.state place first
@@ -105,9 +105,9 @@ module _ (d : DeriveInput) (variants : List Variant) (fit : AreFit trait.Hash d 
   match_value block m =
       let env = at (outer names) [] self in
       let v = of_a.variant in
-      let picked = arm_at (IsHashArm d names) (λ place w arm is. is.pattern_is.variant_is) scene env a (own_fields 0 a.fields) v of_a.found 0 variants m.arms a.variant m.arms_are fit.names of_a.at in
+      let picked = arm_at (IsHashArm d names) (λ place w arm is. is.pattern_is.variant_is) scene env a (own_fields 0 a.fields) v of_a.found 0 variants m.arms a.variant m.arms_are fit.enum.names of_a.at in
       let is = picked.is in
-      let binds = places_bound names.prefix look trait.Hash d v a picked.arm.pattern of_a.found of_a.give is.pattern_is in
+      let binds = places_bound names.prefix look (settings_of trait.Hash d) d v a picked.arm.pattern of_a.found of_a.give is.pattern_is in
       ap (λ (forms : List Form). parts_of (list_value scene env Nothing forms)) m.block_is
       ∙ ap parts_of (go_on-end (form_value scene env (MatchValue m.value m.arms)) ∙ self_matched scene env a refl (self_found d names are) m.value m.arms m.value_is.is ∙ picked.value_is)
       ∙ ap (λ (o : Option (List Binding)). parts_of (within env o (λ env. list_value scene env Nothing picked.arm.block))) binds
@@ -118,10 +118,10 @@ module _ (d : DeriveInput) (variants : List Variant) (fit : AreFit trait.Hash d 
   pub enum_feeds : Parts (pos a.variant ∷ parts) ≡ Parts (hash_of table d a)
   enum_feeds =
       ap (λ (vs : List Valued). Parts (pos a.variant ∷ fed_by table vs)) (sym paired)
-      ∙ ap (λ (s : Shape). Parts (variant_parts s a ++ fed_by table (valued trait.Hash d a))) (sym fit.is)
+      ∙ ap (λ (s : Shape). Parts (variant_parts s a ++ fed_by table (valued trait.Hash d a))) (sym fit.enum.is)
 
 -- the block of `hash` of an enum feeds what its value does
 pub enum_hashes : (d : DeriveInput) (variants : List Variant) (names : HashNames) (are : AreHashNames d names) (block : List Form) → AreFit trait.Hash d variants → IsHashEnumBlock d names variants block
     → (table : Answers) (a : Value) (other : Option Value) → HashCovers table d a → parts_of (list_value (scene_with d a other table) (at (outer names) [] (Some (OwnValue a))) Nothing block) ≡ Parts (hash_of table d a)
-enum_hashes d [] names are block fit is table a other covers = absurd (is_of trait.Hash d [] fit a covers.shape).inside
+enum_hashes d [] names are block fit is table a other covers = absurd (is_of d [] fit.enum a covers.shape).inside
 enum_hashes d (v ∷ vs) names are block fit is table a other covers = match_value d (v ∷ vs) fit names are table a other covers block is ∙ enum_feeds d (v ∷ vs) fit names are table a other covers

@@ -73,7 +73,7 @@ module _ (scene : Scene) (env : Env) (input : List Token) (apart : AllByRecursio
 
 -- these names in scope, what was fed, and what `self` is
 abbrev pub at : List Binding → List ℤ → Option Own → Env
-at names parts self = record { names = names; parts = parts; own = self }
+at names parts self = record { names = names; parts = parts; own = self; shown = None; arguments = [] }
 
 module _ (scene : Scene) (names : List Binding) (self : Option Own) (reading : Reading) (look : Look) where
   -- what reads a field so gives the field's value, whatever was fed before

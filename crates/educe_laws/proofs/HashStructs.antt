@@ -30,7 +30,7 @@ use Rattle.educe_laws.specs.Arms.{AreScoped}
 use Rattle.educe_laws.specs.Blocks.{scene_with}
 use Rattle.educe_laws.specs.HashBodies.{HashNames, plain_params, chosen_params, AreHashNames, AreHashParams, IsHashStructBlock}
 use Rattle.educe_laws.specs.Hashing.{Valued, valued_from, valued, AllFeed, fed_by, variant_parts, hash_of, HashCovers}
-use Rattle.educe_laws.specs.Settings.{Kept, kept_fields}
+use Rattle.educe_laws.specs.Settings.{Kept, settings_of, kept_fields}
 use Rattle.educe_laws.specs.Steps.{of_base}
 use Rattle.educe_laws.proofs.Elements.{each_weaker}
 use Rattle.educe_laws.proofs.Facts.{ArePlain}
@@ -110,7 +110,7 @@ struct_hashes d shape names are block is differ named k table a other covers =
     let feed : AllFeed table (map (given look) kept) = subst (AllFeed table) paired covers.each in
     let reads : (f : Kept) → IsGiven look f → ReadsField sc own self reading look f =
     λ f there x r parts. reads_of sc (at own parts self) k.copied (codes "self") This (self_found d names are) f x r ∙ ap (part_flow (at own parts self)) there in
-    let each = each_weaker (IsGiven look) (ReadsField sc own self reading look) reads kept (each_given look trait.Hash d 0 fs a.fields of_a.give) in
+    let each = each_weaker (IsGiven look) (ReadsField sc own self reading look) reads kept (each_given look (settings_of trait.Hash d) 0 fs a.fields of_a.give) in
     ap parts_of (steps_value sc own self reading look d.tokens (names_apart d names are) names.state (state_found d names are) kept block [] k.steps_are named each feed)
     ∙ ap (λ (vs : List Valued). Parts (fed_by table vs)) (sym paired)
     ∙ ap (λ (s : Shape). Parts (variant_parts s a ++ fed_by table (valued trait.Hash d a))) (sym is)

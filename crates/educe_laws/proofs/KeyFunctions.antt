@@ -219,7 +219,7 @@ own_base d table names apart (Some value) own = lawful_scopes.number d.tokens ta
 module _ (which : Trait) (d : DeriveInput) (table : Answers) (variants : List Variant) (fit : AreFit which d variants) (numbers : List ℤ) (have : HaveNumbers table d numbers) where
   -- the variants of what is counted are those of the enum
   counted_variants : map (λ (c : Counted). c.variant) (counted d) ≡ variants
-  counted_variants = variants_counted None 0 (variants_of d) ∙ ap shape_variants fit.is
+  counted_variants = variants_counted None 0 (variants_of d) ∙ ap shape_variants fit.enum.is
 
   module _ (value : Value) (is_of : IsOf d variants value) where
     -- that of the value is at its place
@@ -241,10 +241,10 @@ module _ (which : Trait) (d : DeriveInput) (table : Answers) (variants : List Va
     key_is names ty base arms apart ty_is are =
         let Reads : Variant → Type 0 = λ v. ReadsBase table names v.discriminant in
         let read = each_weaker (λ (v : Variant). HasOwnNumber d.tokens v.discriminant) Reads (λ v. own_base d table names apart v.discriminant) variants fit.numbers in
-        let reads = each_counted (ReadsBase table names) None 0 (variants_of d) tt (subst (AllByRecursion Reads) (sym (ap shape_variants fit.is)) read) in
+        let reads = each_counted (ReadsBase table names) None 0 (variants_of d) tt (subst (AllByRecursion Reads) (sym (ap shape_variants fit.enum.is)) read) in
         arms_pick d table names ty base value is_of.variant is_of.found (counted d) arms value.variant are
         (each_numbered table names ty base (counted d) numbers reads have.are (have.in_range ty ty_is))
-        (subst (λ (vs : List Variant). AreApart (variant_names vs)) (sym counted_variants) fit.names) counted_at
+        (subst (λ (vs : List Variant). AreApart (variant_names vs)) (sym counted_variants) fit.enum.names) counted_at
 
 -- ---- names in scope
 

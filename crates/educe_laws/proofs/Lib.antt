@@ -14,6 +14,8 @@ pub mod Enums
 pub mod Inheriting
 pub mod Standing
 pub mod DefaultCauses
+pub mod ShownFields
+pub mod ShownCauses
 pub mod Refused
 pub mod Choosing
 pub mod Bounding
@@ -28,11 +30,18 @@ pub mod DefaultEvaluating
 pub mod Unignored
 pub mod AllKept
 pub mod CloneNames
+pub mod ShownNames
+pub mod OwnTypes
 pub mod CloneSteps
 pub mod CloneStructs
 pub mod CloneEnums
 pub mod FromEnums
 pub mod CloneEvaluating
+pub mod ShownSteps
+pub mod ShownScope
+pub mod ShownStructs
+pub mod ShownEnums
+pub mod ShownEvaluating
 pub mod Checked
 pub mod Traits
 pub mod Stops

@@ -17,7 +17,6 @@ use Rattle.educe_body_values.specs.declared.answers.Answer.{Answer}
 use Rattle.educe_body_values.specs.declared.answers.Answer.TheVariants.{Truth as AnswerTruth}
 use Rattle.educe_body_values.specs.declared.answers.Answers.{Answers}
 use Rattle.educe_body_values.specs.declared.environment.Env.{Env}
-use Rattle.educe_body_values.specs.declared.environment.Own.{Own}
 use Rattle.educe_body_values.specs.declared.value.Value.{Value}
 use Rattle.educe_body_forms.specs.declared.form.Form as form
 use Rattle.educe_body_values.specs.declared.evaluator.Outcome.{Outcome}
@@ -107,14 +106,14 @@ same_case Ord table d a b same alike = ap (λ (o : Ordering). outcome (discrimin
 -- ---- the end of a function
 
 -- an answer that a body names evaluates to it
-pub outcome_known : (self : Option Own) (k : Known) → outcome_of_thing self (known_thing k) ≡ outcome k
-outcome_known self (Truth b) = refl
-outcome_known self (Order o) = refl
-outcome_known self (PartialOrder p) = refl
+pub outcome_known : (env : Env) (k : Known) → outcome_of_thing env (known_thing k) ≡ outcome k
+outcome_known env (Truth b) = refl
+outcome_known env (Order o) = refl
+outcome_known env (PartialOrder p) = refl
 
 module _ (scene : Scene) (env : Env) (input : List Token) (apart : AllByRecursion (IsApart input) env.names) (which : Comparison) where
   -- behind the steps stands what is answered where no field tells the two apart
   pub steps_ended : (o : Option Compared)
       → outcome_of (go_on (decided scene env input apart which o) (λ env thing. list_value scene env thing (form.Known (neutral which) ∷ []))) ≡ outcome (answered which scene.answers o)
-  steps_ended None = outcome_known env.own (neutral which)
-  steps_ended (Some c) = outcome_known env.own (answered which scene.answers (Some c))
+  steps_ended None = outcome_known env (neutral which)
+  steps_ended (Some c) = outcome_known env (answered which scene.answers (Some c))

@@ -1,5 +1,5 @@
 -- The identifiers in the methods and in the discriminants of a definition are words of its tokens.
-use Rattle.std.proofs.Common.{◌≡◌, ℕ, ◌+◌, Bool, true, false, inl, inr, List, [], ◌∷◌, Option, Some, None, refl, sym, subst}
+use Rattle.std.proofs.Common.{◌≡◌, ℕ, ◌+◌, Bool, true, false, inl, inr, List, [], ◌∷◌, Option, Some, None, map, refl, sym, subst}
 use Rattle.std.specs.Prelude.{if◌then◌else◌, Contains}
 use Rattle.std.specs.List.{AllByRecursion}
 use Rattle.std.proofs.lemmas.Bool.{false≢true}
@@ -21,10 +21,11 @@ use Rattle.educe_syntax.specs.Shape.TheVariants.{Struct, Enum}
 use Rattle.educe_syntax.specs.Variant.{Variant}
 use Rattle.educe_syntax.specs.Within.{FieldWithin, WrittenWithin, VariantWithin, ShapeWithin}
 use Rattle.educe_attrs.specs.Causes.{NoCause}
-use Rattle.educe_attrs.specs.Fields.{HaveNoCauses}
+use Rattle.educe_attrs.specs.Fields.{HaveNoCauses, settings_at}
 use Rattle.educe_attrs.specs.Places.{OfField}
 use Rattle.educe_attrs.specs.Laws.{lawful_settings}
 use Rattle.educe_attrs.specs.Methods.{IsTextOf, standing, quoted}
+use Rattle.educe_attrs.specs.Row.{Row}
 use Rattle.educe_bound_traits.specs.declared.traits.Trait.{Trait}
 use Rattle.educe_body.specs.NameLaws.{lawful_names}
 use Rattle.educe_body_values.specs.Scoping.{is_ident, AreOwnNames}
@@ -32,7 +33,7 @@ use Rattle.educe_body.specs.Words.{IsWordOf, ident, HasWord}
 use Rattle.educe_laws.specs.Cases.{fields_in, shape_cases, cases_of}
 use Rattle.educe_laws.specs.Listed.{listed}
 use Rattle.educe_laws.specs.Rows.{field_row}
-use Rattle.educe_laws.specs.Settings.{Kept, how_with, is_kept, kept_at, kept_from, settings_of}
+use Rattle.educe_laws.specs.Settings.{Kept, keeps, how_with, kept_with, kept_by}
 use Rattle.educe_laws.proofs.Structs.{HaveOwnMethods}
 use Rattle.educe_laws.proofs.Elements.{In, In-from_Contains, Contains-from_In, each_in, each_weaker, each_mapped, each_apart}
 use Rattle.educe_laws.proofs.Stepping.{HasOwnPath}
@@ -65,7 +66,7 @@ word_among (own ∷ all) t word (inl same) is = inl (subst (λ (t : Token). IsWo
 word_among (own ∷ all) t word (inr later) is = inr (word_among all t word later is)
 
 -- the identifiers of tokens among all, or of those of the text of a string among all, are words of all
-text_own : (all found : List Token) → IsTextOf all found → AreOwnNames all found
+pub text_own : (all found : List Token) → IsTextOf all found → AreOwnNames all found
 text_own all found (standing among) =
     each_weaker (λ t. Contains all t) (λ t. is_ident t.kind ≡ true → HasWord all (unraw t.spelling))
     (λ t stands is. word_among all t (unraw t.spelling) (In-from_Contains all t stands) (own_word t.kind t.spelling is)) found among
@@ -83,7 +84,7 @@ own_how tokens true (Some path) own = own path refl
 
 -- ---- the methods of a definition
 
-module _ (which : Trait) (d : DeriveInput) where
+module _ (which : Trait) (row : Row) (d : DeriveInput) where
   abbrev HasOwn : Kept → Type 0
   HasOwn k = HasOwnPath d.tokens k.how
 
@@ -91,17 +92,19 @@ module _ (which : Trait) (d : DeriveInput) where
   own_step k rest true own later = (own, later)
   own_step k rest false own later = later
 
-  own_from : (place : ℕ) (fs : List Field) → AllByRecursion (FieldWithin (λ t. Contains d.tokens t)) fs → HaveNoCauses which (field_row which) (listed d) fs
-      → AllByRecursion HasOwn (kept_from which d place fs)
+  -- the methods of fields that take part by what this form of their attributes says have names of the definition alone
+  pub own_from : (place : ℕ) (fs : List Field) → AllByRecursion (FieldWithin (λ t. Contains d.tokens t)) fs → HaveNoCauses which row (listed d) fs
+      → AllByRecursion HasOwn (kept_by place fs (map (settings_at which row (listed d)) fs))
   own_from place [] within uncaused = tt
   own_from place (f ∷ fs) within uncaused =
-      let settings = settings_of which d f in
-      let said = lawful_settings.field_said which (field_row which) (listed d) f.attrs uncaused.0 in
+      let settings = settings_at which row (listed d) f in
+      let said = lawful_settings.field_said which row (listed d) f.attrs uncaused.0 in
       let own : (path : ExprPath) → settings.values.method ≡ Some path → AreOwnNames d.tokens path.written.tokens =
-      λ path is. text_own d.tokens path.written.tokens (lawful_settings.methods d.tokens which (field_row which) (listed d) f.attrs settings path within.0 said is) in
-      own_step (kept_at which d place f) (kept_from which d (place + 1) fs) (is_kept which d f) (own_how d.tokens settings.method_returns_ordering settings.values.method own)
-      (own_from (place + 1) fs within.1 uncaused.1)
+      λ path is. text_own d.tokens path.written.tokens (lawful_settings.methods d.tokens which row (listed d) f.attrs settings path within.0 said is) in
+      own_step (kept_with settings place f) (kept_by (place + 1) fs (map (settings_at which row (listed d)) fs)) (keeps settings)
+      (own_how d.tokens settings.method_returns_ordering settings.values.method own) (own_from (place + 1) fs within.1 uncaused.1)
 
+module _ (which : Trait) (d : DeriveInput) where
   -- what holds of the fields of a variant
   abbrev NoCauses : List Field → Type 0
   NoCauses fields = HaveNoCauses which (field_row which) (listed d) fields
@@ -109,10 +112,10 @@ module _ (which : Trait) (d : DeriveInput) where
   variants_own : (variants : List Variant) → AllByRecursion (VariantWithin (λ t. Contains d.tokens t)) variants → AllByRecursion (λ v. NoCauses (fields_in v)) variants
       → AllByRecursion (λ v. HaveOwnMethods which d (fields_in v)) variants
   variants_own [] within uncaused = tt
-  variants_own (v ∷ vs) within uncaused = (own_from 0 (fields_in v) within.0.1 uncaused.0, variants_own vs within.1 uncaused.1)
+  variants_own (v ∷ vs) within uncaused = (own_from which (field_row which) d 0 (fields_in v) within.0.1 uncaused.0, variants_own vs within.1 uncaused.1)
 
   cases_own : (shape : Shape) → ShapeWithin (λ t. Contains d.tokens t) shape → NoCauses (shape_fields shape) → AllByRecursion (HaveOwnMethods which d) (shape_cases shape)
-  cases_own (Struct shape) within uncaused = (own_from 0 shape.fields within uncaused, tt)
+  cases_own (Struct shape) within uncaused = (own_from which (field_row which) d 0 shape.fields within uncaused, tt)
   cases_own (Enum variants) within uncaused =
       each_mapped (HaveOwnMethods which d) fields_in variants (variants_own variants within (each_apart (λ (f : Field). NoCause (OfField which (field_row which) (listed d) f.attrs)) fields_in variants uncaused))
 

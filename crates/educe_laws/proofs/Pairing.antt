@@ -4,9 +4,10 @@ use Rattle.std.specs.Prelude.{if◌then◌else◌, slice_get, unwrap_or}
 use Rattle.std.specs.List.{AllByRecursion}
 use Rattle.educe_syntax.specs.Field.{Field}
 use Rattle.educe_syntax.specs.DeriveInput.{DeriveInput}
+use Rattle.educe_attrs.specs.FieldSettings.{FieldSettings}
 use Rattle.educe_bound_traits.specs.declared.traits.Trait.{Trait}
 use Rattle.educe_body_values.specs.declared.value.FieldValue.{FieldValue}
-use Rattle.educe_laws.specs.Settings.{Kept, is_kept, kept_at, kept_from}
+use Rattle.educe_laws.specs.Settings.{Kept, keeps, kept_with, kept_by, is_kept, kept_at, kept_from}
 use Rattle.educe_laws.specs.Comparing.{Compared, paired_from, HaveTypes}
 use Rattle.educe_laws.specs.Hashing.{Valued, valued_from}
 
@@ -75,17 +76,18 @@ module _ (look : Look) where
 given_one : (look : Look) (place : ℕ) (f : Field) (x : FieldValue) → look place f ≡ Some x → look place f ≡ Some (part_in (look place f))
 given_one look place f x at = at ∙ ap (λ found. Some (part_in found)) (sym at)
 
-given_step : (look : Look) (which : Trait) (d : DeriveInput) (place : ℕ) (f : Field) (x : FieldValue) (kept : List Kept) (keeps : Bool) → look place f ≡ Some x
-    → AllByRecursion (IsGiven look) kept → AllByRecursion (IsGiven look) (if keeps then kept_at which d place f ∷ kept else kept)
-given_step look which d place f x kept true at given = (given_one look place f x at, given)
-given_step look which d place f x kept false at given = given
+given_step : (look : Look) (settings : FieldSettings) (place : ℕ) (f : Field) (x : FieldValue) (kept : List Kept) (keeps : Bool) → look place f ≡ Some x
+    → AllByRecursion (IsGiven look) kept → AllByRecursion (IsGiven look) (if keeps then kept_with settings place f ∷ kept else kept)
+given_step look settings place f x kept true at given = (given_one look place f x at, given)
+given_step look settings place f x kept false at given = given
 
 -- each field that takes part has a value
-pub each_given : (look : Look) (which : Trait) (d : DeriveInput) (place : ℕ) (fs : List Field) (xs : List FieldValue) → FieldsGive look place fs xs
-    → AllByRecursion (IsGiven look) (kept_from which d place fs)
-each_given look which d place [] xs give = tt
-each_given look which d place (f ∷ fs) [] give = absurd give
-each_given look which d place (f ∷ fs) (x ∷ xs) give = given_step look which d place f x (kept_from which d (place + 1) fs) (is_kept which d f) give.0 (each_given look which d (place + 1) fs xs give.1)
+pub each_given : (look : Look) (settings : Field → FieldSettings) (place : ℕ) (fs : List Field) (xs : List FieldValue) → FieldsGive look place fs xs
+    → AllByRecursion (IsGiven look) (kept_by place fs (map settings fs))
+each_given look settings place [] xs give = tt
+each_given look settings place (f ∷ fs) [] give = absurd give
+each_given look settings place (f ∷ fs) (x ∷ xs) give =
+    given_step look (settings f) place f x (kept_by (place + 1) fs (map settings fs)) (keeps (settings f)) give.0 (each_given look settings (place + 1) fs xs give.1)
 
 -- the field has its value at its place among these
 abbrev pub IsPlaced : Look → List FieldValue → Kept → Type 0
@@ -97,21 +99,21 @@ placed_step look all k kept true at placed = (at, placed)
 placed_step look all k kept false at placed = placed
 
 -- so has each field that takes part, where the values that are given stand among these from this place on
-placed_from : (look : Look) (all : List FieldValue) (which : Trait) (d : DeriveInput) (place : ℕ) (fs : List Field) (xs : List FieldValue) → FieldsGive look place fs xs
-    → ((k : ℕ) → slice_get all (place + k) ≡ slice_get xs k) → AllByRecursion (IsPlaced look all) (kept_from which d place fs)
-placed_from look all which d place [] xs give within = tt
-placed_from look all which d place (f ∷ fs) [] give within = absurd give
-placed_from look all which d place (f ∷ fs) (x ∷ xs) give within =
+placed_from : (look : Look) (all : List FieldValue) (settings : Field → FieldSettings) (place : ℕ) (fs : List Field) (xs : List FieldValue) → FieldsGive look place fs xs
+    → ((k : ℕ) → slice_get all (place + k) ≡ slice_get xs k) → AllByRecursion (IsPlaced look all) (kept_by place fs (map settings fs))
+placed_from look all settings place [] xs give within = tt
+placed_from look all settings place (f ∷ fs) [] give within = absurd give
+placed_from look all settings place (f ∷ fs) (x ∷ xs) give within =
     let here : place + 0 ≡ place = omega arith in
-    placed_step look all (kept_at which d place f) (kept_from which d (place + 1) fs) (is_kept which d f)
+    placed_step look all (kept_with (settings f) place f) (kept_by (place + 1) fs (map settings fs)) (keeps (settings f))
     (subst (λ n. slice_get all n ≡ Some x) here (within 0) ∙ ap (λ found. Some (part_in found)) (sym give.0))
-    (placed_from look all which d (place + 1) fs xs give.1
+    (placed_from look all settings (place + 1) fs xs give.1
     (λ k. let there : place + suc k ≡ place + 1 + k = omega arith in subst (λ n. slice_get all n ≡ slice_get xs k) there (within (suc k))))
 
 -- each field of a value that takes part has its value at its place
-pub each_placed : (look : Look) (which : Trait) (d : DeriveInput) (fs : List Field) (xs : List FieldValue) → FieldsGive look 0 fs xs
-    → AllByRecursion (IsPlaced look xs) (kept_from which d 0 fs)
-each_placed look which d fs xs give = placed_from look xs which d 0 fs xs give (λ k. ap (slice_get xs) (zero-add k))
+pub each_placed : (look : Look) (settings : Field → FieldSettings) (fs : List Field) (xs : List FieldValue) → FieldsGive look 0 fs xs
+    → AllByRecursion (IsPlaced look xs) (kept_by 0 fs (map settings fs))
+each_placed look settings fs xs give = placed_from look xs settings 0 fs xs give (λ k. ap (slice_get xs) (zero-add k))
 
 -- as many values as fields
 pub length_from_types : (all fs : List Field) (xs : List FieldValue) → HaveTypes all fs xs → length fs ≡ length xs

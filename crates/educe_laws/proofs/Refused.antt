@@ -1,5 +1,5 @@
 -- Why the handler of a trait that is read field by field refuses a definition, and what the attributes say where it does not.
-use Rattle.std.proofs.Common.{◌≡◌, ◌∙◌, true, false, List, [], ◌∷◌, ◌++◌, map, inl, inr, refl, ap, sym, subst, append_assoc}
+use Rattle.std.proofs.Common.{◌≡◌, ◌∙◌, true, List, [], ◌∷◌, ◌++◌, map, inl, inr, refl, ap, sym, subst, append_assoc}
 use Rattle.std.specs.Prelude.{IsTrue}
 use Rattle.std.specs.List.{AllByRecursion, flat_map}
 use Rattle.std.proofs.lemmas.Bool.{false≢true}
@@ -22,7 +22,6 @@ use Rattle.educe_syntax.specs.Shape.{Shape}
 use Rattle.educe_syntax.specs.Shape.TheVariants.{Struct, Enum}
 use Rattle.educe_syntax.specs.Variant.{Variant}
 use Rattle.educe_laws.specs.Cases.{fields_in, shape_cases, cases_of}
-use Rattle.educe_laws.specs.Built.{built_traits, IsBuilt}
 use Rattle.educe_laws.specs.Comparisons.{trait_of}
 use Rattle.educe_laws.specs.Handled.{IsFieldwiseCause, IsTraitCause, OfCase, OfShape, handling}
 use Rattle.educe_laws.specs.Listed.{listed}
@@ -30,7 +29,7 @@ use Rattle.educe_laws.specs.Rows.{is_fieldwise, type_row, variant_row, field_row
 use Rattle.educe_laws.specs.Said.{AreSaidOf}
 use Rattle.educe_laws.specs.Settings.{variant_settings, settings_of, AreSaid}
 use Rattle.educe_laws.proofs.DefaultCauses.{defaults_said}
-use Rattle.educe_laws.proofs.Inheriting.{listed_built, built_listed}
+use Rattle.educe_laws.proofs.ShownCauses.{shown_said}
 use Rattle.educe_laws.proofs.Standing.{among_mapped, among_flat, type_stands, variant_stands, field_stands}
 
 -- a comparison is read field by field
@@ -74,7 +73,7 @@ module _ (which : Trait) (fieldwise : IsTrue (is_fieldwise which)) (d : DeriveIn
   own_cause e cause = inr (of_trait which d e fieldwise cause)
 
   -- a cause of the attributes of the type is one of the handler
-  pub type_refused : (e : EduceError) → OfPlace which (type_row which) (listed d) d.attrs e → Refuses e
+  pub type_refused : (e : EduceError) → OfPlace which (type_row which d) (listed d) d.attrs e → Refuses e
   type_refused e (inl in_lists) =
       inl (record { attributes = d.attrs; stand = type_stands d; cause = in_lists })
   type_refused e (inr said) = own_cause e (IsFieldwiseCause.by_type said.1)
@@ -147,7 +146,7 @@ module _ (which : Trait) (fieldwise : IsTrue (is_fieldwise which)) (d : DeriveIn
 
   pub are_said : AreSaid which d
   are_said = record {
-    type_said = lawful_settings.place_said which (type_row which) (listed d) d.attrs (record { none_stands = λ e cause. uncaused.none_stands e (type_refused which fieldwise d e cause) });
+    type_said = lawful_settings.place_said which (type_row which d) (listed d) d.attrs (record { none_stands = λ e cause. uncaused.none_stands e (type_refused which fieldwise d e cause) });
     variants_said = variants_said [] (variants_of d) refl;
     fields_said = fields_said [] (all_fields d) refl;
   }
@@ -166,11 +165,7 @@ module _ (which : Trait) (fieldwise : IsTrue (is_fieldwise which)) (d : DeriveIn
 
 -- ---- the settings of each trait
 
-module _ (d : DeriveInput) (built : IsBuilt d) where
-  -- a trait whose items are not built is not listed
-  unlisted : (which : Trait) → is_listed built_traits which ≡ false → is_listed (listed d) which ≡ true → ⊥
-  unlisted which unbuilt lists = false≢true (sym unbuilt ∙ listed_built (listed d) which (built_listed d built) lists)
-
+module _ (d : DeriveInput) where
   -- the settings of a listed trait are what the attributes say, where its handler has no cause
   pub trait_said : (which : Trait) → is_listed (listed d) which ≡ true → NoCause (OfHandler (handling d) which) → AreSaidOf which d
   trait_said trait.Clone lists uncaused = are_said trait.Clone refl d uncaused
@@ -181,4 +176,4 @@ module _ (d : DeriveInput) (built : IsBuilt d) where
   trait_said trait.Ord lists uncaused = are_said trait.Ord refl d uncaused
   trait_said trait.Hash lists uncaused = are_said trait.Hash refl d uncaused
   trait_said trait.Default lists uncaused = defaults_said d uncaused
-  trait_said trait.Debug lists uncaused = unlisted trait.Debug refl lists
+  trait_said trait.Debug lists uncaused = shown_said d uncaused

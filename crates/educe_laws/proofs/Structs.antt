@@ -36,7 +36,7 @@ use Rattle.educe_body_values.specs.Laws.{KeysGive}
 use Rattle.educe_body_values.specs.Meaning.{Scene, start, innermost, look_up, part_of, part_flow, reference_value, read_flow, form_value, list_value, outcome_of, ended}
 use Rattle.educe_body_values.specs.Scoping.{IsApart, own_self, apart}
 use Rattle.educe_body.specs.Words.{HasWord}
-use Rattle.educe_laws.specs.Settings.{Kept, kept_fields}
+use Rattle.educe_laws.specs.Settings.{Kept, settings_of, kept_fields}
 use Rattle.educe_laws.specs.Cases.{shape_cases, cases_of, case_of}
 use Rattle.educe_laws.specs.Comparing.{Compared, HasShape, paired_from, compared, says, neutral, differs, answered, outcome, number_order}
 use Rattle.educe_laws.specs.Comparisons.{trait_of}
@@ -82,9 +82,9 @@ scope_apart d name is = (
 abbrev pub names_for : List ℕ → List Binding
 names_for param = record { name = codes "self"; referent = This } ∷ record { name = param; referent = Other } ∷ []
 
--- the names in scope, where `self` is this value and nothing was fed
+-- the names in scope, where `self` is this value, and nothing was fed, shown or made
 abbrev pub env_of : Value → List Binding → Env
-env_of a names = record { names = names; parts = []; own = Some (OwnValue a) }
+env_of a names = record { names = names; parts = []; own = Some (OwnValue a); shown = None; arguments = [] }
 
 -- ---- how fields are read
 
@@ -213,8 +213,8 @@ struct_evaluates which d shape body is differ named k table a b covers =
     (λ i. ended (k.params_are i) (list_value (scene_of d a b table) (start (k.params_are i) (Some a)) Nothing (k.block_has.block_is i)))
     ∙ steps_value d a b table k.param.text k.param_is which k.copied k.ordered k.block_has.steps k.block_has.steps_are
     (each_in_order (trait_of which) (λ k. HasOwnPath d.tokens k.how) kept k.ordered k.ordered_is named)
-    (each_in_order (trait_of which) (IsGiven at_a) kept k.ordered k.ordered_is (each_given at_a (trait_of which) d 0 fs a.fields of_a.give))
-    (each_in_order (trait_of which) (IsGiven at_b) kept k.ordered k.ordered_is (each_given at_b (trait_of which) d 0 fs b.fields of_b.give))
+    (each_in_order (trait_of which) (IsGiven at_a) kept k.ordered k.ordered_is (each_given at_a (settings_of (trait_of which) d) 0 fs a.fields of_a.give))
+    (each_in_order (trait_of which) (IsGiven at_b) kept k.ordered k.ordered_is (each_given at_b (settings_of (trait_of which) d) 0 fs b.fields of_b.give))
     (each_mapped Known (seen at_a at_b) k.ordered (each_in_order (trait_of which) (λ k. Known (seen at_a at_b k)) kept k.ordered k.ordered_is known))
     ∙ means_in_order which table at_a at_b kept k.ordered (compared which d a b) k.ordered_is paired each
     ∙ same_case which table d a b same (λ i. number_order (none a i) (none b i))

@@ -3,7 +3,7 @@ use Rattle.std.proofs.Common.{◌≡◌, ◌≢◌, ◌≤◌, ◌^◌, ◌+◌,
 use Rattle.std.specs.Prelude.{if◌then◌else◌, codes}
 use Rattle.std.specs.List.{AllByRecursion}
 use Rattle.std.specs.Str.{bytes_eq}
-use Rattle.std.proofs.lemmas.Bool.{false≢true, or_parts}
+use Rattle.std.proofs.lemmas.Bool.{false≢true, true≢false, or_parts}
 use Rattle.std.proofs.lemmas.List.{append_cancel_left}
 use Rattle.std.proofs.lemmas.Slice.Eq.{bytes_eq-Decides}
 use Rattle.std.proofs.Math.Bool.{or-true}
@@ -51,8 +51,15 @@ held_in (t ∷ texts) text found =
       | inr later ↦ ap (λ b. bytes_eq t text || b) (held_in texts text later) ∙ or-true (bytes_eq t text)
     ]
 
+-- each of a list that does not hold a text differs from it
+pub each_differs : (texts : List (List ℕ)) (text : List ℕ) → is_held texts text ≡ false → AllByRecursion (λ t. t ≢ text) texts
+each_differs [] text free = tt
+each_differs (t ∷ texts) text free =
+    let both = or_parts (bytes_eq t text) (is_held texts text) free in
+    ((λ same. true≢false (sym ((bytes_eq-Decides t text).1 same) ∙ both.0)), each_differs texts text both.1)
+
 -- a text from which each of a list differs is not held
-not_held : (texts : List (List ℕ)) (text : List ℕ) → AllByRecursion (λ t. t ≢ text) texts → is_held texts text ≡ false
+pub not_held : (texts : List (List ℕ)) (text : List ℕ) → AllByRecursion (λ t. t ≢ text) texts → is_held texts text ≡ false
 not_held [] text differ = refl
 not_held (t ∷ texts) text differ = ap (λ b. b || is_held texts text) (bytes_eq-differ t text differ.0) ∙ not_held texts text differ.1
 
@@ -113,9 +120,13 @@ kept_different place (f ∷ fs) [] differ = tt
 kept_different place (f ∷ fs) (s ∷ all) differ =
     different_if (keeps s) (kept_with s place f) (kept_by (place + 1) fs all) (each_kept (λ key. binding_key place f ≢ key) (place + 1) fs all differ.0) (kept_different (place + 1) fs all differ.1)
 
--- the fields of a case that take part have keys that differ
+-- the fields of a case that take part by these settings have keys that differ
+pub different_by : (fs : List Field) (all : List FieldSettings) → AreNamesApart (field_names fs) → length fs ≤ 2 ^ 64 → AreDifferent (map kept_key (kept_by 0 fs all))
+different_by fs all names few = kept_different 0 fs all (lawful_keys.apart fs names few)
+
+-- so do those that take part in what a trait does
 pub fields_different : (which : Trait) (d : DeriveInput) (fs : List Field) → AreNamesApart (field_names fs) → length fs ≤ 2 ^ 64 → AreDifferent (map kept_key (kept_fields which d fs))
-fields_different which d fs names few = kept_different 0 fs (map (settings_of which d) fs) (lawful_keys.apart fs names few)
+fields_different which d fs names few = different_by fs (map (settings_of which d) fs) names few
 
 -- ---- variables
 
@@ -170,6 +181,18 @@ look_up-inner : (outer inner : List Binding) (name : List ℕ) (r : Referent) �
 look_up-inner [] inner name r found = found
 look_up-inner (b ∷ outer) inner name r found = ap (innermost (if bytes_eq b.name name then Some b.referent else None)) (look_up-inner outer inner name r found)
 
+-- what a last binding gives by whether its name is the one
+abbrev last_if : Binding → Bool → Option Referent
+last_if b same = innermost (if same then Some b.referent else None) None
+
+-- a name that is not that of the last binding stands for what it does without it
+pub before_last : (names : List Binding) (b : Binding) (name : List ℕ) → b.name ≢ name → look_up (names ++ b ∷ []) name ≡ look_up names name
+before_last names b name differs = look_up-outer names (b ∷ []) name (ap (last_if b) (bytes_eq-differ b.name name differs))
+
+-- that of the last binding stands for what is bound there
+pub at_last : (names : List Binding) (b : Binding) → look_up (names ++ b ∷ []) b.name ≡ Some b.referent
+at_last names b = look_up-inner names (b ∷ []) b.name b.referent (ap (last_if b) (bytes_eq-same b.name))
+
 module _ (prefix : List ℕ) (refer : Refer) where
   -- what the first of several bindings gives
   abbrev here_if : Kept → Bool → Option Referent
@@ -218,7 +241,7 @@ module _ (d : DeriveInput) (plain names : List (List ℕ)) (are : AreChosenFor d
   chosen_held name found = held_in held name (In-behind are.words names name found)
 
   -- it is no word of the definition
-  chosen_no_words : AllByRecursion (λ name. HasWord d.tokens name → ⊥) names
+  pub chosen_no_words : AllByRecursion (λ name. HasWord d.tokens name → ⊥) names
   chosen_no_words =
       each_weaker (λ text. is_held are.words text ≡ false) (λ name. HasWord d.tokens name → ⊥)
       (λ name free. lawful_names.no_word d.tokens are.words name (λ word has. (are.words_are word).1 has) free) names (lawful_names.chosen are.words plain names are.chosen)
@@ -237,7 +260,7 @@ module _ (d : DeriveInput) (plain names : List (List ℕ)) (are : AreChosenFor d
   name_not_self name found = In-all (λ text. text ≢ codes "self") names name chosen_not_self found
 
   -- a binding of `self` or of a chosen name hides no word of the definition
-  own_apart : (b : Binding) → IsOwnName names b → IsApart d.tokens b
+  pub own_apart : (b : Binding) → IsOwnName names b → IsApart d.tokens b
   own_apart b own =
       elim own [
         | inl self ↦ own_self self
@@ -263,7 +286,7 @@ module _ (d : DeriveInput) (plain names : List (List ℕ)) (are : AreChosenFor d
     variable_not_self key = not_self (prefix ++ key) (ap (λ text. bytes_eq text (codes "self")) (marked key).1)
 
     -- it is no chosen name
-    variable_not_chosen : (name : List ℕ) → In name names → (key : List ℕ) → prefix ++ key ≢ name
+    pub variable_not_chosen : (name : List ℕ) → In name names → (key : List ℕ) → prefix ++ key ≢ name
     variable_not_chosen name found key same = false≢true (sym (lawful_names.prefixed held (95 ∷ tail) prefix key is) ∙ ap (is_held held) same ∙ chosen_held name found)
 
     -- it is no word of the definition

@@ -82,9 +82,13 @@ pub record IsName (text : List ℕ) (name : Ident) : Type 0 where
   pub is : name.text ≡ text
   pub nowhere : name.span ≡ no_place
 
--- the names of the variables behind a prefix for the fields that take part
+-- the names of the variables behind a prefix for these fields
+abbrev pub variables_for : List ℕ → List Kept → List (List ℕ)
+variables_for prefix kept = map (λ (k : Kept). prefix ++ binding_key k.place k.field) kept
+
+-- those for the fields that take part
 abbrev pub variables : List ℕ → Trait → DeriveInput → List Field → List (List ℕ)
-variables prefix which definition fields = map (λ k. prefix ++ binding_key k.place k.field) (kept_fields which definition fields)
+variables prefix which definition fields = variables_for prefix (kept_fields which definition fields)
 
 -- no two of the names are the same, none is `self`, and none is a word of the definition
 pub record AreScoped (definition : DeriveInput) (names : List (List ℕ)) : Type 0 where
@@ -139,6 +143,14 @@ AreArms IsOwn place [] [] = Unit {0}
 AreArms IsOwn place [] (arm ∷ arms) = ⊥
 AreArms IsOwn place (v ∷ vs) [] = ⊥
 AreArms IsOwn place (v ∷ vs) (arm ∷ arms) = IsOwn place v arm × AreArms IsOwn (place + 1) vs arms
+
+-- a match on the value of `self`, with one such arm for each variant in written order
+pub record IsMatchOnSelf (IsOwn : Variant → Arm → Type 0) (variants : List Variant) (block : List Form) : Type 0 where
+  pub value : Ident
+  pub value_is : IsName (codes "self") value
+  pub arms : List Arm
+  pub arms_are : AllZip IsOwn variants arms
+  pub block_is : block ≡ MatchValue value arms ∷ []
 
 -- what is done where the other value is of another variant: `eq` returns false, and an order, which is asked after the
 -- discriminants, does nothing

@@ -30,6 +30,7 @@ use Rattle.educe_body_items.specs.declared.items.Item.TheVariants.{Impl, New, Fi
 use Rattle.educe_body_values.specs.declared.answers.Answers.{Answers}
 use Rattle.educe_body_values.specs.declared.evaluator.Outcome.{Outcome}
 use Rattle.educe_body_values.specs.declared.evaluator.Outcome.TheVariants.{Parts}
+use Rattle.educe_body_values.specs.declared.evaluator.Outcome.TheVariants as outcome
 use Rattle.educe_body_values.specs.declared.value.Value.{Value}
 use Rattle.educe_body.specs.Chosen.{underscored}
 use Rattle.educe_body_values.specs.Meaning.{Scene, value}
@@ -46,7 +47,10 @@ use Rattle.educe_laws.specs.Headers.{AreCopied, IsHeader, AreTight}
 use Rattle.educe_laws.specs.Listed.{listed_in_order}
 use Rattle.educe_laws.specs.Markers.{AreMarkers}
 use Rattle.educe_laws.specs.Making.{HasOneForm, IsDefaultBody, MakesDefault, has_new, IsNewBody, MakesNew}
-use Rattle.educe_laws.specs.Settings.{Kept, kept_fields, bound_for}
+use Rattle.educe_laws.specs.Settings.{Kept, kept_fields, all_kept, bound_for}
+use Rattle.educe_laws.specs.Showing.{shape_of}
+use Rattle.educe_laws.specs.Shown.{all_shown}
+use Rattle.educe_laws.specs.ShownBodies.{DebugNames, AreDebugNames, marker_names, IsDebugBody}
 use Rattle.educe_laws.specs.Steps.{Reading, of_base, AreSteps, IsInOrder}
 use Rattle.educe_laws.specs.Types.{checked_types}
 use Rattle.educe_laws.specs.Comparing.{neutral, HasShape, Covers, meaning}
@@ -215,9 +219,19 @@ pub record IsCloneBlock (definition : DeriveInput) (items : List Item) : Type 0 
   pub markers : List MarkerItem
   pub are : items ≡ Impl item ∷ map Marker markers
   pub impl_is : IsImpl trait.Clone definition (AreCloneFunctions (copies_whole definition) definition names) item
-  pub markers_are : AreMarkers trait.Clone definition item.generics (names.function ∷ names.value ∷ []) markers
+  pub markers_are : AreMarkers trait.Clone definition item.generics (names.function ∷ names.value ∷ []) (all_kept trait.Clone definition) markers
 
--- the items of the block of a trait; that of `Debug` is not built yet
+-- the block of `Debug`: its impl with the one function `fmt`, and behind it a marker for each field with a method that is shown
+pub record IsDebugBlock (definition : DeriveInput) (items : List Item) : Type 0 where
+  pub names : DebugNames
+  pub names_are : AreDebugNames definition names
+  pub item : ImplItem
+  pub markers : List MarkerItem
+  pub are : items ≡ Impl item ∷ map Marker markers
+  pub impl_is : IsImpl trait.Debug definition (IsFunction (codes "fmt") (IsDebugBody definition names)) item
+  pub markers_are : AreMarkers trait.Debug definition item.generics (marker_names names) (all_shown definition) markers
+
+-- the items of the block of a trait
 abbrev pub IsBlock : Trait → DeriveInput → List Item → Type 0
 IsBlock trait.Clone definition items = IsCloneBlock definition items
 IsBlock trait.Copy definition items = IsCopyBlock definition items
@@ -226,8 +240,8 @@ IsBlock trait.Eq definition items = IsEqBlock definition items
 IsBlock trait.PartialOrd definition items = IsComparisonBlock PartialOrd definition items
 IsBlock trait.Ord definition items = IsComparisonBlock Ord definition items
 IsBlock trait.Hash definition items = IsHashBlock definition items
+IsBlock trait.Debug definition items = IsDebugBlock definition items
 IsBlock trait.Default definition items = IsDefaultBlock definition items
-IsBlock _ definition items = ⊥
 
 -- the blocks of these traits, one behind the other, and nothing else
 abbrev pub Blocks : List Trait → DeriveInput → List Item → Type 0
@@ -270,17 +284,23 @@ ClonesFrom definition body =
     (table : Answers) (a b : Value) (copied : Bool) (outcome : Outcome) → AreCopied definition copied → HasShape definition a → HasShape definition b
     → clone_from_of table copied definition a b ≡ Some outcome → value body (scene_of definition a b table) ≡ outcome
 
+-- over each table and any value of the definition's shape, the function shows what `fmt` shows of it
+abbrev pub Shows : DeriveInput → Body → Type 0
+Shows definition body =
+    (table : Answers) (a : Value) (other : Option Value) → HasShape definition a → value body (scene_with definition a other table) ≡ outcome.Shape (shape_of definition a)
+
 -- the function evaluates to what one of this name means, if it has this name
 abbrev pub MeansIfNamed : List ℕ → (Body → Type 0) → Function → Type 0
 MeansIfNamed name Means f = f.name.text ≡ name → Means f.body
 
--- the function evaluates to what the trait means by it; those of `Debug` are not built yet, and `Copy` and `Eq` have none
+-- the function evaluates to what the trait means by it; `Copy` and `Eq` have none
 abbrev pub Evaluates : Trait → DeriveInput → Function → Type 0
 Evaluates trait.Clone definition f = MeansIfNamed (codes "clone") (Clones definition) f × MeansIfNamed (codes "clone_from") (ClonesFrom definition) f
 Evaluates trait.PartialEq definition f = Compares PartialEq definition f.body
 Evaluates trait.PartialOrd definition f = Compares PartialOrd definition f.body
 Evaluates trait.Ord definition f = Compares Ord definition f.body
 Evaluates trait.Hash definition f = Hashes definition f.body
+Evaluates trait.Debug definition f = Shows definition f.body
 Evaluates trait.Default definition f = MakesDefault definition f.body
 Evaluates _ definition f = ⊥
 

@@ -8,7 +8,7 @@ use Rattle.educe_syntax.specs.Shape.TheVariants.{Struct, Enum}
 use Rattle.educe_bound_traits.specs.declared.traits.Trait.{Trait}
 use Rattle.educe_syntax.specs.Variant.{Variant}
 use Rattle.educe_syntax_self.specs.Selves.{has_plain_self, have_plain_self}
-use Rattle.educe_bound_traits.specs.declared.traits.Trait.TheVariants.{Clone, Copy, PartialEq, Eq, PartialOrd, Ord, Hash, Default}
+use Rattle.educe_bound_traits.specs.declared.traits.Trait.TheVariants.{Debug, Clone, Copy, PartialEq, Eq, PartialOrd, Ord, Hash, Default}
 use Rattle.educe_bound_traits.specs.Traits.{is_listed, all_listed}
 use Rattle.educe_laws.specs.Listed.{listed}
 
@@ -24,7 +24,7 @@ is_enum (Enum variants) = true
 
 -- the traits whose items are built, in the fixed order
 abbrev pub built_traits : List Trait
-built_traits = Clone ∷ Copy ∷ PartialEq ∷ Eq ∷ PartialOrd ∷ Ord ∷ Hash ∷ Default ∷ []
+built_traits = Debug ∷ Clone ∷ Copy ∷ PartialEq ∷ Eq ∷ PartialOrd ∷ Ord ∷ Hash ∷ Default ∷ []
 
 -- the traits are among those
 abbrev pub are_built : List Trait → Bool
@@ -51,7 +51,7 @@ may_replace definition = not (is_listed (listed definition) Eq) || (are_plain_ty
 abbrev pub is_built : DeriveInput → Bool
 is_built definition = are_built (listed definition) && may_replace definition
 
--- A definition of the form that is built so far: it does not list `Debug`; and where it lists `Eq`, each `Self` in the types of its
--- fields and in its generics is plain.
+-- A definition of the form that is built so far: the traits that it lists are built; and where it lists `Eq`, each `Self` in the types
+-- of its fields and in its generics is plain.
 abbrev pub IsBuilt : DeriveInput → Type 0
 IsBuilt definition = IsTrue (is_built definition)

@@ -18,10 +18,10 @@ use Rattle.educe_body_forms.specs.declared.body.Body.{Body}
 use Rattle.educe_body_values.specs.declared.callee.BuiltIn.{BuiltIn}
 use Rattle.educe_body_values.specs.declared.callee.BuiltIn.TheVariants.{Clone, CloneFrom}
 use Rattle.educe_body_forms.specs.declared.form.Arm.{Arm}
-use Rattle.educe_body_forms.specs.declared.form.Form.{Form, Local, Call, Construct, MatchValue, IfLet, Unreachable, Discard, AssignField, AssignThrough}
+use Rattle.educe_body_forms.specs.declared.form.Form.{Form, Local, Call, Construct, IfLet, Unreachable, Discard, AssignField, AssignThrough}
 use Rattle.educe_body_forms.specs.declared.form.Init.{Init}
 use Rattle.educe_body_forms.specs.declared.pattern.Pattern.{Pattern}
-use Rattle.educe_laws.specs.Arms.{AreChosenFor, IsName, IsKey, IsPattern}
+use Rattle.educe_laws.specs.Arms.{AreChosenFor, IsName, IsKey, IsPattern, IsMatchOnSelf}
 use Rattle.educe_laws.specs.Cases.{fields_in}
 use Rattle.educe_laws.specs.Headers.{AreCopied}
 use Rattle.educe_laws.specs.Settings.{Kept, How, plainly, by_method, by_order, kept_fields}
@@ -85,14 +85,6 @@ pub record IsCloneArm (definition : DeriveInput) (names : CloneNames) (variant :
   pub form : Form
   pub form_is : IsCloneConstruct definition (bound names.sources) (Some variant.ident.text) variant.fields form
   pub block_is : arm.block ≡ form ∷ []
-
--- a match on the value of `self`, with one such arm for each variant in written order
-pub record IsMatchOnSelf (IsOwn : Variant → Arm → Type 0) (variants : List Variant) (block : List Form) : Type 0 where
-  pub value : Ident
-  pub value_is : IsName (codes "self") value
-  pub arms : List Arm
-  pub arms_are : AllZip IsOwn variants arms
-  pub block_is : block ≡ MatchValue value arms ∷ []
 
 -- the block of `clone` for an enum; without variants there is no value
 abbrev pub IsCloneEnum : DeriveInput → CloneNames → List Variant → List Form → Type 0

@@ -4,7 +4,6 @@ use Rattle.std.specs.List.{AllByRecursion, filter_map}
 use Rattle.educe_tokens.specs.declared.error.EduceError.{EduceError}
 use Rattle.educe_tokens.specs.declared.error.Kind.TheVariants.{MultipleDefaultVariants, NoDefaultVariant}
 use Rattle.educe_tokens.specs.declared.span.Span.{Span}
-use Rattle.educe_syntax.specs.Attribute.{Attribute}
 use Rattle.educe_syntax.specs.DeriveInput.{DeriveInput}
 use Rattle.educe_syntax.specs.Expr.{Expr}
 use Rattle.educe_syntax.specs.Few.{variants_of}
@@ -16,17 +15,16 @@ use Rattle.educe_syntax.specs.Ty.{Ty}
 use Rattle.educe_syntax.specs.Variant.{Variant}
 use Rattle.educe_bound_traits.specs.declared.traits.Trait.TheVariants.{Default}
 use Rattle.educe_attrs.specs.Among.{IsAmong}
-use Rattle.educe_attrs.specs.Causes.{NoCause}
 use Rattle.educe_attrs.specs.Default as default
 use Rattle.educe_attrs.specs.Fields.{settings_at}
-use Rattle.educe_attrs.specs.Places.{place_settings, IsSaid, OfPlace, IsFieldSaid, IsFieldCause}
+use Rattle.educe_attrs.specs.Places.{place_settings, IsSaid, IsFieldSaid, IsFieldCause}
 use Rattle.educe_attrs.specs.Row.{Row}
 use Rattle.educe_attrs.specs.Said.{IsSaidCause}
 use Rattle.educe_attrs.specs.Values.{Values}
 use Rattle.educe_laws.specs.Cases.{fields_in}
 use Rattle.educe_laws.specs.Listed.{listed}
 use Rattle.educe_laws.specs.Rows.{type_row}
-use Rattle.educe_laws.specs.Settings.{type_settings}
+use Rattle.educe_laws.specs.Settings.{type_settings, AreSettings}
 
 -- ---- the forms of the attribute
 
@@ -82,7 +80,7 @@ AreShapeSaid definition (Enum variants) = AllByRecursion (λ variant. AreFieldsS
 
 -- The settings of the type, of each variant and of each field are what their attributes say of `Default`, by the forms that are allowed there.
 pub record AreDefaultsSaid (definition : DeriveInput) : Type 0 where
-  pub type_said : IsSaid Default (type_row Default) definition.attrs (type_values definition)
+  pub type_said : IsSaid Default (type_row Default definition) definition.attrs (type_values definition)
   pub variants_said : AllByRecursion (λ (variant : Variant). IsSaid Default (mark_row (is_open definition)) variant.attrs (mark_values definition variant)) (variants_of definition)
   pub fields_said : AreShapeSaid definition definition.shape
 
@@ -144,18 +142,13 @@ default_types definition = filter_map (λ field. type_without field (field_value
 
 -- ---- why it is refused
 
--- the attributes of a place have no cause of a refusal, and they say this
-pub record AreSettings (row : Row) (definition : DeriveInput) (attributes : List Attribute) (values : Values) : Type 0 where
-  pub read : NoCause (OfPlace Default row (listed definition) attributes)
-  pub said : IsSaid Default row attributes values
-
--- those of the type
+-- the attributes of the type have no cause of a refusal, and they say this
 abbrev pub AreTypeSettings : DeriveInput → Values → Type 0
-AreTypeSettings definition values = AreSettings (type_row Default) definition definition.attrs values
+AreTypeSettings definition values = AreSettings Default (type_row Default definition) definition definition.attrs values
 
--- those of a variant of a type with these settings
+-- so it is of those of a variant of a type with these settings
 abbrev pub AreMarkSettings : DeriveInput → Values → Variant → Values → Type 0
-AreMarkSettings definition own variant values = AreSettings (mark_row (is_none own.expression)) definition variant.attrs values
+AreMarkSettings definition own variant values = AreSettings Default (mark_row (is_none own.expression)) definition variant.attrs values
 
 -- the fields of a case, and whether `default` writes them: those of a struct, or of a variant
 pub data IsCase (definition : DeriveInput) : List Field → Bool → Type 0 where
@@ -217,7 +210,7 @@ none_marked place = record { kind = NoDefaultVariant; span = place; words = [] }
 -- why `Default` is refused: what the type says of it is; what a variant or a field says of it is, by the forms that are allowed there; or,
 -- of an enum whose attributes say no value of the whole type, two variants are marked, or none is and there is not only one
 pub data IsDefaultCause (definition : DeriveInput) : EduceError → Type 0 where
-  by_type : {e : EduceError} → IsSaidCause Default (type_row Default) definition.attrs e → IsDefaultCause definition e
+  by_type : {e : EduceError} → IsSaidCause Default (type_row Default definition) definition.attrs e → IsDefaultCause definition e
   by_variant : {e : EduceError} (own : Values) (variant : Variant) → AreTypeSettings definition own → IsAmong variant (variants_of definition)
       → IsSaidCause Default (mark_row (is_none own.expression)) variant.attrs e → IsDefaultCause definition e
   by_field : {e : EduceError} (fields : List Field) (written : Bool) (field : Field) → IsCase definition fields written → IsAmong field fields

@@ -1,5 +1,5 @@
 -- Why the handlers of the listed traits refuse a definition.
-use Rattle.std.specs.Prelude.{◌≡◌, ◌⊎◌, ℤ, Bool, true, false, ◌&&◌, Some, IsTrue, List, [], ◌∷◌, ◌++◌}
+use Rattle.std.specs.Prelude.{◌≡◌, ◌⊎◌, ℤ, Bool, true, false, Some, IsTrue, List, [], ◌∷◌, ◌++◌}
 use Rattle.educe_tokens.specs.declared.error.EduceError.{EduceError}
 use Rattle.educe_tokens.specs.declared.error.Kind.TheVariants.{NotBuilt, ReuseARank}
 use Rattle.educe_tokens.specs.declared.span.Span.{Span}
@@ -11,7 +11,6 @@ use Rattle.educe_syntax.specs.Field.{Field}
 use Rattle.educe_syntax.specs.Shape.{Shape}
 use Rattle.educe_syntax.specs.Shape.TheVariants.{Struct, Enum}
 use Rattle.educe_bound_traits.specs.declared.traits.Trait.{Trait}
-use Rattle.educe_syntax_self.specs.Selves.{has_plain_self, have_plain_self}
 use Rattle.educe_bound_traits.specs.declared.traits.Trait.TheVariants as trait
 use Rattle.educe_bound_traits.specs.Traits.{is_listed}
 use Rattle.educe_attrs.specs.Among.{IsAmong}
@@ -25,8 +24,10 @@ use Rattle.educe_syntax.specs.Variant.{Variant}
 use Rattle.educe_laws.specs.Cases.{fields_in, cases_of, variant_attributes, field_attributes}
 use Rattle.educe_laws.specs.Defaults.{IsDefaultCause}
 use Rattle.educe_laws.specs.Listed.{listed}
+use Rattle.educe_laws.specs.Markers.{has_plain_marker}
 use Rattle.educe_laws.specs.Rows.{is_order, type_row, variant_row, field_row}
 use Rattle.educe_laws.specs.Settings.{Kept, settings_of, kept_fields, ReusesARank}
+use Rattle.educe_laws.specs.Shown.{IsShownCause}
 
 -- the error for a repeated rank
 abbrev pub reuse_of : ℤ → Span → EduceError
@@ -57,14 +58,9 @@ pub record IsRankCause (which : Trait) (definition : DeriveInput) (fields : List
 
 -- the trait has markers, which call the methods of fields
 abbrev pub has_markers : Trait → Bool
+has_markers trait.Debug = true
 has_markers trait.Clone = true
 has_markers _ = false
-
--- each `Self` in the generics of the definition, the type of the field and this method is plain, so that the head of the definition may
--- stand in its place
-abbrev pub has_plain_marker : DeriveInput → Field → ExprPath → Bool
-has_plain_marker definition field path =
-    have_plain_self definition.generics && (has_plain_self field.ty.written.tokens && has_plain_self path.written.tokens)
 
 -- the field has a method, and its marker is not built
 pub record IsUnbuiltMarker (which : Trait) (definition : DeriveInput) (field : Field) : Type 0 where
@@ -77,7 +73,7 @@ pub record IsUnbuiltMarker (which : Trait) (definition : DeriveInput) (field : F
 -- field says of it is; where it is an order, two fields of one case that take part have one rank; where it is `Clone`, what the type
 -- says of `Copy` is, if that is listed; or a marker is not built yet
 pub data IsFieldwiseCause (which : Trait) (definition : DeriveInput) : EduceError → Type 0 where
-  by_type : {e : EduceError} → IsSaidCause which (type_row which) definition.attrs e → IsFieldwiseCause which definition e
+  by_type : {e : EduceError} → IsSaidCause which (type_row which definition) definition.attrs e → IsFieldwiseCause which definition e
   by_variant : {e : EduceError} (variant : Variant) → IsAmong variant (variants_of definition)
       → IsSaidCause which (variant_row which) variant.attrs e → IsFieldwiseCause which definition e
   by_field : {e : EduceError} (field : Field) → IsAmong field (all_fields definition)
@@ -85,7 +81,7 @@ pub data IsFieldwiseCause (which : Trait) (definition : DeriveInput) : EduceErro
   by_rank : {e : EduceError} (fields : List Field) → IsAmong fields (cases_of definition) → IsRankCause which definition fields e
       → IsFieldwiseCause which definition e
   by_copy : {e : EduceError} → which ≡ trait.Clone → is_listed (listed definition) trait.Copy ≡ true
-      → IsSaidCause trait.Copy (type_row trait.Copy) definition.attrs e → IsFieldwiseCause which definition e
+      → IsSaidCause trait.Copy (type_row trait.Copy definition) definition.attrs e → IsFieldwiseCause which definition e
   by_marker : (field : Field) → IsAmong field (all_fields definition) → IsUnbuiltMarker which definition field
       → IsFieldwiseCause which definition (placeless NotBuilt)
 
@@ -103,7 +99,7 @@ abbrev pub OfShape : Trait → DeriveInput → Shape → Cause
 OfShape which definition (Struct shape) = OfCase which definition shape.fields
 OfShape which definition (Enum variants) = λ e. (variant : Variant) × IsAmong variant variants × OfVariant which definition variant e
 
--- why a trait is refused; the others are not built yet
+-- why a trait is refused
 abbrev pub IsTraitCause : DeriveInput → Trait → Cause
 IsTraitCause definition trait.Clone = IsFieldwiseCause trait.Clone definition
 IsTraitCause definition trait.Copy = IsFieldwiseCause trait.Copy definition
@@ -112,8 +108,8 @@ IsTraitCause definition trait.Eq = IsFieldwiseCause trait.Eq definition
 IsTraitCause definition trait.PartialOrd = IsFieldwiseCause trait.PartialOrd definition
 IsTraitCause definition trait.Ord = IsFieldwiseCause trait.Ord definition
 IsTraitCause definition trait.Hash = IsFieldwiseCause trait.Hash definition
+IsTraitCause definition trait.Debug = IsShownCause definition
 IsTraitCause definition trait.Default = IsDefaultCause definition
-IsTraitCause definition _ = λ _. ⊥
 
 -- what is asked of the handlers
 abbrev pub handling : DeriveInput → Handling

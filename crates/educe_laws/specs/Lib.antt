@@ -11,10 +11,13 @@ pub mod Settings
 pub mod Copying
 pub mod Defaults
 pub mod Said
+pub mod Shown
 -- What a comparison means of two values.
 pub mod Comparing
 -- What `Hash` means of a value.
 pub mod Hashing
+-- What `Debug` means of a value.
+pub mod Showing
 -- What the items of a trait hold, and what their functions evaluate to.
 pub mod Steps
 pub mod Types
@@ -25,6 +28,7 @@ pub mod Making
 pub mod Cloning
 pub mod HashBodies
 pub mod CloneBodies
+pub mod ShownBodies
 pub mod Checks
 pub mod Markers
 pub mod Blocks
@@ -40,3 +44,4 @@ pub mod HashLaws
 pub mod DefaultLaws
 pub mod EqLaws
 pub mod CloneLaws
+pub mod DebugLaws

@@ -1,20 +1,20 @@
 -- Markers: functions that are never called and call the methods of fields, so that rustc counts these as used and checks their types.
-use Rattle.std.specs.Prelude.{◌≡◌, ℕ, List, Option, Some, None}
-use Rattle.std.specs.List.{AllZip, filter_map, flat_map}
+use Rattle.std.specs.Prelude.{◌≡◌, ℕ, Bool, ◌&&◌, List, Option, Some, None}
+use Rattle.std.specs.List.{AllZip, filter_map}
 use Rattle.educe_tokens.specs.WrittenLexemes.{written_lexemes}
 use Rattle.educe_syntax.specs.DeriveInput.{DeriveInput}
 use Rattle.educe_syntax.specs.ExprPath.{ExprPath}
+use Rattle.educe_syntax.specs.Field.{Field}
 use Rattle.educe_syntax.specs.Generics.{Generics}
 use Rattle.educe_syntax.specs.Steps.{Tokens}
 use Rattle.educe_syntax.specs.Ty.{Ty}
-use Rattle.educe_syntax_self.specs.Selves.{replaced}
+use Rattle.educe_syntax_self.specs.Selves.{replaced, has_plain_self, have_plain_self}
 use Rattle.educe_syntax_self.specs.Visits.{AreReplaced}
 use Rattle.educe_attrs.specs.Lints.{lints}
 use Rattle.educe_bound_traits.specs.declared.traits.Trait.{Trait}
 use Rattle.educe_body_items.specs.declared.items.MarkerItem.{MarkerItem}
-use Rattle.educe_laws.specs.Cases.{cases_of}
 use Rattle.educe_laws.specs.Checks.{IsHeadFor, IsReplacedType, texts_of}
-use Rattle.educe_laws.specs.Settings.{Kept, How, plainly, by_method, by_order, kept_fields}
+use Rattle.educe_laws.specs.Settings.{Kept, How, plainly, by_method, by_order}
 
 -- the type of a field, and its method
 pub record Marked : Type 0 where
@@ -27,10 +27,15 @@ marked_by plainly ty = None
 marked_by (by_method path) ty = Some (record { ty = ty; method = path })
 marked_by (by_order path) ty = Some (record { ty = ty; method = path })
 
--- the fields of all cases that take part and have a method, in written order
-abbrev pub marked_fields : Trait → DeriveInput → List Marked
-marked_fields which definition =
-    filter_map (λ (k : Kept). marked_by k.how k.field.ty) (flat_map (kept_fields which definition) (cases_of definition))
+-- those of these fields that have a method, in their order
+abbrev pub marked_fields : List Kept → List Marked
+marked_fields kept = filter_map (λ (k : Kept). marked_by k.how k.field.ty) kept
+
+-- each `Self` in the generics of the definition, the type of the field and this method is plain, so that the head of the definition may
+-- stand in its place
+abbrev pub has_plain_marker : DeriveInput → Field → ExprPath → Bool
+has_plain_marker definition field path =
+    have_plain_self definition.generics && (has_plain_self field.ty.written.tokens && has_plain_self path.written.tokens)
 
 -- A marker for a field: it has the lints of the type, the generics of the impl, the type of the field and its method, each with the
 -- head of the definition in place of each `Self`, and these names.
@@ -44,6 +49,6 @@ pub record IsMarker (which : Trait) (definition : DeriveInput) (generics : Gener
   pub method_is : marker.method.written.tokens ≡ replaced head marked.method.written.tokens
   pub names_are : texts_of marker.names ≡ names
 
--- one marker for each of these fields, in their order
-abbrev pub AreMarkers : Trait → DeriveInput → Generics → List (List ℕ) → List MarkerItem → Type 0
-AreMarkers which definition generics names markers = AllZip (IsMarker which definition generics names) (marked_fields which definition) markers
+-- one marker for each of these fields that has a method, in their order
+abbrev pub AreMarkers : Trait → DeriveInput → Generics → List (List ℕ) → List Kept → List MarkerItem → Type 0
+AreMarkers which definition generics names kept markers = AllZip (IsMarker which definition generics names) (marked_fields kept) markers

@@ -1,11 +1,19 @@
 -- What each trait does with fields, and the forms of the attributes that it has at a type, at a variant and at a field.
 use Rattle.std.specs.Prelude.{Bool, true, false}
+use Rattle.educe_syntax.specs.DeriveInput.{DeriveInput}
+use Rattle.educe_syntax.specs.FieldForm.{FieldForm}
+use Rattle.educe_syntax.specs.FieldForm.TheVariants.{Named, Unnamed, Unit as NoFields}
+use Rattle.educe_syntax.specs.Shape.{Shape}
+use Rattle.educe_syntax.specs.Shape.TheVariants.{Struct, Enum}
 use Rattle.educe_bound_traits.specs.declared.traits.Trait.{Trait}
 use Rattle.educe_bound_traits.specs.declared.traits.Trait.TheVariants as trait
 use Rattle.educe_attrs.specs.Row.{Row}
 use Rattle.educe_attrs.specs.Bounds.{bound_row}
 use Rattle.educe_attrs.specs.Cloned.{clone_row}
 use Rattle.educe_attrs.specs.Compared.{compared_row}
+use Rattle.educe_attrs.specs.Debug as debug
+use Rattle.educe_attrs.specs.declared.debug.TypeName.{TypeName}
+use Rattle.educe_attrs.specs.declared.debug.TypeName.TheVariants as type_name
 use Rattle.educe_attrs.specs.Default as default
 
 -- one of the two orders
@@ -32,11 +40,37 @@ reads_fields trait.Eq = false
 reads_fields trait.Default = false
 reads_fields _ = true
 
--- the forms of its attribute at a type: the trait alone, and `bound`; for `Default` also `new` and a value. That of `Debug` is not
--- built yet.
-abbrev pub type_row : Trait → Row
-type_row trait.Default = default.type_row (record { enable_flag = true; enable_new = true; enable_expression = true; enable_bound = true })
-type_row _ = bound_row true true
+-- whether the names of the fields of a struct are shown, where nothing is said of that: in all but one with round brackets
+abbrev pub struct_names : FieldForm → Bool
+struct_names Named = true
+struct_names Unnamed = false
+struct_names NoFields = true
+
+-- so it is of a variant: where its fields have names
+abbrev pub variant_names : FieldForm → Bool
+variant_names Named = true
+variant_names Unnamed = false
+variant_names NoFields = false
+
+-- the name of the type that is shown, where nothing is said of that: of a struct its own, of an enum none
+abbrev pub own_type_name : Shape → TypeName
+own_type_name (Struct shape) = type_name.Default
+own_type_name (Enum variants) = type_name.Disable
+
+-- the forms of the attribute of `Debug` at a type: the trait alone, a name, also behind `=`, and `bound`; and at a struct whether the
+-- names of fields are shown
+abbrev pub debug_row : Shape → Row
+debug_row (Struct shape) =
+    debug.type_row (record { enable_flag = true; enable_name = true; enable_named_field = true; enable_bound = true; name = own_type_name (Struct shape); named_field = struct_names shape.form })
+debug_row (Enum variants) =
+    debug.type_row (record { enable_flag = true; enable_name = true; enable_named_field = false; enable_bound = true; name = own_type_name (Enum variants); named_field = false })
+
+-- the forms of the attribute of a trait at a type: the trait alone, and `bound`; for `Default` also `new` and a value; and for `Debug`
+-- those
+abbrev pub type_row : Trait → DeriveInput → Row
+type_row trait.Debug definition = debug_row definition.shape
+type_row trait.Default definition = default.type_row (record { enable_flag = true; enable_new = true; enable_expression = true; enable_bound = true })
+type_row _ definition = bound_row true true
 
 -- at a variant of a trait that is read field by field nothing may be said
 abbrev pub variant_row : Trait → Row

@@ -7,6 +7,7 @@ use Rattle.educe_bound_traits.specs.Traits.{is_listed}
 use Rattle.educe_laws.specs.Defaults.{AreDefaultsSaid}
 use Rattle.educe_laws.specs.Listed.{listed}
 use Rattle.educe_laws.specs.Settings.{AreSaid}
+use Rattle.educe_laws.specs.Shown.{AreShownSaid}
 
 -- the settings of a trait are what the attributes say of it
 abbrev pub AreSaidOf : Trait → DeriveInput → Type 0
@@ -17,8 +18,8 @@ AreSaidOf trait.Eq definition = AreSaid trait.Eq definition
 AreSaidOf trait.PartialOrd definition = AreSaid trait.PartialOrd definition
 AreSaidOf trait.Ord definition = AreSaid trait.Ord definition
 AreSaidOf trait.Hash definition = AreSaid trait.Hash definition
+AreSaidOf trait.Debug definition = AreShownSaid definition
 AreSaidOf trait.Default definition = AreDefaultsSaid definition
-AreSaidOf _ definition = ⊥
 
 -- so it is for each listed trait
 abbrev pub AreAllSaid : DeriveInput → Type 0

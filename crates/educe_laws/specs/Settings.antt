@@ -1,7 +1,8 @@
 -- What the attributes of a type, of its variants and of its fields say of a trait.
 use Rattle.std.specs.Prelude.{ℕ, ℤ, pos, ◌-ℤ◌, ◌+◌, ◌^◌, ◌<◌, ◌≤◌, ◌≡◌, Bool, true, false, not, List, [], ◌∷◌, map, Option, None, Some, if◌then◌else◌, unwrap_or}
-use Rattle.std.specs.List.{AllByRecursion, Contains}
+use Rattle.std.specs.List.{AllByRecursion, Contains, flat_map}
 use Rattle.educe_tokens.specs.declared.span.Span.{Span}
+use Rattle.educe_syntax.specs.Attribute.{Attribute}
 use Rattle.educe_syntax.specs.ExprPath.{ExprPath}
 use Rattle.educe_syntax.specs.Field.{Field}
 use Rattle.educe_syntax.specs.DeriveInput.{DeriveInput}
@@ -11,12 +12,15 @@ use Rattle.educe_attrs.specs.WherePredicatesOrBool.{WherePredicatesOrBool}
 use Rattle.educe_bound.specs.declared.bound.Bound.{Bound}
 use Rattle.educe_bound.specs.declared.bound.Bound.TheVariants.{Auto}
 use Rattle.educe_bound.specs.Bounds.{bound_of}
+use Rattle.educe_attrs.specs.Causes.{NoCause}
 use Rattle.educe_attrs.specs.FieldSettings.{FieldSettings}
 use Rattle.educe_attrs.specs.Fields.{settings_at}
 use Rattle.educe_attrs.specs.Compared.{number_of, place_of}
-use Rattle.educe_attrs.specs.Places.{place_settings, IsSaid, IsFieldSaid}
+use Rattle.educe_attrs.specs.Places.{place_settings, IsSaid, OfPlace, IsFieldSaid, OfField}
+use Rattle.educe_attrs.specs.Row.{Row}
 use Rattle.educe_bound_traits.specs.declared.traits.Trait.{Trait}
 use Rattle.educe_syntax.specs.Few.{variants_of, all_fields}
+use Rattle.educe_laws.specs.Cases.{cases_of}
 use Rattle.educe_laws.specs.Listed.{listed}
 use Rattle.educe_laws.specs.Ranks.{AreRanksApart}
 use Rattle.educe_laws.specs.Rows.{type_row, variant_row, field_row}
@@ -25,7 +29,7 @@ use Rattle.educe_laws.specs.Rows.{type_row, variant_row, field_row}
 
 -- the settings of the type
 abbrev pub type_settings : Trait → DeriveInput → Values
-type_settings which definition = place_settings which (type_row which) (listed definition) definition.attrs
+type_settings which definition = place_settings which (type_row which definition) (listed definition) definition.attrs
 
 -- those of a variant
 abbrev pub variant_settings : Trait → DeriveInput → Variant → Values
@@ -47,9 +51,19 @@ bound_for which definition = bound_said (type_settings which definition).bound
 -- The settings of the type, among them its bound, and those of each variant are what their attributes say of the trait. Those of
 -- each field are what its attributes say of it, or, where both orders are listed and an order has none of its own, of the other.
 pub record AreSaid (which : Trait) (definition : DeriveInput) : Type 0 where
-  pub type_said : IsSaid which (type_row which) definition.attrs (type_settings which definition)
+  pub type_said : IsSaid which (type_row which definition) definition.attrs (type_settings which definition)
   pub variants_said : AllByRecursion (λ (variant : Variant). IsSaid which (variant_row which) variant.attrs (variant_settings which definition variant)) (variants_of definition)
   pub fields_said : AllByRecursion (λ field. IsFieldSaid which (field_row which) (listed definition) field.attrs (settings_of which definition field)) (all_fields definition)
+
+-- the attributes of a place have no cause of a refusal by the forms of this row, and they say this
+pub record AreSettings (which : Trait) (row : Row) (definition : DeriveInput) (attributes : List Attribute) (values : Values) : Type 0 where
+  pub read : NoCause (OfPlace which row (listed definition) attributes)
+  pub said : IsSaid which row attributes values
+
+-- so it is of those of a field
+pub record AreFieldSettings (which : Trait) (row : Row) (definition : DeriveInput) (field : Field) (settings : FieldSettings) : Type 0 where
+  pub read : NoCause (OfField which row (listed definition) field.attrs)
+  pub said : IsFieldSaid which row (listed definition) field.attrs settings
 
 -- whether a field with these settings takes part
 abbrev pub keeps : FieldSettings → Bool
@@ -129,6 +143,10 @@ kept_from which definition place fields = kept_by place fields (map (settings_of
 -- those that take part among the fields of one case, in written order
 abbrev pub kept_fields : Trait → DeriveInput → List Field → List Kept
 kept_fields which definition fields = kept_from which definition 0 fields
+
+-- those of all cases
+abbrev pub all_kept : Trait → DeriveInput → List Kept
+all_kept which definition = flat_map (kept_fields which definition) (cases_of definition)
 
 -- no two of the fields have one rank
 abbrev pub RanksDiffer : List Kept → Type 0

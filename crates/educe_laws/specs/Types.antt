@@ -13,6 +13,7 @@ use Rattle.educe_laws.specs.Copying.{copies_whole}
 use Rattle.educe_laws.specs.Defaults.{default_types}
 use Rattle.educe_laws.specs.Listed.{listed}
 use Rattle.educe_laws.specs.Settings.{Kept, How, plainly, by_method, by_order, kept_fields}
+use Rattle.educe_laws.specs.Shown.{all_shown}
 use Rattle.educe_laws.specs.Steps.{IsInOrder}
 
 -- ---- the types of fields
@@ -71,8 +72,12 @@ abbrev pub AreCloneTypes : Bool → DeriveInput → List Ty → List Ty → Type
 AreCloneTypes true definition read touched = AreUnread [] read touched
 AreCloneTypes false definition read touched = AreOfFields trait.Clone definition read touched
 
--- the types of the fields that the functions of a trait read, and the types that have to have the trait; those of `Debug` are not
--- built yet
+-- all of these fields are read, and on some the trait's own function is called
+pub record AreOfThese (visited : List Kept) (read touched : List Ty) : Type 0 where
+  pub read_are : read ≡ read_types visited
+  pub touched_are : touched ≡ touched_types visited
+
+-- the types of the fields that the functions of a trait read, and the types that have to have the trait
 abbrev pub AreTypes : Trait → DeriveInput → List Ty → List Ty → Type 0
 AreTypes trait.Clone definition read touched = AreCloneTypes (copies_whole definition) definition read touched
 AreTypes trait.Copy definition read touched = AreUnread (map (λ (f : Field). f.ty) (all_fields definition)) read touched
@@ -81,5 +86,5 @@ AreTypes trait.Eq definition read touched = AreUnread (checked_types definition)
 AreTypes trait.PartialOrd definition read touched = AreOfFields trait.PartialOrd definition read touched
 AreTypes trait.Ord definition read touched = AreOfFields trait.Ord definition read touched
 AreTypes trait.Hash definition read touched = AreOfFields trait.Hash definition read touched
+AreTypes trait.Debug definition read touched = AreOfThese (all_shown definition) read touched
 AreTypes trait.Default definition read touched = AreUnread (default_types definition) read touched
-AreTypes _ definition read touched = ⊥

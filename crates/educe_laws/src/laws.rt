@@ -1,6 +1,7 @@
 //! Laws of what is derived that hold with no call: the functions do nothing, and their contracts are the
 //! laws.
 ghost use Rattle.educe_laws.specs.CloneLaws.{CloneLaws};
+ghost use Rattle.educe_laws.specs.DebugLaws.{DebugLaws};
 ghost use Rattle.educe_laws.specs.DefaultLaws.{DefaultLaws};
 ghost use Rattle.educe_laws.specs.EqLaws.{EqLaws};
 ghost use Rattle.educe_laws.specs.HashLaws.{HashLaws};
@@ -51,4 +52,12 @@ pub fn eq_laws()
 /// and of a marker are apart from each other and, `self` aside, no words of the input.
 pub fn clone_laws()
     ensures { CloneLaws }
+{}
+
+/// Where no field says something wrong of `Debug`, the function of its block shows what the attributes say:
+/// the name of a value, and an entry for each field that is shown, with its name, its method and its value.
+/// The names in the scope of a struct's function, of the arms of an enum's and of a marker are apart from
+/// each other and, `self` aside, no words of the input.
+pub fn debug_laws()
+    ensures { DebugLaws }
 {}

@@ -5,4 +5,6 @@
 
 mod laws;
 
-pub use laws::{clone_laws, comparison_laws, default_laws, eq_laws, hash_laws, trait_laws};
+pub use laws::{
+    clone_laws, comparison_laws, debug_laws, default_laws, eq_laws, hash_laws, trait_laws,
+};
