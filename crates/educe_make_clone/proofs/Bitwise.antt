@@ -20,7 +20,7 @@ use Rattle.educe_laws.specs.Copying.{is_empty, is_bitwise, copies_whole}
 use Rattle.educe_laws.specs.Listed.{listed}
 use Rattle.educe_laws.specs.Settings.{settings_of, bound_for}
 use Rattle.educe_make_markers.specs.Methods.{has_method}
-use Rattle.educe_make_markers.proofs.Variants.{tested_variants}
+use Rattle.educe_make_clone.proofs.Variants.{tested_variants}
 use Rattle.educe_make_clone.specs.Bitwise.{is_closed, is_closed_shape, is_unbounded}
 
 -- both tests of one item, and of the rest, in another order

@@ -34,8 +34,8 @@ is_unbounded definition bound = is_empty definition.generics.params || not (has_
 -- where `Copy` is listed, nothing that the type says of it is wrong
 abbrev pub IsCopyUncaused : DeriveInput → Type 0
 IsCopyUncaused definition =
-    is_listed (listed definition) trait.Copy ≡ true → NoCause (OfPlace trait.Copy (type_row trait.Copy) (listed definition) definition.attrs)
+    is_listed (listed definition) trait.Copy ≡ true → NoCause (OfPlace trait.Copy (type_row trait.Copy definition) (listed definition) definition.attrs)
 
 -- it is listed, and something is
 abbrev pub OfCopy : DeriveInput → EduceError → Type 0
-OfCopy definition e = (is_listed (listed definition) trait.Copy ≡ true) × OfPlace trait.Copy (type_row trait.Copy) (listed definition) definition.attrs e
+OfCopy definition e = (is_listed (listed definition) trait.Copy ≡ true) × OfPlace trait.Copy (type_row trait.Copy definition) (listed definition) definition.attrs e

@@ -1,6 +1,6 @@
 //! What the handler of `Clone` does.
-ghost use Rattle.std.specs.Prelude.{◌≡◌, [], OnOk, OnErr, IfOk, IfErr, codes};
-ghost use Rattle.std.specs.List.{list_any};
+ghost use Rattle.std.specs.Prelude.{◌≡◌, [], map, OnOk, OnErr, IfOk, IfErr, codes};
+ghost use Rattle.std.specs.List.{AllByRecursion};
 ghost use Rattle.educe_tokens.specs.Prefix.{HasPrefix};
 ghost use Rattle.educe_syntax.specs.DeriveInput.{DeriveInput};
 ghost use Rattle.educe_syntax.specs.Few.{all_fields};
@@ -11,6 +11,7 @@ ghost use Rattle.educe_attrs.specs.Phases.{OfHandler};
 ghost use Rattle.educe_bound.specs.Predicates.{keys_of};
 ghost use Rattle.educe_bound_traits.specs.declared.traits.Trait.TheVariants as derived;
 ghost use Rattle.educe_handlers.specs.CaseSettings.{settings_in};
+ghost use Rattle.educe_handlers.specs.Ranked.{kept_of};
 ghost use Rattle.educe_handlers.specs.SeenTypes.{read_of, touched_of, Sees};
 ghost use Rattle.educe_laws.specs.Blocks as spec;
 ghost use Rattle.educe_laws.specs.Cases.{cases_of};
@@ -22,21 +23,22 @@ ghost use Rattle.educe_laws.specs.Handlers.{IsReady, AddsBlock, AddsMeaning, Are
 ghost use Rattle.educe_laws.specs.Headers.{AreCopied, AreOf, IsHeader};
 ghost use Rattle.educe_laws.specs.Listed as listing;
 ghost use Rattle.educe_laws.specs.Rows.{field_row};
+ghost use Rattle.educe_laws.specs.Settings.{all_kept};
 ghost use Rattle.educe_laws.specs.Types.{AreCloneTypes};
 ghost use Rattle.educe_make_clone.specs.CloneNames.{names_of};
-ghost use Rattle.educe_make_markers.specs.Marking.{MayMarkAll};
-ghost use Rattle.educe_make_markers.specs.Methods.{has_method};
+ghost use Rattle.educe_make_markers.specs.Marking.{MayMark};
 ghost use Rattle.educe_syntax_self.specs.Heads.{AreNamed};
 
 use crate::clone_cases::{CloneBlocks, clone_blocks};
 use crate::clone_copying::can_use_bitwise_copy;
+use crate::clone_fields::all_kept;
 use crate::clone_names::CloneNames;
 use educe_attrs::{FieldSettings, Stop};
 use educe_body::{Body, Form, Forms, Functions, Item, Items};
 use educe_bound::Trait;
 use educe_handlers::{
-    Header, SeenTypes, Task, TraitHandlerContext, body_of, bound_of_type, function, header_of,
-    impl_item, is_copied, no_types, settings_of_cases,
+    Header, Ranked, SeenTypes, Task, TraitHandlerContext, body_of, bound_of_type, function,
+    header_of, impl_item, is_copied, no_types, settings_of_cases,
 };
 use educe_make_markers::{check_markers, has_custom_method, method_markers};
 use educe_syntax::{DeriveInput, Duplicate, Generics, Predicates};
@@ -126,21 +128,19 @@ fn clone_items(
     names: &CloneNames,
     generics: Generics,
     functions: Functions,
-    settings: &[Seq<FieldSettings>],
-    methods: bool,
+    kept: &[Ranked<'_, '_>],
 ) -> Result<Items, AllocError>
     requires names { AreCloneNames ast.now (names_of names.now) }
     requires header { IsHeader derived.Clone ast.now generics }
     requires functions { spec.AreCloneFunctions (copies_whole ast.now) ast.now (names_of names.now) functions }
-    requires settings { settings.now ≡ settings_in derived.Clone ast.now (cases_of ast.now) }
-    requires methods { methods ≡ list_any (list_any has_method) (settings_in derived.Clone ast.now (cases_of ast.now)) }
+    requires kept { map kept_of kept.now ≡ all_kept derived.Clone ast.now }
     requires named { AreNamed ast.now }
-    requires marks { MayMarkAll derived.Clone ast.now }
+    requires marks { AllByRecursion MayMark (map kept_of kept.now) }
     ensures { IfOk result (spec.IsCloneBlock ast.now) }
 {
     let item = impl_item(alloc, Trait::Clone, ast, generics, functions)?;
     let (which, own) = (Trait::Clone, &names.marker);
-    let markers = method_markers(alloc, which, ast, own, &item.generics, settings, methods)?;
+    let markers = method_markers(alloc, which, ast, own, &item.generics, kept)?;
     let mut items = Seq::new(alloc);
     items.push(Item::Impl(item))?;
     items.append(markers)?;
@@ -173,13 +173,14 @@ fn block(
     let settings = settings.as_slice();
     let methods = has_custom_method(settings);
     let copies = can_use_bitwise_copy(alloc, task, methods)?;
-    check_markers(alloc, Trait::Clone, ast, settings)?;
+    let kept = all_kept(alloc, task, settings)?;
+    check_markers(alloc, ast, &kept)?;
     let names = CloneNames::choose(alloc, ast)?;
     let copied = is_copied(alloc, ast)?;
     let mut types = no_types(alloc);
     let functions = functions(alloc, task, &names, settings, copied, copies, &mut types)?;
     let Header { generics, added } = header_of(alloc, task, &bound, &types, copied, ctx)?;
-    let items = clone_items(alloc, ast, &names, generics, functions, settings, methods)?;
+    let items = clone_items(alloc, ast, &names, generics, functions, &kept)?;
     Ok((items, added))
 }
 

@@ -1,5 +1,5 @@
 //! The names that the block of `Clone` declares.
-ghost use Rattle.std.specs.Prelude.{◌≡◌, IfOk};
+ghost use Rattle.std.specs.Prelude.{◌≡◌, None, IfOk};
 ghost use Rattle.educe_tokens.specs.Appends.{no_place};
 ghost use Rattle.educe_tokens.specs.Spells.{IsWord};
 ghost use Rattle.educe_handlers.specs.OneWord.{IsWord-prop};
@@ -24,6 +24,7 @@ pub struct CloneNames {
     /// What those of `self` in `clone_from` begin with.
     pub own: Spelling,
     pub ghost source_nowhere: { source.span ≡ no_place },
+    pub ghost unformatted: { marker.formatter ≡ None },
     pub ghost sources_word: { IsWord sources } by { IsWord-prop sources },
     pub ghost own_word: { IsWord own } by { IsWord-prop own },
 }
@@ -44,7 +45,11 @@ impl CloneNames {
         let value = select(alloc, &mut used, "educe__value")?;
         Ok(CloneNames {
             source,
-            marker: MarkerNames { function, value },
+            marker: MarkerNames {
+                function,
+                value,
+                formatter: None,
+            },
             sources,
             own,
         })

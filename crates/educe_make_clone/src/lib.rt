@@ -5,6 +5,7 @@ mod clone;
 mod clone_body;
 mod clone_cases;
 mod clone_copying;
+mod clone_fields;
 mod clone_from_body;
 mod clone_handling;
 mod clone_names;

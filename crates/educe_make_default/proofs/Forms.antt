@@ -92,11 +92,11 @@ variant_types d place v types is are = are ∙ sym (types_by d (of_variant place
 
 -- ---- what a handler has read of the type
 
-pub typed_by : (d : DeriveInput) (traits : List Trait) (values : Values) → traits ≡ listed d → values ≡ type_values d → NoCause (OfPlace Default (type_row Default) (listed d) d.attrs)
+pub typed_by : (d : DeriveInput) (traits : List Trait) (values : Values) → traits ≡ listed d → values ≡ type_values d → NoCause (OfPlace Default (type_row Default d) (listed d) d.attrs)
     → IsTyped d traits (is_none values.expression)
 typed_by d traits values same are read = record {
   traits_are = same;
-  own = record { read = read; said = lawful_settings.place_said Default (type_row Default) (listed d) d.attrs read };
+  own = record { read = read; said = lawful_settings.place_said Default (type_row Default d) (listed d) d.attrs read };
   bare_is = ap (λ (v : Values). is_none v.expression) are;
 }
 

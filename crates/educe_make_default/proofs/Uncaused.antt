@@ -32,7 +32,7 @@ use Rattle.educe_make_default.proofs.Choosing.{none_of_two, none_of_none}
 
 module _ (d : DeriveInput) where
   own_only : (own : Values) → AreTypeSettings d own → own ≡ type_values d
-  own_only own settings = lawful_settings.place_only Default (type_row Default) (listed d) d.attrs settings.read own settings.said
+  own_only own settings = lawful_settings.place_only Default (type_row Default d) (listed d) d.attrs settings.read own settings.said
 
   mark_only : (own : Values) → AreTypeSettings d own → (v : Variant) (mark : Values) → AreMarkSettings d own v mark → mark ≡ mark_values d v
   mark_only own settings v mark marks =
@@ -54,7 +54,7 @@ module _ (d : DeriveInput) where
 
 -- ---- why no cause stands
 
-module _ (d : DeriveInput) (lists : is_listed (listed d) Default ≡ true) (own_read : NoCause (OfPlace Default (type_row Default) (listed d) d.attrs)) (marks_read : AreMarksRead d (variants_of d))
+module _ (d : DeriveInput) (lists : is_listed (listed d) Default ≡ true) (own_read : NoCause (OfPlace Default (type_row Default d) (listed d) d.attrs)) (marks_read : AreMarksRead d (variants_of d))
     (read : AreRead d d.shape) where
   -- a field of a case has no cause
   field_clear : (fields : List Field) (written : Bool) → IsCase d fields written → (field : Field) → IsAmong field fields → NoCause (OfField Default (value_row written) (listed d) field.attrs)

@@ -1,6 +1,5 @@
 pub mod OwnMethods
-pub mod Visiting
-pub mod Variants
-pub mod Marking
-pub mod UnmarkedCases
+pub mod KeptFields
 pub mod Unbuilt
+pub mod Visiting
+pub mod Marking

@@ -1,29 +1,27 @@
 -- Which fields have markers that are built.
-use Rattle.std.specs.Prelude.{◌≡◌, Bool, true, Option, Some, None}
+use Rattle.std.specs.Prelude.{◌≡◌, Bool, true, false, List}
 use Rattle.educe_tokens.specs.declared.error.EduceError.{EduceError}
 use Rattle.educe_tokens.specs.declared.error.Kind.TheVariants.{NotBuilt}
 use Rattle.educe_tokens.specs.Refusals.{placeless}
 use Rattle.educe_syntax.specs.DeriveInput.{DeriveInput}
-use Rattle.educe_syntax.specs.ExprPath.{ExprPath}
-use Rattle.educe_syntax.specs.Few.{all_fields}
 use Rattle.educe_syntax.specs.Field.{Field}
 use Rattle.educe_attrs.specs.Among.{IsAmong}
-use Rattle.educe_bound_traits.specs.declared.traits.Trait.{Trait}
-use Rattle.educe_laws.specs.Handled.{has_plain_marker, IsUnbuiltMarker}
-use Rattle.educe_laws.specs.Settings.{settings_of}
+use Rattle.educe_laws.specs.Markers.{has_plain_marker}
+use Rattle.educe_laws.specs.Settings.{Kept, How, plainly, by_method, by_order}
 
--- the marker of a field with this method, if there is one, is built
-abbrev pub marks : DeriveInput → Field → Option ExprPath → Bool
-marks definition field None = true
-marks definition field (Some path) = has_plain_marker definition field path
+-- the marker of a field that is treated so, if there is one, is built
+abbrev pub marks_by : DeriveInput → Field → How → Bool
+marks_by definition field plainly = true
+marks_by definition field (by_method path) = has_plain_marker definition field path
+marks_by definition field (by_order path) = has_plain_marker definition field path
 
--- the field has no method, or its marker is built
-abbrev pub is_marked : Trait → DeriveInput → Field → Bool
-is_marked which definition field = marks definition field (settings_of which definition field).values.method
+-- so it is of a field that takes part
+abbrev pub marks : DeriveInput → Kept → Bool
+marks definition kept = marks_by definition kept.field kept.how
 
--- the marker of a field is not built
-pub record IsUnbuilt (which : Trait) (definition : DeriveInput) (e : EduceError) : Type 0 where
-  pub field : Field
-  pub among : IsAmong field (all_fields definition)
-  pub cause : IsUnbuiltMarker which definition field
+-- the marker of one of these fields is not built
+pub record IsUnbuilt (definition : DeriveInput) (fields : List Kept) (e : EduceError) : Type 0 where
+  pub kept : Kept
+  pub among : IsAmong kept fields
+  pub unbuilt : marks definition kept ≡ false
   pub is : e ≡ placeless NotBuilt

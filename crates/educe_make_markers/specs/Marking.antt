@@ -1,19 +1,19 @@
 -- The markers of fields with methods.
 use Rattle.std.specs.Prelude.{◌≡◌, ℕ, List, [], ◌∷◌, ◌++◌, map, Option, Some, None}
-use Rattle.std.specs.List.{AllByRecursion, AllZip, filter_map, flat_map}
+use Rattle.std.specs.List.{AllZip, filter_map}
 use Rattle.educe_syntax.specs.DeriveInput.{DeriveInput}
 use Rattle.educe_syntax.specs.ExprPath.{ExprPath}
 use Rattle.educe_syntax.specs.Generics.{Generics}
+use Rattle.educe_syntax.specs.Ident.{Ident}
 use Rattle.educe_syntax.specs.Ty.{Ty}
 use Rattle.educe_syntax_self.specs.Visits.{MayVisitType, MayVisitPath}
 use Rattle.educe_bound_traits.specs.declared.traits.Trait.{Trait}
 use Rattle.educe_body_items.specs.declared.items.Item.{Item}
 use Rattle.educe_body_items.specs.declared.items.Item.TheVariants.{Marker}
 use Rattle.educe_body_items.specs.declared.items.MarkerItem.{MarkerItem}
-use Rattle.educe_laws.specs.Cases.{cases_of}
 use Rattle.educe_laws.specs.Checks.{IsHeadFor}
 use Rattle.educe_laws.specs.Markers.{Marked, marked_by, IsMarker, AreMarkers}
-use Rattle.educe_laws.specs.Settings.{Kept, kept_fields}
+use Rattle.educe_laws.specs.Settings.{Kept}
 use Rattle.educe_make_markers.specs.declared.markers.MarkerNames.{MarkerNames}
 use Rattle.educe_make_markers.specs.declared.markers.MethodMarker.{MethodMarker}
 
@@ -26,17 +26,18 @@ MayVisitMarked (Some marked) = MayVisitType marked.ty × MayVisitPath marked.met
 abbrev pub MayMark : Kept → Type 0
 MayMark kept = MayVisitMarked (marked_by kept.how kept.field.ty)
 
--- and of all fields of a definition that take part
-abbrev pub MayMarkAll : Trait → DeriveInput → Type 0
-MayMarkAll which definition = AllByRecursion MayMark (flat_map (kept_fields which definition) (cases_of definition))
-
 -- what is put in place of `Self` is the head of the definition
 abbrev pub CanMark : MethodMarker → Type 0
 CanMark marking = IsHeadFor marking.ast.now marking.replace.now.head
 
+-- the text of a name, if there is one
+abbrev pub own_texts : Option Ident → List (List ℕ)
+own_texts None = []
+own_texts (Some name) = name.text ∷ []
+
 -- the texts of the names of a marker
 abbrev pub names_of : MarkerNames → List (List ℕ)
-names_of names = names.function.text ∷ names.value.text ∷ []
+names_of names = names.function.text ∷ names.value.text ∷ own_texts names.formatter
 
 -- the marker is that of a field of this type with this method
 abbrev pub IsMarkerOf : MethodMarker → Ty → ExprPath → MarkerItem → Type 0
@@ -55,8 +56,8 @@ pub record AddsMarkers (marking : MethodMarker) (fields : List Kept) (before aft
   pub is : after ≡ before ++ map Marker markers
   pub are : AllZip (λ (m : Marked) marker. IsMarkerOf marking m.ty m.method marker) (filter_map (λ (k : Kept). marked_by k.how k.field.ty) fields) markers
 
--- these are the markers of a definition for a trait, where the impl has these generics
-pub record AreAll (which : Trait) (definition : DeriveInput) (generics : Generics) (names : List (List ℕ)) (items : List Item) : Type 0 where
+-- these are the markers of those of these fields that have methods, for a trait whose impl has these generics
+pub record AreAll (which : Trait) (definition : DeriveInput) (generics : Generics) (names : List (List ℕ)) (fields : List Kept) (items : List Item) : Type 0 where
   pub markers : List MarkerItem
   pub is : items ≡ map Marker markers
-  pub are : AreMarkers which definition generics names markers
+  pub are : AreMarkers which definition generics names fields markers

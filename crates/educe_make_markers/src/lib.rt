@@ -5,7 +5,9 @@
 mod marker_checks;
 mod markers;
 mod methods;
+mod several_cases;
 
 pub use marker_checks::check_markers;
 pub use markers::{MarkerNames, method_markers};
 pub use methods::has_custom_method;
+pub use several_cases::add_case;

@@ -1,21 +1,16 @@
 //! Functions that call the methods of fields, so that these count as used and have to fit.
-ghost use Rattle.std.specs.Prelude.{◌≡◌, [], ◌∷◌, map, IfOk, OnOk};
-ghost use Rattle.std.specs.List.{AllByRecursion, list_any, flat_map};
+ghost use Rattle.std.specs.Prelude.{◌≡◌, ◌∷◌, [], ◌++◌, map, IfOk, OnOk};
+ghost use Rattle.std.specs.List.{AllByRecursion};
 ghost use Rattle.educe_syntax_self.specs.Heads.{AreNamed};
 ghost use Rattle.educe_syntax_self.specs.Visits.{MayVisitType, MayVisitPath};
-ghost use Rattle.educe_handlers.specs.CaseSettings.{settings_in};
 ghost use Rattle.educe_handlers.specs.Ranked.{kept_of};
-ghost use Rattle.educe_laws.specs.Cases.{fields_in, cases_of};
 ghost use Rattle.educe_laws.specs.Checks.{texts_of};
-ghost use Rattle.educe_laws.specs.Settings.{settings_of, kept_fields};
 ghost use Rattle.educe_make_markers.specs.Marking as spec;
-ghost use Rattle.educe_make_markers.specs.Methods.{has_method};
 
-use educe_attrs::FieldSettings;
 use educe_body::{Item, Items, MarkerItem, Names};
 use educe_bound::Trait;
-use educe_handlers::{How, Ranked, kept_fields, lint_attributes};
-use educe_syntax::{DeriveInput, Duplicate, ExprPath, Field, Generics, Ident, Shape, Variant};
+use educe_handlers::{How, Ranked, lint_attributes};
+use educe_syntax::{DeriveInput, Duplicate, ExprPath, Field, Generics, Ident};
 use educe_syntax_self::ReplaceSelf;
 use educe_tokens::{Seq, Word};
 use std::alloc::{AllocError, Global};
@@ -27,6 +22,8 @@ pub struct MarkerNames {
     pub function: Ident,
     /// The parameter of that.
     pub value: Ident,
+    /// The formatter that a method of `Debug` has besides.
+    pub formatter: Option<Ident>,
 }
 
 /// What the markers of a definition have in common.
@@ -41,6 +38,16 @@ pub struct MethodMarker<'a> {
     pub names: &'a MarkerNames,
 }
 
+/// Adds a name, if there is one, as a word.
+fn push_name(alloc: Global, name: &Option<Ident>, found: &mut Names) -> Result<(), AllocError>
+    ensures { OnOk result (texts_of found.new ≡ texts_of found.old ++ spec.own_texts name.now) }
+{
+    match name {
+        Some(name) => found.push(Word::new(name.text.duplicate(alloc)?)),
+        None => Ok(()),
+    }
+}
+
 /// The names of a marker, as words.
 fn marker_names(alloc: Global, names: &MarkerNames) -> Result<Names, AllocError>
     ensures { IfOk result (λ found. texts_of found ≡ spec.names_of names.now) }
@@ -48,6 +55,7 @@ fn marker_names(alloc: Global, names: &MarkerNames) -> Result<Names, AllocError>
     let mut found = Seq::new(alloc);
     found.push(Word::new(names.function.text.duplicate(alloc)?))?;
     found.push(Word::new(names.value.text.duplicate(alloc)?))?;
+    push_name(alloc, &names.formatter, &mut found)?;
     Ok(found)
 }
 
@@ -126,80 +134,18 @@ fn push_each(
     Ok(())
 }
 
-/// Those of the fields of a case, which have these settings.
-fn push_case(
-    alloc: Global,
-    marking: &MethodMarker<'_>,
-    fields: &[Field],
-    settings: &[FieldSettings],
-    items: &mut Items,
-) -> Result<(), AllocError>
-    requires can { spec.CanMark marking.now }
-    requires settings { settings.now ≡ map (settings_of marking.now.which marking.now.ast.now) fields.now }
-    requires marks { AllByRecursion spec.MayMark (kept_fields marking.now.which marking.now.ast.now fields.now) }
-    ensures { OnOk result (spec.AddsMarkers marking.now (kept_fields marking.now.which marking.now.ast.now fields.now) items.old items.new) }
-{
-    let kept = kept_fields(alloc, fields, settings)?;
-    push_each(alloc, marking, &kept, items)
-}
-
-/// Those of the fields of each variant.
-fn push_variants(
-    alloc: Global,
-    marking: &MethodMarker<'_>,
-    variants: &[Variant],
-    settings: &[Seq<FieldSettings>],
-    items: &mut Items,
-) -> Result<(), AllocError>
-    requires can { spec.CanMark marking.now }
-    requires settings { settings.now ≡ settings_in marking.now.which marking.now.ast.now (map fields_in variants.now) }
-    requires marks { AllByRecursion spec.MayMark (flat_map (kept_fields marking.now.which marking.now.ast.now) (map fields_in variants.now)) }
-    ensures { OnOk result (spec.AddsMarkers marking.now (flat_map (kept_fields marking.now.which marking.now.ast.now) (map fields_in variants.now)) items.old items.new) }
-{
-    for (place, variant) in variants.iter().enumerate() {
-        let fields = variant.fields.fields.as_slice();
-        push_case(alloc, marking, fields, settings[place].as_slice(), items)?;
-    }
-    Ok(())
-}
-
-/// Those of all fields of the definition.
-fn push_all(
-    alloc: Global,
-    marking: &MethodMarker<'_>,
-    settings: &[Seq<FieldSettings>],
-    items: &mut Items,
-) -> Result<(), AllocError>
-    requires can { spec.CanMark marking.now }
-    requires settings { settings.now ≡ settings_in marking.now.which marking.now.ast.now (cases_of marking.now.ast.now) }
-    requires marks { spec.MayMarkAll marking.now.which marking.now.ast.now }
-    ensures { OnOk result (spec.AddsMarkers marking.now (flat_map (kept_fields marking.now.which marking.now.ast.now) (cases_of marking.now.ast.now)) items.old items.new) }
-{
-    match &marking.ast.shape {
-        Shape::Struct(shape) => {
-            let fields = shape.fields.as_slice();
-            push_case(alloc, marking, fields, settings[0].as_slice(), items)
-        }
-        Shape::Enum(variants) => {
-            push_variants(alloc, marking, variants.as_slice(), settings, items)
-        }
-    }
-}
-
-/// The markers of the fields of a definition for a trait, where the impl has these generics and the fields
-/// have these settings, case by case.
-fn all_markers(
+/// The markers of these fields of a definition for a trait, where the impl has these generics.
+pub fn method_markers(
     alloc: Global,
     which: Trait,
     ast: &DeriveInput,
     names: &MarkerNames,
     generics: &Generics,
-    settings: &[Seq<FieldSettings>],
+    fields: &[Ranked<'_, '_>],
 ) -> Result<Items, AllocError>
     requires named { AreNamed ast.now }
-    requires settings { settings.now ≡ settings_in which ast.now (cases_of ast.now) }
-    requires marks { spec.MayMarkAll which ast.now }
-    ensures { IfOk result (spec.AreAll which ast.now generics.now (spec.names_of names.now)) }
+    requires marks { AllByRecursion spec.MayMark (map kept_of fields.now) }
+    ensures { IfOk result (spec.AreAll which ast.now generics.now (spec.names_of names.now) (map kept_of fields.now)) }
 {
     let replace = ReplaceSelf::new(alloc, ast)?;
     let marking = MethodMarker {
@@ -210,29 +156,6 @@ fn all_markers(
         names,
     };
     let mut items = Seq::new(alloc);
-    push_all(alloc, &marking, settings, &mut items)?;
+    push_each(alloc, &marking, fields, &mut items)?;
     Ok(items)
-}
-
-/// The same; with false no field has a method.
-pub fn method_markers(
-    alloc: Global,
-    which: Trait,
-    ast: &DeriveInput,
-    names: &MarkerNames,
-    generics: &Generics,
-    settings: &[Seq<FieldSettings>],
-    has_custom_method: bool,
-) -> Result<Items, AllocError>
-    requires named { AreNamed ast.now }
-    requires settings { settings.now ≡ settings_in which ast.now (cases_of ast.now) }
-    requires methods { has_custom_method ≡ list_any (list_any has_method) (settings_in which ast.now (cases_of ast.now)) }
-    requires marks { spec.MayMarkAll which ast.now }
-    ensures { IfOk result (spec.AreAll which ast.now generics.now (spec.names_of names.now)) }
-{
-    if has_custom_method {
-        all_markers(alloc, which, ast, names, generics, settings)
-    } else {
-        Ok(Seq::new(alloc))
-    }
 }

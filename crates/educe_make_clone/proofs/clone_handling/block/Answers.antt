@@ -1,24 +1,30 @@
-use Rattle.std.proofs.Common.{◌≡◌, Bool, true, inl, inr, refl, sym, subst}
+use Rattle.std.proofs.Common.{◌≡◌, ◌∙◌, Bool, true, List, map, inl, inr, refl, ap, sym, subst}
+use Rattle.std.specs.List.{AllByRecursion, list_all}
 use Rattle.educe_tokens.specs.declared.error.EduceError.{EduceError}
 use Rattle.educe_syntax.specs.DeriveInput.{DeriveInput}
 use Rattle.educe_syntax_self.proofs.Lawful.{lawful_definitions}
+use Rattle.educe_attrs.specs.Causes.{OfStop}
 use Rattle.educe_attrs.specs.Phases.{OfHandler}
 use Rattle.educe_attrs.specs.Places.{OfPlace}
+use Rattle.educe_attrs.specs.Stop.TheVariants.{Memory}
 use Rattle.educe_bound_traits.specs.declared.traits.Trait.TheVariants.{Clone}
 use Rattle.educe_bound_traits.specs.Traits.{is_listed}
+use Rattle.educe_handlers.specs.Ranked.{kept_of}
 use Rattle.educe_handlers.specs.SeenTypes.{read_of, touched_of}
 use Rattle.educe_handlers.proofs.Refused.{fields_uncaused, handler_uncaused}
 use Rattle.educe_laws.specs.Blocks.{AreCloneFunctions}
 use Rattle.educe_laws.specs.Handled.{IsFieldwiseCause, OfShape, handling}
 use Rattle.educe_laws.specs.Listed.{listed}
 use Rattle.educe_laws.specs.Rows.{type_row}
+use Rattle.educe_laws.specs.Settings.{Kept, all_kept}
 use Rattle.educe_laws.specs.Types.{AreCloneTypes}
 use Rattle.educe_laws.proofs.Refused.{type_refused, shape_refused}
 use Rattle.educe_laws.proofs.Stops.{stop_passed}
 use Rattle.educe_make_clone.specs.Bitwise.{OfCopy}
 use Rattle.educe_make_clone.specs.CloneNames.{names_of}
-use Rattle.educe_make_markers.specs.MarkerChecks.{IsUnbuilt}
-use Rattle.educe_make_markers.proofs.Visiting.{none_unmarked, markers_visit}
+use Rattle.educe_make_clone.proofs.CloneMarked.{marker_refused, none_unmarked, kept_visit}
+use Rattle.educe_make_markers.specs.MarkerChecks.{marks, IsUnbuilt}
+use Rattle.educe_make_markers.specs.Marking.{MayMark}
 use Rattle.educe_make_clone.proofs.clone_handling.block.Goals as goal
 
 -- what the type says of `Copy` is a cause of `Clone`
@@ -26,14 +32,10 @@ copy_refused : (d : DeriveInput) (e : EduceError) → OfCopy d e → OfHandler (
 copy_refused d e (lists, inl in_lists) = type_refused Clone refl d e (inl in_lists)
 copy_refused d e (lists, inr said) = inr (IsFieldwiseCause.by_copy refl lists said.1)
 
--- so is a marker that is not built
-marker_refused : (d : DeriveInput) (e : EduceError) → IsUnbuilt Clone d e → OfHandler (handling d) Clone e
-marker_refused d e unbuilt = inr (subst (IsFieldwiseCause Clone d) (sym unbuilt.is) (IsFieldwiseCause.by_marker unbuilt.field unbuilt.among unbuilt.cause))
-
 pub returns-in_err-bound-clause-err : goal.returns-in_err-bound-clause-err
 returns-in_err-bound-clause-err c =
     let ast = c.args.ast.now in
-    stop_passed (OfPlace Clone (type_row Clone) (listed ast) ast.attrs) (OfHandler (handling ast) Clone) (type_refused Clone refl ast)
+    stop_passed (OfPlace Clone (type_row Clone ast) (listed ast) ast.attrs) (OfHandler (handling ast) Clone) (type_refused Clone refl ast)
     c.from_residual.result c.in_err-bound.field-0.0 c.from_residual.ensures.1 c.in_err-bound.ensures.err
 
 pub returns-in_err-settings-clause-err : goal.returns-in_err-settings-clause-err
@@ -51,8 +53,9 @@ returns-in_err-copies-clause-err c =
 pub returns-in_err-check_markers-clause-err : goal.returns-in_err-check_markers-clause-err
 returns-in_err-check_markers-clause-err c =
     let ast = c.args.ast.now in
-    stop_passed (IsUnbuilt Clone ast) (OfHandler (handling ast) Clone) (marker_refused ast)
-    c.from_residual-in_err-check_markers.result c.in_err-check_markers.field-0.0 c.from_residual-in_err-check_markers.ensures.1 c.in_err-check_markers.ensures.err
+    stop_passed (IsUnbuilt ast (all_kept Clone ast)) (OfHandler (handling ast) Clone) (marker_refused ast)
+    c.from_residual-in_err-check_markers.result c.in_err-check_markers.field-0.0 c.from_residual-in_err-check_markers.ensures.1
+    (subst (λ (kept : List Kept). OfStop (IsUnbuilt ast kept) c.in_err-check_markers.field-0.0) (ap (map kept_of) c.deref.ensures.value ∙ c.in_ok-kept.ensures) c.in_err-check_markers.ensures.err)
 
 pub header_of-requires-clause-types : goal.header_of-requires-clause-types
 header_of-requires-clause-types c =
@@ -66,10 +69,15 @@ clone_items-requires-clause-functions c =
 pub clone_items-requires-clause-named : goal.clone_items-requires-clause-named
 clone_items-requires-clause-named c = lawful_definitions.named c.args.ast.now.tokens c.args.ast.now c.requires.is_read.whole
 
+pub clone_items-requires-clause-kept : goal.clone_items-requires-clause-kept
+clone_items-requires-clause-kept c = ap (map kept_of) c.deref-2.ensures.value ∙ c.in_ok-kept.ensures
+
 pub clone_items-requires-clause-marks : goal.clone_items-requires-clause-marks
 clone_items-requires-clause-marks c =
     let ast = c.args.ast.now in
-    markers_visit Clone ast c.in_ok-check_markers.ensures.uncaused c.requires.is_read (fields_uncaused Clone ast c.in_ok-settings.ensures.uncaused)
+    let built = subst (λ (kept : List Kept). list_all (marks ast) kept ≡ true) (ap (map kept_of) c.deref.ensures.value ∙ c.in_ok-kept.ensures) c.in_ok-check_markers.ensures.built in
+    subst (AllByRecursion MayMark) (sym (ap (map kept_of) c.deref-2.ensures.value ∙ c.in_ok-kept.ensures))
+    (kept_visit ast (fields_uncaused Clone ast c.in_ok-settings.ensures.uncaused) built c.requires.is_read)
 
 pub returns-clause-read : goal.returns-clause-read
 returns-clause-read c = fields_uncaused Clone c.args.ast.now c.in_ok-settings.ensures.uncaused
@@ -80,5 +88,11 @@ returns-clause-uncaused c =
     let is_one : is_listed (listed ast) Clone ≡ true = rw (← c.requires.traits_are) c.requires.lists in
     handler_uncaused Clone ast c.in_ok-settings.ensures.uncaused c.in_ok-bound.ensures.uncaused (record {
       copy = λ e clones lists said. (c.in_ok-copies.ensures.uncaused lists).none_stands e (inr (lists, said));
-      marked = none_unmarked Clone ast c.in_ok-check_markers.ensures.uncaused;
+      marked = none_unmarked ast (fields_uncaused Clone ast c.in_ok-settings.ensures.uncaused)
+          (subst (λ (kept : List Kept). list_all (marks ast) kept ≡ true) (ap (map kept_of) c.deref.ensures.value ∙ c.in_ok-kept.ensures) c.in_ok-check_markers.ensures.built);
     }) refl is_one
+
+pub returns-in_err-items-clause-err : goal.returns-in_err-items-clause-err
+returns-in_err-items-clause-err c =
+    let refuses = OfHandler (handling c.args.ast.now) Clone in
+    stop_passed refuses refuses (λ e cause. cause) c.from_residual-in_err-items.result Memory c.from_residual-in_err-items.ensures.1 tt

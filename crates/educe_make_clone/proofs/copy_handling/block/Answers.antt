@@ -16,7 +16,7 @@ use Rattle.educe_make_clone.proofs.copy_handling.block.Goals as goal
 pub returns-in_err-bound-clause-err : goal.returns-in_err-bound-clause-err
 returns-in_err-bound-clause-err c =
     let ast = c.args.ast.now in
-    stop_passed (OfPlace Copy (type_row Copy) (listed ast) ast.attrs) (OfHandler (handling ast) Copy) (type_refused Copy refl ast)
+    stop_passed (OfPlace Copy (type_row Copy ast) (listed ast) ast.attrs) (OfHandler (handling ast) Copy) (type_refused Copy refl ast)
     c.from_residual.result c.in_err-bound.field-0.0 c.from_residual.ensures.1 c.in_err-bound.ensures.err
 
 pub returns-in_err-check_places-clause-err : goal.returns-in_err-check_places-clause-err

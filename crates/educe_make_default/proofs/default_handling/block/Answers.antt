@@ -16,7 +16,7 @@ use Rattle.educe_make_default.proofs.default_handling.block.Goals as goal
 pub returns-in_err-values-clause-err : goal.returns-in_err-values-clause-err
 returns-in_err-values-clause-err c =
     let ast = c.args.ast.now in
-    stop_passed (OfPlace Default (type_row Default) (listed ast) ast.attrs) (OfHandler (handling ast) Default) (type_refused ast)
+    stop_passed (OfPlace Default (type_row Default ast) (listed ast) ast.attrs) (OfHandler (handling ast) Default) (type_refused ast)
     c.from_residual.result c.in_err-values.field-0.0 c.from_residual.ensures.1 c.in_err-values.ensures.err
 
 pub made-requires-clause-typed : goal.made-requires-clause-typed

@@ -19,7 +19,7 @@ use Rattle.educe_make_hash.proofs.hash_handling.block.Goals as goal
 pub returns-in_err-bound-clause-err : goal.returns-in_err-bound-clause-err
 returns-in_err-bound-clause-err c =
     let ast = c.args.ast.now in
-    stop_passed (OfPlace Hash (type_row Hash) (listed ast) ast.attrs) (OfHandler (handling ast) Hash) (type_refused Hash refl ast)
+    stop_passed (OfPlace Hash (type_row Hash ast) (listed ast) ast.attrs) (OfHandler (handling ast) Hash) (type_refused Hash refl ast)
     c.from_residual.result c.in_err-bound.field-0.0 c.from_residual.ensures.1 c.in_err-bound.ensures.err
 
 pub returns-in_err-body-clause-err : goal.returns-in_err-body-clause-err

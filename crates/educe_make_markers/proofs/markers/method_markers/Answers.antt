@@ -1,8 +1,9 @@
-use Rattle.std.proofs.Common.{[], sym, ◌∙◌}
-use Rattle.educe_make_markers.proofs.UnmarkedCases.{none_marked}
+use Rattle.std.proofs.Common.{List, ◌++◌, map, ap, ◌∙◌}
+use Rattle.educe_body_items.specs.declared.items.Item.{Item}
+use Rattle.educe_body_items.specs.declared.items.Item.TheVariants.{Marker}
 use Rattle.educe_make_markers.proofs.markers.method_markers.Goals as goal
 
-pub returns-else-has_custom_method : goal.returns-else-has_custom_method
-returns-else-has_custom_method c =
-    let none = none_marked c.args.which c.args.ast.now (sym c.requires.methods ∙ c.if-has_custom_method.false) in
-    record { markers = []; is = c.new.ensures; are = rw none tt }
+pub returns : goal.returns
+returns c =
+    let adds = c.in_ok-push_each.ensures in
+    record { markers = adds.markers; is = adds.is ∙ ap (λ (front : List Item). front ++ map Marker adds.markers) c.new-items.ensures; are = adds.are }
