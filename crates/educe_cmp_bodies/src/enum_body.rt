@@ -3,6 +3,7 @@ ghost use Rattle.std.specs.Prelude.{◌≡◌, List, IfOk};
 ghost use Rattle.std.specs.List.{AllZip};
 ghost use Rattle.educe_syntax.specs.DeriveInput.{DeriveInput};
 ghost use Rattle.educe_syntax.specs.Few as few;
+ghost use Rattle.educe_body_forms.specs.declared.form.Form as keyed;
 ghost use Rattle.educe_cmp_keys.specs.Names.{names_of};
 ghost use Rattle.educe_laws.specs.Arms as spec;
 ghost use Rattle.educe_laws.specs.Blocks.{IsEnumBody};
@@ -11,7 +12,7 @@ use crate::arms::match_block;
 use educe_body::{Arms, Body, Comparison, Form, Forms};
 use educe_cmp_keys::{Names, key_comparison, key_function};
 use educe_cmp_steps::{neutral, trait_of};
-use educe_handlers::{has_brackets, is_order};
+use educe_handlers::{block_of, has_brackets, is_order};
 use educe_syntax::{DeriveInput, Variant};
 use educe_tokens::{Boxed, Seq, Word};
 use std::alloc::{AllocError, Global};
@@ -81,6 +82,23 @@ fn decision(
     ))
 }
 
+/// What follows the key function of an enum, with these arms.
+fn keyed_decision(
+    alloc: Global,
+    which: Comparison,
+    ast: &DeriveInput,
+    names: &Names,
+    variants: &[Variant],
+    arms: Arms,
+) -> Result<Form, AllocError>
+    requires { AllZip (spec.IsArm which ast.now (names_of names.now)) variants.now arms }
+    ensures { let own = names_of names.now in
+        IfOk result (λ decision. (compares : keyed.Form) × spec.IsKeyComparison own compares × spec.IsDecision which ast.now own variants.now compares (spec.are_units variants.now) decision) }
+{
+    let compares = key_comparison(alloc, names)?;
+    decision(alloc, which, variants, compares, arms)
+}
+
 /// The block of an order of an enum.
 fn keyed_block(
     alloc: Global,
@@ -94,11 +112,8 @@ fn keyed_block(
     requires arms { AllZip (spec.IsArm which ast.now (names_of names.now)) variants.now arms }
     ensures { IfOk result (spec.IsKeyed which ast.now (names_of names.now) variants.now) }
 {
-    let keys = key_function(alloc, ast, names, variants)?;
-    let compares = key_comparison(alloc, names)?;
-    let mut block = Seq::new(alloc);
-    block.push(keys)?;
-    block.push(decision(alloc, which, variants, compares, arms)?)?;
+    let mut block = block_of(alloc, key_function(alloc, ast, names, variants)?)?;
+    block.push(keyed_decision(alloc, which, ast, names, variants, arms)?)?;
     Ok(block)
 }
 

@@ -27,16 +27,18 @@ use Rattle.educe_core.specs.Headline.{IsHandlerCause}
 use Rattle.educe_laws.specs.Listed.{listed, IsListingCause}
 use Rattle.educe_laws.specs.Rows.{type_row, variant_row, field_row}
 use Rattle.educe_laws.specs.Settings.{settings_of, rank_span_of, Kept, is_kept, kept_at, kept_from, kept_fields}
+use Rattle.educe_laws.specs.Shown.{ShownCase, naming_row, entry_row, IsVariantCase, IsShownCause}
 use Rattle.educe_attrs.specs.Laws.{lawful_reports}
 use Rattle.educe_attrs.specs.Messages.{HasMessage, IsBoundary}
 use Rattle.educe_laws.proofs.Elements.{each_joined, each_mapped, each_weaker, each_apart}
+use Rattle.educe_laws.proofs.ShownCauses.{case_within}
 
--- what holds of the causes of lists, of those of each trait that is read field by field, and of those of `Default` holds of those of the
--- listed traits
-each_listed : (d : DeriveInput) (Q : EduceError → Type 0) → ((e : EduceError) → IsListsCause d e → Q e)
-    → ((which : Trait) (e : EduceError) → IsFieldwiseCause which d e → Q e) → ((e : EduceError) → IsDefaultCause d e → Q e) → (e : EduceError) → IsListedCause d e → Q e
-each_listed d Q lists fieldwise defaults e (inl cause) = lists e cause
-each_listed d Q lists fieldwise defaults e (inr cause) = own cause.0 cause.2
+-- what holds of the causes of lists, of those of each trait that is read field by field, of those of `Debug` and of those of `Default`
+-- holds of those of the listed traits
+each_listed : (d : DeriveInput) (Q : EduceError → Type 0) → ((e : EduceError) → IsListsCause d e → Q e) → ((which : Trait) (e : EduceError) → IsFieldwiseCause which d e → Q e)
+    → ((e : EduceError) → IsShownCause d e → Q e) → ((e : EduceError) → IsDefaultCause d e → Q e) → (e : EduceError) → IsListedCause d e → Q e
+each_listed d Q lists fieldwise shown defaults e (inl cause) = lists e cause
+each_listed d Q lists fieldwise shown defaults e (inr cause) = own cause.0 cause.2
   where
     own : (which : Trait) → IsTraitCause d which e → Q e
     own trait.PartialEq cause = fieldwise trait.PartialEq e cause
@@ -45,7 +47,7 @@ each_listed d Q lists fieldwise defaults e (inr cause) = own cause.0 cause.2
     own trait.Ord cause = fieldwise trait.Ord e cause
     own trait.Hash cause = fieldwise trait.Hash e cause
     own trait.Default cause = defaults e cause
-    own trait.Debug cause = absurd cause
+    own trait.Debug cause = shown e cause
     own trait.Clone cause = fieldwise trait.Clone e cause
     own trait.Copy cause = fieldwise trait.Copy e cause
 
@@ -56,15 +58,25 @@ module _ (d : DeriveInput) where
   listing_message e cause = lawful_reports.listing_message d.attrs (end_of d.tokens) e cause
 
   fieldwise_message : (which : Trait) (e : EduceError) → IsFieldwiseCause which d e → HasMessage e
-  fieldwise_message which e (IsFieldwiseCause.by_type cause) = lawful_reports.said_message which (type_row which) d.attrs e cause
+  fieldwise_message which e (IsFieldwiseCause.by_type cause) = lawful_reports.said_message which (type_row which d) d.attrs e cause
   fieldwise_message which e (IsFieldwiseCause.by_variant variant among cause) = lawful_reports.said_message which (variant_row which) variant.attrs e cause
   fieldwise_message which e (IsFieldwiseCause.by_field field among cause) = lawful_reports.field_message which (field_row which) (listed d) field.attrs e cause
   fieldwise_message which e (IsFieldwiseCause.by_rank fields among cause) = subst HasMessage (sym cause.reuse.is) (record { kind = λ same. cc; words = refl })
-  fieldwise_message which e (IsFieldwiseCause.by_copy is_clone lists cause) = lawful_reports.said_message trait.Copy (type_row trait.Copy) d.attrs e cause
+  fieldwise_message which e (IsFieldwiseCause.by_copy is_clone lists cause) = lawful_reports.said_message trait.Copy (type_row trait.Copy d) d.attrs e cause
   fieldwise_message which _ (IsFieldwiseCause.by_marker field among unmarked) = record { kind = λ same. cc; words = refl }
 
+  shown_message : (e : EduceError) → IsShownCause d e → HasMessage e
+  shown_message e (IsShownCause.by_type cause) = lawful_reports.said_message trait.Debug (type_row trait.Debug d) d.attrs e cause
+  shown_message e (IsShownCause.by_variant variant among cause) = lawful_reports.said_message trait.Debug (naming_row variant) variant.attrs e cause
+  shown_message e (IsShownCause.by_field case field is among cause) = lawful_reports.field_message trait.Debug (entry_row case.named) (listed d) field.attrs e cause
+  shown_message _ (IsShownCause.by_struct case is nameless) = record { kind = λ same. cc; words = refl }
+  shown_message _ (IsShownCause.by_bracketed_variant variant case is bracketed nameless) = record { kind = λ same. cc; words = refl }
+  shown_message _ (IsShownCause.by_unit_variant variant case is unit nameless) = record { kind = λ same. cc; words = refl }
+  shown_message _ (IsShownCause.by_empty_enum nameless) = record { kind = λ same. cc; words = refl }
+  shown_message _ (IsShownCause.by_marker case field is among unbuilt) = record { kind = λ same. cc; words = refl }
+
   default_message : (e : EduceError) → IsDefaultCause d e → HasMessage e
-  default_message e (IsDefaultCause.by_type cause) = lawful_reports.said_message trait.Default (type_row trait.Default) d.attrs e cause
+  default_message e (IsDefaultCause.by_type cause) = lawful_reports.said_message trait.Default (type_row trait.Default d) d.attrs e cause
   default_message e (IsDefaultCause.by_variant own variant settings among cause) =
       lawful_reports.said_message trait.Default (mark_row (is_none own.expression)) variant.attrs e cause
   default_message e (IsDefaultCause.by_field fields written field case among cause) =
@@ -74,7 +86,7 @@ module _ (d : DeriveInput) where
 
   pub listed_message : (e : EduceError) → IsListedCause d e → HasMessage e
   listed_message e cause =
-      each_listed d HasMessage (λ e lists. lawful_reports.place_message (listed d) lists.attributes e lists.cause) fieldwise_message default_message e cause
+      each_listed d HasMessage (λ e lists. lawful_reports.place_message (listed d) lists.attributes e lists.cause) fieldwise_message shown_message default_message e cause
 
   pub handler_words : (e : EduceError) → IsHandlerCause d e → HasWords e.kind e.words
   handler_words e (IsHandlerCause.listing cause) = (listing_message e cause).words
@@ -148,7 +160,7 @@ module _ (tokens : List Token) (d : DeriveInput) (placed : IsDefinitionPlaced to
       subst (λ (e : EduceError). Starts e.span) (sym cause.is) (subst Starts (sym cause.reuses.place_is) later)
 
   fieldwise_placed : (which : Trait) (e : EduceError) → IsFieldwiseCause which d e → Starts e.span
-  fieldwise_placed which e (IsFieldwiseCause.by_type cause) = lawful_reports.said_placed tokens d.attrs placed.attrs which (type_row which) e cause
+  fieldwise_placed which e (IsFieldwiseCause.by_type cause) = lawful_reports.said_placed tokens d.attrs placed.attrs which (type_row which d) e cause
   fieldwise_placed which e (IsFieldwiseCause.by_variant variant among cause) =
       let here = one_among (IsVariantPlaced tokens) (variants_of d) variant placed.variants among in
       lawful_reports.said_placed tokens variant.attrs here.attrs which (variant_row which) e cause
@@ -156,8 +168,29 @@ module _ (tokens : List Token) (d : DeriveInput) (placed : IsDefinitionPlaced to
       let here = one_among (IsFieldPlaced tokens) (all_fields d) field placed.fields among in
       lawful_reports.field_placed tokens field.attrs here.attrs which (field_row which) (listed d) e cause
   fieldwise_placed which e (IsFieldwiseCause.by_rank fields among cause) = rank_placed which fields among e cause.reuse
-  fieldwise_placed which e (IsFieldwiseCause.by_copy is_clone lists cause) = lawful_reports.said_placed tokens d.attrs placed.attrs trait.Copy (type_row trait.Copy) e cause
+  fieldwise_placed which e (IsFieldwiseCause.by_copy is_clone lists cause) = lawful_reports.said_placed tokens d.attrs placed.attrs trait.Copy (type_row trait.Copy d) e cause
   fieldwise_placed which _ (IsFieldwiseCause.by_marker field among unmarked) = IsBoundary.beginning
+
+  -- a variant of a case stands among the tokens
+  shown_variant : (variant : Variant) (case : ShownCase) → IsVariantCase d variant case → IsVariantPlaced tokens variant
+  shown_variant variant case is =
+      let all = subst (λ (s : Shape). AllByRecursion (IsVariantPlaced tokens) (shape_variants s)) is.is placed.variants in
+      one_among (IsVariantPlaced tokens) is.variants variant all is.among
+
+  shown_placed : (e : EduceError) → IsShownCause d e → Starts e.span
+  shown_placed e (IsShownCause.by_type cause) = lawful_reports.said_placed tokens d.attrs placed.attrs trait.Debug (type_row trait.Debug d) e cause
+  shown_placed e (IsShownCause.by_variant variant among cause) =
+      let here = one_among (IsVariantPlaced tokens) (variants_of d) variant placed.variants among in
+      lawful_reports.said_placed tokens variant.attrs here.attrs trait.Debug (naming_row variant) e cause
+  shown_placed e (IsShownCause.by_field case field is among cause) =
+      let here = one_among (IsFieldPlaced tokens) (all_fields d) field placed.fields (case_within d case is field among) in
+      lawful_reports.field_placed tokens field.attrs here.attrs trait.Debug (entry_row case.named) (listed d) e cause
+  shown_placed _ (IsShownCause.by_struct case is nameless) = IsBoundary.start d.ident.span placed.name
+  shown_placed _ (IsShownCause.by_bracketed_variant variant case is bracketed nameless) = IsBoundary.start variant.ident.span (shown_variant variant case is).name
+  shown_placed _ (IsShownCause.by_unit_variant variant case is unit nameless) =
+      let span = (shown_variant variant case is).span in subst Starts (sym span.is) (IsBoundary.start span.first span.first_stands)
+  shown_placed _ (IsShownCause.by_empty_enum nameless) = IsBoundary.start d.ident.span placed.name
+  shown_placed _ (IsShownCause.by_marker case field is among unbuilt) = IsBoundary.beginning
 
   -- the fields of a case whose attributes `Default` reads stand among the tokens
   case_placed : (fields : List Field) (written : Bool) → IsCase d fields written → AreFieldsPlaced tokens fields
@@ -178,10 +211,10 @@ module _ (tokens : List Token) (d : DeriveInput) (placed : IsDefinitionPlaced to
   -- and the attribute of a type of which no variant is marked
   none_placed : (place : Span) → IsNoneMarked d place → Starts place
   none_placed place none =
-      subst Starts (sym none.place_is) (lawful_reports.span_placed tokens d.attrs placed.attrs trait.Default (type_row trait.Default) none.own none.chooses.settings.said)
+      subst Starts (sym none.place_is) (lawful_reports.span_placed tokens d.attrs placed.attrs trait.Default (type_row trait.Default d) none.own none.chooses.settings.said)
 
   default_placed : (e : EduceError) → IsDefaultCause d e → Starts e.span
-  default_placed e (IsDefaultCause.by_type cause) = lawful_reports.said_placed tokens d.attrs placed.attrs trait.Default (type_row trait.Default) e cause
+  default_placed e (IsDefaultCause.by_type cause) = lawful_reports.said_placed tokens d.attrs placed.attrs trait.Default (type_row trait.Default d) e cause
   default_placed e (IsDefaultCause.by_variant own variant settings among cause) =
       let here = one_among (IsVariantPlaced tokens) (variants_of d) variant placed.variants among in
       lawful_reports.said_placed tokens variant.attrs here.attrs trait.Default (mark_row (is_none own.expression)) e cause
@@ -195,5 +228,5 @@ module _ (tokens : List Token) (d : DeriveInput) (placed : IsDefinitionPlaced to
   pub handler_placed : (e : EduceError) → IsHandlerCause d e → IsBoundary tokens e.span.start
   handler_placed e (IsHandlerCause.listing cause) = lawful_reports.listing_placed tokens d.attrs placed.attrs (end_of d.tokens) e cause
   handler_placed e (IsHandlerCause.unbuilt none never) = IsBoundary.beginning
-  handler_placed e (IsHandlerCause.handled none built cause) = each_listed d (λ e. Starts e.span) lists_placed fieldwise_placed default_placed e cause
+  handler_placed e (IsHandlerCause.handled none built cause) = each_listed d (λ e. Starts e.span) lists_placed fieldwise_placed shown_placed default_placed e cause
   handler_placed e IsHandlerCause.memory = IsBoundary.beginning

@@ -17,7 +17,10 @@ use educe_body::Items;
 use educe_bound::{Trait, is_listed};
 use educe_cmp::{EqHandler, OrdHandler, PartialEqHandler, PartialOrdHandler};
 use educe_handlers::{TraitHandler, TraitHandlerContext};
-use educe_make::{CloneHandler, CopyHandler, DefaultHandler, HashHandler};
+use educe_make_clone::{CloneHandler, CopyHandler};
+use educe_make_debug::DebugHandler;
+use educe_make_default::DefaultHandler;
+use educe_make_hash::HashHandler;
 use educe_syntax::DeriveInput;
 use educe_tokens::Seq;
 use std::alloc::Global;
@@ -60,6 +63,7 @@ pub fn blocks(alloc: Global, ast: &DeriveInput, listed: &[Trait]) -> Result<Item
 {
     let mut ctx = TraitHandlerContext::new(alloc);
     let mut items = Seq::new(alloc);
+    handle::<DebugHandler>(alloc, ast, &mut ctx, &mut items, listed)?;
     handle::<CloneHandler>(alloc, ast, &mut ctx, &mut items, listed)?;
     handle::<CopyHandler>(alloc, ast, &mut ctx, &mut items, listed)?;
     handle::<PartialEqHandler>(alloc, ast, &mut ctx, &mut items, listed)?;

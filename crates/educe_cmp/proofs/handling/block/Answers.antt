@@ -34,7 +34,7 @@ pub returns-in_err-bound-clause-err : goal.returns-in_err-bound-clause-err
 returns-in_err-bound-clause-err c =
     let which = c.args.task.which in
     let ast = c.args.task.ast.now in
-    stop_passed (OfPlace which (type_row which) (listed ast) ast.attrs) (OfHandler (handling ast) which) (type_refused which (fieldwise c.args.which which c.requires.same) ast)
+    stop_passed (OfPlace which (type_row which ast) (listed ast) ast.attrs) (OfHandler (handling ast) which) (type_refused which (fieldwise c.args.which which c.requires.same) ast)
     c.from_residual.result c.in_err-bound.field-0.0 c.from_residual.ensures.1 c.in_err-bound.ensures.err
 
 pub returns-in_err-body-clause-err : goal.returns-in_err-body-clause-err

@@ -30,7 +30,7 @@ returns-in_err-bound-clause-err c =
     let which = c.args.task.which in
     let ast = c.args.task.ast.now in
     subst (λ own. IfErr c.from_residual.result (λ s. OfStop (OfHandler (handling ast) own) s)) c.requires.equality
-    (stop_passed (OfPlace which (type_row which) (listed ast) ast.attrs) (OfHandler (handling ast) which) (type_refused which (fieldwise which c.requires.equality) ast) c.from_residual.result
+    (stop_passed (OfPlace which (type_row which ast) (listed ast) ast.attrs) (OfHandler (handling ast) which) (type_refused which (fieldwise which c.requires.equality) ast) c.from_residual.result
     c.in_err-bound.field-0.0 c.from_residual.ensures.1 c.in_err-bound.ensures.err)
 
 pub returns-in_err-check_places-clause-err : goal.returns-in_err-check_places-clause-err
@@ -44,7 +44,7 @@ returns-in_err-check_places-clause-err c =
 
 pub checked_types-requires-clause-uncaused : goal.checked_types-requires-clause-uncaused
 checked_types-requires-clause-uncaused c = λ lists. record {
-  none_stands = λ e cause. (c.requires.ready.uncaused.1.1.0 lists).none_stands e (shape_refused PartialEq refl c.args.task.ast.now e cause);
+  none_stands = λ e cause. (c.requires.ready.uncaused.1.1.1.0 lists).none_stands e (shape_refused PartialEq refl c.args.task.ast.now e cause);
 }
 
 pub eq_items-requires-clause-named : goal.eq_items-requires-clause-named

@@ -1,0 +1,32 @@
+//! The forms of the attribute `Debug`.
+ghost use Rattle.std.specs.Prelude.{◌≡◌};
+ghost use Rattle.educe_laws.specs.Shown as spec;
+
+use educe_attrs::{Equals, NameKind, Row};
+use educe_handlers::variant_names;
+use educe_syntax::Variant;
+
+/// What a variant allows: a name, also behind `=`, and whether the names of its fields are shown.
+pub fn naming_row(variant: &Variant) -> Row
+    ensures { result ≡ spec.naming_row variant.now }
+{
+    Row {
+        equals: Equals::Ident,
+        name: Some(NameKind::Name(false)),
+        named_field: Some(!variant_names(variant.fields.form)),
+        ..Row::EMPTY
+    }
+}
+
+/// What a field allows: `ignore` and `method`, and where the names of fields are shown its name.
+pub fn entry_row(named: bool) -> Row
+    ensures { result ≡ spec.entry_row named }
+{
+    Row {
+        equals: if named { Equals::Name } else { Equals::Truth },
+        name: if named { Some(NameKind::Ident) } else { None },
+        ignore: true,
+        method: true,
+        ..Row::EMPTY
+    }
+}

@@ -1,0 +1,50 @@
+//! What the attributes of a definition say of `Debug`.
+ghost use Rattle.std.specs.Prelude.{◌≡◌, map, IfOk, IfErr};
+ghost use Rattle.educe_syntax.specs.Few.{variants_of};
+ghost use Rattle.educe_attrs.specs.Among.{IsAmong};
+ghost use Rattle.educe_attrs.specs.Causes.{OfStop};
+ghost use Rattle.educe_attrs.specs.Fields.{OfFields, HaveNoCauses};
+ghost use Rattle.educe_attrs.specs.Phases.{OfHandler};
+ghost use Rattle.educe_bound_traits.specs.declared.traits.Trait.TheVariants.{Debug};
+ghost use Rattle.educe_laws.specs.Handled.{handling};
+ghost use Rattle.educe_laws.specs.Listed as listing;
+ghost use Rattle.educe_laws.specs.Shown as spec;
+ghost use Rattle.educe_make_debug.specs.Cases.{IsNamingRead};
+
+use crate::debug_rows::{entry_row, naming_row};
+use educe_attrs::{FieldSettings, Stop, Values, place_settings, settings_of_fields};
+use educe_bound::Trait;
+use educe_handlers::Task;
+use educe_syntax::{Field, Variant};
+use educe_tokens::Seq;
+use std::alloc::Global;
+
+/// What the attributes of a variant say of `Debug`. It is refused exactly where they have a cause, or
+/// memory fails.
+pub fn naming_values(alloc: Global, task: Task<'_, '_>, variant: &Variant) -> Result<Values, Stop>
+    requires listed { task.listed.now ≡ listing.listed task.ast.now }
+    requires stands { IsAmong variant.now (variants_of task.ast.now) }
+    ensures are { IfOk result (λ values. values ≡ spec.naming_values task.entry.ast.now variant.now) }
+    ensures uncaused { IfOk result (λ _. IsNamingRead task.entry.ast.now variant.now) }
+    ensures err { IfErr result (λ s. OfStop (OfHandler (handling task.entry.ast.now) Debug) s) }
+{
+    let (row, attributes) = (naming_row(variant), variant.attrs.as_slice());
+    place_settings(alloc, Trait::Debug, &row, task.listed, attributes)
+}
+
+/// What the attributes of these fields say of it, in their order, where the names of fields are shown or
+/// not. They are refused exactly where an attribute of one of them is wrong, or memory fails.
+pub fn entry_settings(
+    alloc: Global,
+    task: Task<'_, '_>,
+    named: bool,
+    fields: &[Field],
+) -> Result<Seq<FieldSettings>, Stop>
+    requires { task.listed.now ≡ listing.listed task.ast.now }
+    ensures are { IfOk result (λ all. all ≡ map (spec.entry_settings named task.entry.ast.now) fields.now) }
+    ensures uncaused { IfOk result (λ _. HaveNoCauses Debug (spec.entry_row named) (listing.listed task.entry.ast.now) fields.now) }
+    ensures err { IfErr result (λ s. OfStop (OfFields Debug (spec.entry_row named) (listing.listed task.entry.ast.now) fields.now) s) }
+{
+    let row = entry_row(named);
+    settings_of_fields(alloc, Trait::Debug, &row, task.listed, fields)
+}
