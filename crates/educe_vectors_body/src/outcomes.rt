@@ -1,5 +1,5 @@
 //! What bodies evaluate to, as tests compare it.
-ghost use Rattle.std.specs.Prelude.{◌≡◌};
+ghost use Rattle.std.specs.Prelude.{◌≡◌, IfSome};
 ghost use Rattle.educe_vectors_body.specs.Outcomes.{shown};
 
 use educe_body::{FieldValue, Outcome};
@@ -21,11 +21,11 @@ pub enum Seen<'a> {
     Stuck,
 }
 
-/// What a body evaluates to, lent.
-pub fn lent(outcome: &Outcome) -> Seen<'_>
-    ensures { shown result ≡ outcome.now }
+/// What a body evaluates to, lent. What `fmt` shows is none of these: tests compare its text.
+pub fn lent(outcome: &Outcome) -> Option<Seen<'_>>
+    ensures { IfSome result (λ seen. shown seen ≡ outcome.now) }
 {
-    match outcome {
+    let seen = match outcome {
         Outcome::Truth(b) => Seen::Truth(*b),
         Outcome::Order(o) => Seen::Order(*o),
         Outcome::PartialOrder(p) => Seen::PartialOrder(*p),
@@ -33,5 +33,7 @@ pub fn lent(outcome: &Outcome) -> Seen<'_>
         Outcome::Made(value) => Seen::Made(value.variant, value.fields.as_slice()),
         Outcome::Whole(x) => Seen::Whole(*x),
         Outcome::Stuck => Seen::Stuck,
-    }
+        Outcome::Shape(_) => return None,
+    };
+    Some(seen)
 }

@@ -88,6 +88,9 @@ pub enum Answer {
     /// The function `clone_from` evaluates so over each of these pairs of values, where a table is told
     /// this.
     ClonesFrom(Told, &'static [Pair]),
+    /// What `fmt` shows of each of these values prints as this text, where each field prints as its
+    /// number.
+    Shows(&'static [(Held, &'static str)]),
     /// `expand` refuses with this line.
     Line(&'static str),
     /// `expand` refuses with one of these lines.

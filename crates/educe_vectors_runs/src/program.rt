@@ -7,6 +7,7 @@ use std::alloc::{AllocError, Global};
 use std::test::Fail;
 
 pub mod bodies;
+pub mod shapes;
 
 /// What a run answers and writes.
 #[derive(Drop)]

@@ -6,3 +6,4 @@ mod enum_orders;
 mod hashes;
 mod methods;
 mod packed;
+mod shapes;

@@ -133,7 +133,7 @@ fn outcome_of(
 fn check(alloc: Global, answers: &Answers, cases: &[Case]) -> Result<(), Fail> {
     for case in cases {
         let found = outcome_of(alloc, &definition(alloc, case.0)?, case, answers)?;
-        check_at(case.1, lent(&found), case.3)?;
+        check_at(case.1, lent(&found), Some(case.3))?;
     }
     Ok(())
 }

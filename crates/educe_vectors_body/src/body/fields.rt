@@ -100,7 +100,7 @@ type Case<'a> = (&'a str, &'a str, usize, usize, Seen<'a>);
 fn check_orders(alloc: Global, cases: &[Case]) -> Result<(), Fail> {
     for (source, keys, first, second, expected) in cases {
         let found = order(alloc, source, keys, *first, *second)?;
-        check_at(*source, lent(&found), *expected)?;
+        check_at(*source, lent(&found), Some(*expected))?;
     }
     Ok(())
 }

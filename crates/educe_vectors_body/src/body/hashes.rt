@@ -66,7 +66,7 @@ fn outcome_of(alloc: Global, case: &Case) -> Result<Outcome, Fail> {
 fn check(alloc: Global, cases: &[Case]) -> Result<(), Fail> {
     for case in cases {
         let found = outcome_of(alloc, case)?;
-        check_at(case.1, lent(&found), case.2)?;
+        check_at(case.1, lent(&found), Some(case.2))?;
     }
     Ok(())
 }

@@ -119,7 +119,7 @@ fn built(alloc: Global, case: &Built) -> Result<Outcome, Fail> {
 fn check_built(alloc: Global, cases: &[Built<'static>]) -> Result<(), Fail> {
     for case in cases {
         let found = built(alloc, case)?;
-        check_at(case.2, lent(&found), case.3)?;
+        check_at(case.2, lent(&found), Some(case.3))?;
     }
     Ok(())
 }
@@ -180,7 +180,7 @@ type Whole<'a> = (&'a [&'a str], &'a str, Seen<'a>);
 fn check_wholes(alloc: Global, cases: &[Whole]) -> Result<(), Fail> {
     for case in cases {
         let found = evaluated(alloc, "struct S(u8);", case.0, pasted(alloc, case.1)?)?;
-        check_at(case.1, lent(&found), case.2)?;
+        check_at(case.1, lent(&found), Some(case.2))?;
     }
     Ok(())
 }

@@ -6,6 +6,7 @@ use crate::program::bodies::{
     check_clones, check_clones_from, check_hashes, check_made, check_pairs, evaluated_by,
     evaluated_first,
 };
+use crate::program::shapes::check_shows;
 use crate::program::{Case, check_holds, check_holds_each, check_notes, check_one_of};
 use educe_body::Comparison;
 use educe_tokens::{EduceError, Kind, Token, int_value, string_value};
@@ -86,6 +87,7 @@ fn check(alloc: Global, example: &Example) -> Result<(), Fail> {
         Answer::Made(told, outcome) => check_made(alloc, source, told, *outcome),
         Answer::Clones(told, values) => check_clones(alloc, source, told, values),
         Answer::ClonesFrom(told, pairs) => check_clones_from(alloc, source, told, pairs),
+        Answer::Shows(values) => check_shows(alloc, source, values),
         Answer::Line(line) => Case::of(source.as_bytes(), 1, "", line).check(alloc),
         Answer::OneOf(lines) => check_one_of(alloc, source, lines),
         Answer::Printed(text) => check_at(*source, printed_source(alloc, source)?.as_str(), *text),

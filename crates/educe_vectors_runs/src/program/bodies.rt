@@ -15,7 +15,7 @@ use std::alloc::{AllocError, Global};
 use std::test::Fail;
 
 /// What a text is expanded to.
-fn expansion(alloc: Global, source: &str) -> Result<Expansion, Fail> {
+pub(crate) fn expansion(alloc: Global, source: &str) -> Result<Expansion, Fail> {
     if source.len() > SOURCE_LIMIT {
         return Err(Fail::from("too long"));
     }
@@ -49,7 +49,7 @@ fn body_of(items: &Items, index: usize) -> Option<&Body> {
 }
 
 /// The body of the function of the impl of a trait.
-fn body_for(items: &Items, which: Trait) -> Option<&Body> {
+pub(crate) fn body_for(items: &Items, which: Trait) -> Option<&Body> {
     for item in items.as_slice() {
         match item {
             Item::Impl(item) => {
