@@ -202,7 +202,14 @@ shapes = [
     ("clone_packed", lambda size: "#[repr(packed)]" + filled(size - 15, "Clone", lambda n: f"f{n}:u8,")),
     ("copied", lambda size: filled(size, "Clone,Copy", lambda n: f"f{n}:u8,")),
     ("copied_generic", numbered("#[educe(Clone,Copy)] struct S<T> {", lambda n: f"f{n}:W<T>,", "}")),
-    ("all_eight", lambda size: filled(size, "Clone,Copy,PartialEq,Eq,PartialOrd,Ord,Hash,Default", lambda n: f"f{n}:u8,")),
+    ("debug_fields", lambda size: filled(size, "Debug", lambda n: f"f{n}:u8,")),
+    ("debug_data", numbered("#[educe(Debug)] enum E {", lambda n: f"V{n}(u8,u8),", "}")),
+    ("debug_variant", numbered("#[educe(Debug)] enum E {A,B{", lambda n: f"f{n}:u8,", "}}")),
+    ("debug_units", numbered("#[educe(Debug)] enum E {", lambda n: f"V{n},", "}")),
+    ("debug_map", numbered("#[educe(Debug(name=false))] struct S {", lambda n: f"f{n}:u8,", "}")),
+    ("debug_methods", lambda size: filled(size, "Debug", lambda n: f"#[educe(Debug(method(m{n})))]f{n}:u8,")),
+    ("all_nine", lambda size: filled(size, "Debug,Clone,Copy,PartialEq,Eq,PartialOrd,Ord,Hash,Default", lambda n: f"f{n}:u8,")),
+    ("nine_data", numbered("#[educe(Debug,Clone,PartialEq,Eq,PartialOrd,Ord,Hash,Default)] enum E {#[educe(Default)]A,", lambda n: f"V{n}(u8,u8),", "}")),
 ]
 for name, make in shapes:
     for kib in (16, 32, 64, 128):
@@ -216,7 +223,7 @@ ratio() {
 }
 
 printf '%-18s %7s %8s %7s %10s %7s %9s\n' shape bytes seconds ratio 'Minstr' ratio 'peak MB'
-[ $# -gt 0 ] || set -- fields variants units unit_discriminants data data_discriminants one_discriminant long_discriminant variant_fields variant_ranks variant_settings prefixed prefixes deep_type generics predicates chains attributes own ord partial_ord all fallbacks settings equal_ranks lints lists field_lists repr type_list type_path params other_param value zeros digits last_word last_fault long_names blanks small_tokens comment nested string raw_string brackets script methods method_path underscored underscores words param_fields one_generic nested_types where_clause listed_bounds mentioned_params mentioning_fields packed_fields hash_fields hash_data default_fields default_values default_data default_variant eq_fields eq_data eq_generic eq_selves all_six clone_fields clone_data clone_variant clone_units clone_methods clone_generic clone_packed copied copied_generic all_eight
+[ $# -gt 0 ] || set -- fields variants units unit_discriminants data data_discriminants one_discriminant long_discriminant variant_fields variant_ranks variant_settings prefixed prefixes deep_type generics predicates chains attributes own ord partial_ord all fallbacks settings equal_ranks lints lists field_lists repr type_list type_path params other_param value zeros digits last_word last_fault long_names blanks small_tokens comment nested string raw_string brackets script methods method_path underscored underscores words param_fields one_generic nested_types where_clause listed_bounds mentioned_params mentioning_fields packed_fields hash_fields hash_data default_fields default_values default_data default_variant eq_fields eq_data eq_generic eq_selves all_six clone_fields clone_data clone_variant clone_units clone_methods clone_generic clone_packed copied copied_generic debug_fields debug_data debug_variant debug_units debug_map debug_methods all_nine nine_data
 for name in "$@"; do
   seconds_before=0
   count_before=0
