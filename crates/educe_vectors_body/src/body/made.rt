@@ -83,15 +83,25 @@ fn answers(alloc: Global) -> Result<Answers, AllocError> {
     table(alloc, rows.as_slice())
 }
 
-/// What a body with these parameters and this form evaluates to.
-fn evaluated(alloc: Global, source: &str, params: &[&str], form: Form) -> Result<Outcome, Fail> {
-    let ast = definition(alloc, source)?;
-    let params = word_list(alloc, params)?;
+/// The body with these parameters and this form.
+fn body_of(alloc: Global, params: &[&str], form: Form) -> Result<Body, Fail> {
     let block = list(alloc, Ok(form))?;
+    let params = word_list(alloc, params)?;
+    Ok(Body { params, block })
+}
+
+/// What a body evaluates to over a definition.
+fn outcome(alloc: Global, source: &str, body: &Body) -> Result<Outcome, Fail> {
+    let ast = definition(alloc, source)?;
     let this = value(alloc, &[5])?;
     let answers = answers(alloc)?;
-    let body = Body { params, block };
-    Ok(eval(alloc, &body, &scope_of(&ast, &this), &answers)?)
+    Ok(eval(alloc, body, &scope_of(&ast, &this), &answers)?)
+}
+
+/// What a body with these parameters and this form evaluates to.
+fn evaluated(alloc: Global, source: &str, params: &[&str], form: Form) -> Result<Outcome, Fail> {
+    let body = body_of(alloc, params, form)?;
+    outcome(alloc, source, &body)
 }
 
 const ONE: FieldValue = FieldValue { ty: 0, number: 1 };
