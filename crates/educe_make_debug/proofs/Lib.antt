@@ -11,3 +11,4 @@ pub mod Enough
 pub mod Uncaused
 -- The markers of fields that are shown.
 pub mod Marked
+pub mod ChosenBehind

@@ -13,11 +13,12 @@ ghost use Rattle.educe_laws.specs.Shown as spec;
 ghost use Rattle.educe_make_debug.specs.Cases.{IsTyped, IsOneOf, IsCaseOf, AreCases, AreVariantCases, IsVariantRead, AreVariantsRead, AreRead, IsShown};
 ghost use Rattle.educe_make_debug.specs.Origins.{variant_kind, variant_place};
 
-use crate::debug_settings::{entry_settings, naming_values};
+use crate::debug_settings::naming_values;
 use crate::debug_shown::{Case, Shown};
 use crate::debug_texts::{path_text, type_name, type_text, variant_name};
 use educe_attrs::{Stop, Values};
 use educe_handlers::{Task, has_brackets, struct_names, variant_names};
+use educe_make_debug_fields::entry_settings;
 use educe_syntax::{FieldShape, Ident, Shape, Variant};
 use educe_tokens::{Kind, Seq, Span};
 use std::alloc::Global;

@@ -1,4 +1,4 @@
-//! The forms of the attribute `Debug`.
+//! The forms of the attribute `Debug` of a variant.
 ghost use Rattle.std.specs.Prelude.{◌≡◌};
 ghost use Rattle.educe_laws.specs.Shown as spec;
 
@@ -14,19 +14,6 @@ pub fn naming_row(variant: &Variant) -> Row
         equals: Equals::Ident,
         name: Some(NameKind::Name(false)),
         named_field: Some(!variant_names(variant.fields.form)),
-        ..Row::EMPTY
-    }
-}
-
-/// What a field allows: `ignore` and `method`, and where the names of fields are shown its name.
-pub fn entry_row(named: bool) -> Row
-    ensures { result ≡ spec.entry_row named }
-{
-    Row {
-        equals: if named { Equals::Name } else { Equals::Truth },
-        name: if named { Some(NameKind::Ident) } else { None },
-        ignore: true,
-        method: true,
         ..Row::EMPTY
     }
 }

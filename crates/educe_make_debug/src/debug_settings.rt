@@ -1,9 +1,8 @@
-//! What the attributes of a definition say of `Debug`.
-ghost use Rattle.std.specs.Prelude.{◌≡◌, map, IfOk, IfErr};
+//! What the attributes of a variant say of `Debug`.
+ghost use Rattle.std.specs.Prelude.{◌≡◌, IfOk, IfErr};
 ghost use Rattle.educe_syntax.specs.Few.{variants_of};
 ghost use Rattle.educe_attrs.specs.Among.{IsAmong};
 ghost use Rattle.educe_attrs.specs.Causes.{OfStop};
-ghost use Rattle.educe_attrs.specs.Fields.{OfFields, HaveNoCauses};
 ghost use Rattle.educe_attrs.specs.Phases.{OfHandler};
 ghost use Rattle.educe_bound_traits.specs.declared.traits.Trait.TheVariants.{Debug};
 ghost use Rattle.educe_laws.specs.Handled.{handling};
@@ -11,12 +10,11 @@ ghost use Rattle.educe_laws.specs.Listed as listing;
 ghost use Rattle.educe_laws.specs.Shown as spec;
 ghost use Rattle.educe_make_debug.specs.Cases.{IsNamingRead};
 
-use crate::debug_rows::{entry_row, naming_row};
-use educe_attrs::{FieldSettings, Stop, Values, place_settings, settings_of_fields};
+use crate::debug_rows::naming_row;
+use educe_attrs::{Stop, Values, place_settings};
 use educe_bound::Trait;
 use educe_handlers::Task;
-use educe_syntax::{Field, Variant};
-use educe_tokens::Seq;
+use educe_syntax::Variant;
 use std::alloc::Global;
 
 /// What the attributes of a variant say of `Debug`. It is refused exactly where they have a cause, or
@@ -30,21 +28,4 @@ pub fn naming_values(alloc: Global, task: Task<'_, '_>, variant: &Variant) -> Re
 {
     let (row, attributes) = (naming_row(variant), variant.attrs.as_slice());
     place_settings(alloc, Trait::Debug, &row, task.listed, attributes)
-}
-
-/// What the attributes of these fields say of it, in their order, where the names of fields are shown or
-/// not. They are refused exactly where an attribute of one of them is wrong, or memory fails.
-pub fn entry_settings(
-    alloc: Global,
-    task: Task<'_, '_>,
-    named: bool,
-    fields: &[Field],
-) -> Result<Seq<FieldSettings>, Stop>
-    requires { task.listed.now ≡ listing.listed task.ast.now }
-    ensures are { IfOk result (λ all. all ≡ map (spec.entry_settings named task.entry.ast.now) fields.now) }
-    ensures uncaused { IfOk result (λ _. HaveNoCauses Debug (spec.entry_row named) (listing.listed task.entry.ast.now) fields.now) }
-    ensures err { IfErr result (λ s. OfStop (OfFields Debug (spec.entry_row named) (listing.listed task.entry.ast.now) fields.now) s) }
-{
-    let row = entry_row(named);
-    settings_of_fields(alloc, Trait::Debug, &row, task.listed, fields)
 }
