@@ -12,160 +12,87 @@ import sys
 
 from definitions import FUNCTIONS, added, cases, compiled, discriminant_type, expanded, made, plain
 
-# ---- the table: constants and rows, as Rust writes them
+# ---- the tables
 
-TOKEN = re.compile(r'\s+|//[^\n]*|("(?:\\.|[^"\\])*"|\d+|\w+(?:::\w+)*|.)', re.S)
-ESCAPE = re.compile(r'\\(?:u\{(\w+)\}|x(\w\w)|(.))', re.S)
-CALLS = ("Answer::Called", "Answer::Pairs", "Answer::Hashes", "Answer::Made")
-PLAIN = {"n": "\n", "t": "\t", "r": "\r", "0": "\0"}
-
-
-def unescaped(literal):
-    """The text that a string literal means."""
-    def meant(escape):
-        number, byte, char = escape.groups()
-        return PLAIN.get(char, char) if char else chr(int(number or byte, 16))
-    return ESCAPE.sub(meant, literal[1:-1])
+TABLE = re.compile(r'^static \w+: &str = r(#+)"\n(.*?)\n"\1;', re.S | re.M)
+VALUE = re.compile(r"(\d+)\(([^)]*)\)")
+TRAITS = {"eq": "PartialEq", "partial_cmp": "PartialOrd", "cmp": "Ord", "hash": "Hash", "default": "Default"}
 
 
-class Table:
-    """The constants of a file of examples, each an expression of strings, numbers, lists and (path, arguments)."""
+def numbers(text):
+    """The numbers of a list without brackets."""
+    return tuple(int(number) for number in text.split(", ") if number)
 
-    def __init__(self, text):
-        self.tokens = [found[1] for found in TOKEN.finditer(text) if found[1]]
-        self.places = {
-            self.tokens[at + 1]: self.tokens.index("=", at) + 1
-            for at, word in enumerate(self.tokens) if word in ("const", "static") and self.tokens[at - 1] != "'"
-        }
-        self.values = {}
-        for name in self.places:
-            self.value(name)
 
-    def value(self, name):
-        """The value of a constant."""
-        if name not in self.values:
-            before = getattr(self, "next", 0)
-            self.next = self.places[name]
-            self.values[name] = self.expression()
-            self.next = before
-        return self.values[name]
-
-    def take(self):
-        self.next += 1
-        return self.tokens[self.next - 1]
-
-    def list_to(self, close):
-        items = []
-        while self.tokens[self.next] != close:
-            items.append(self.expression())
-            if self.tokens[self.next] == ",":
-                self.next += 1
-        self.next += 1
-        return items
-
-    def expression(self):
-        token = self.take()
-        if token == "&":
-            return self.expression()
-        if token == "-":
-            return -self.expression()
-        if token in ("[", "("):
-            return self.list_to("]" if token == "[" else ")")
-        if token[0] == '"':
-            return unescaped(token)
-        if token[0].isdigit():
-            return int(re.sub(r"_|[iu]\w+$", "", token))
-        if self.tokens[self.next] == "(":
-            self.next += 1
-            return (token, self.list_to(")"))
-        return self.value(token) if token in self.places else (token, [])
+def values(text):
+    """The values that a text names: the variant, and the numbers of its fields."""
+    return [(int(case), list(numbers(fields))) for case, fields in VALUE.findall(text)]
 
 
 class Row:
     """A call of a trait's function: what the definition's methods and constants answer, the values, and the outcome."""
 
-    def __init__(self, name, definition, trait, calls, constants, values, outcome):
-        self.name, self.definition, self.calls, self.constants = name, definition, calls, constants
-        self.trait, self.values, self.outcome = trait, values, outcome
+    def __init__(self, name, definition, told, line):
+        self.name, self.definition = name, definition
+        self.calls = [told_call(rest) for word, rest in told if word == "method"]
+        self.constants = [tuple(rest.rsplit(" -> ", 1)) for word, rest in told if word == "const"]
+        call, self.outcome = line.split(" = ", 1)
+        self.trait, self.values = TRAITS[call.split(" ")[0]], values(call)
 
     def asserted(self):
         """What holds of the call, as an expression of Rust; nothing where the call has no outcome."""
-        kind, arguments = self.outcome
         if self.trait == "Hash":
-            return f"fed(&{made(self.definition, *self.values[0])}) == {list(arguments)}"
+            return f"fed(&{made(self.definition, *self.values[0])}) == {self.outcome}"
         if self.trait == "Default":
-            return is_made(self.definition, *arguments) if kind == "Outcome::Made" else None
+            return is_made(self.definition, *values(self.outcome)[0]) if VALUE.fullmatch(self.outcome) else None
         answer = rust(self.outcome)
         given = ", ".join("&" + made(self.definition, *value) for value in self.values)
         return answer and f"::core::cmp::{self.trait}::{FUNCTIONS[self.trait]}({given}) == {answer}"
 
 
-def rows_of(example):
-    """The rows of an example whose functions are called; of another, nothing."""
-    name, definition, (kind, given) = example
-    if kind == "Answer::Called":
-        which, calls, this, other, outcome = given
-        return [Row(name, definition, trait_of(which), compared(calls), [], [(0, this), (0, other)], outcome)]
-    if kind == "Answer::Pairs":
-        which, (told, content), pairs = given
-        calls = compared(content[0]) if told == "Told::Calls" else []
-        numbers = content[0] if told == "Told::Numbers" else []
-        return [Row(name, definition, trait_of(which), calls, numbers, [this, other], outcome) for this, other, outcome in pairs]
-    if kind == "Answer::Hashes":
-        (told, content), values = given
-        calls = [(path, (number,), ("Part", [part])) for path, number, part in content[0]] if told == "Told::Parts" else []
-        return [Row(name, definition, "Hash", calls, [], [value], ("Parts", parts)) for value, parts in values]
-    if kind == "Answer::Made":
-        _, outcome = given
-        return [Row(name, definition, "Default", [], [], [], outcome)]
-    return []
+def told_call(text):
+    """What a method answers: its path, the arguments, and the answer."""
+    call, answer = text.rsplit(" -> ", 1)
+    path, arguments = call.removesuffix(")").rsplit("(", 1)
+    return path, numbers(arguments), answer
 
 
-def trait_of(which):
-    """The name of a trait that compares."""
-    return which[0].split("::")[-1]
-
-
-def compared(calls):
-    """The calls of methods that compare two values."""
-    return [(path, (first, second), answer) for path, first, second, answer in calls]
-
-
-def is_made(definition, case, numbers):
+def is_made(definition, case, own):
     """Whether the default value is this one."""
-    shown = [f"N({number})" if "N<" in definition else number for number in numbers]
+    shown = [f"N({number})" if "N<" in definition else number for number in own]
     name = cases(definition)[0][0].split("::")[0]
     return f"::core::matches!(<{name} as ::core::default::Default>::default(), {made(definition, case, shown)})"
 
 
-def is_example(value):
-    """Whether this is a name, a text, and what is answered to it."""
-    return isinstance(value, list) and len(value) == 3 and isinstance(value[0], str) and isinstance(value[2], tuple)
+def rows_of(row):
+    """The calls of functions in a row of a table."""
+    front, *lines = row.split("\n: ")
+    name, _, definition = front.partition("\n")
+    told = [(word, rest) for word, _, rest in (line.partition(" ") for line in lines)]
+    return [Row(name, definition, told, line) for line in lines if line.split(" ")[0] in TRAITS]
 
 
 def rows(text):
-    """The rows of a table."""
-    examples = [
-        example
-        for value in Table(text).values.values() if isinstance(value, list)
-        for example in value if is_example(example) and example[2][0] in CALLS
-    ]
-    if len(examples) != sum(text.count(kind + "(") for kind in CALLS) or not examples:
-        sys.exit("the table is not read to its end")
-    return [row for example in examples for row in rows_of(example)]
+    """The calls of functions in the tables of a file."""
+    tables = [body for _, body in TABLE.findall(text)]
+    if len(tables) != len(re.findall("^static ", text, re.M)) or not tables:
+        sys.exit("the tables are not read to their end")
+    return [call for body in tables for row in body.split("\n\n") for call in rows_of(row)]
 
 
-def rust(value):
+def rust(answer):
     """What a method or a function answers, as an expression; nothing where it has no outcome."""
-    kind, arguments = value
-    name = kind.split("::")[-1]
-    if name == "Stuck":
+    if answer == "stuck":
         return None
-    if name in ("Truth", "Order", "PartialOrder"):
-        return rust(arguments[0])
-    if name in ("Some", "None"):
-        return "::core::option::Option::" + name + "".join(f"({rust(x)})" for x in arguments)
-    return "::core::cmp::Ordering::" + name if kind.startswith("Ordering::") else name
+    ordered = re.sub(r"\b(Less|Equal|Greater)\b", r"::core::cmp::Ordering::\1", answer)
+    return re.sub(r"\b(Some|None)\b", r"::core::option::Option::\1", ordered)
+
+
+def kind_of(answer):
+    """The kind of what a method answers."""
+    if answer[0] == "[":
+        return "Part"
+    return "Truth" if answer in ("true", "false") else "PartialOrder" if answer[:4] in ("Some", "None") else "Order"
 
 
 TYPES = {
@@ -223,12 +150,12 @@ def method(path, answers):
 
     It has the type of its first answer: an answer of another type has no outcome."""
     names = names_of(path)
-    kind = next(iter(answers.values()))[0]
+    kind = kind_of(next(iter(answers.values())))
     if kind == "Part":
-        arms = "".join(f"{number} => {part}, " for (number,), (_, (part,)) in answers.items())
+        arms = "".join(f"{number} => {part[1:-1]}, " for (number,), part in answers.items())
         return in_modules(names, FEEDING.format(name=names[-1], arms=arms))
-    arms = "".join(f"({a}, {b}) => {rust(answer)}, " for (a, b), answer in answers.items() if answer[0] == kind)
-    return in_modules(names, FUNCTION.format(name=names[-1], type=TYPES[kind.split("::")[-1]], arms=arms))
+    arms = "".join(f"({a}, {b}) => {rust(answer)}, " for (a, b), answer in answers.items() if kind_of(answer) == kind)
+    return in_modules(names, FUNCTION.format(name=names[-1], type=TYPES[kind], arms=arms))
 
 
 def methods(own):

@@ -1,7 +1,5 @@
-//! The worked examples, each under a name, and tests of whole runs that go further.
+//! The worked examples, each under a name, in tables, and tests of whole runs over devices that fail.
 #![tactic(auto)]
 
 #[cfg(test)]
 mod examples;
-#[cfg(test)]
-mod program;

@@ -1,4 +1,4 @@
-//! Runs over devices in memory, and bodies evaluated over tables.
+//! Runs over devices in memory.
 ghost use Rattle.std.specs.Prelude.{◌≤◌};
 
 use educe_core::{MemorySink, MemorySource, Sink, Source, run};
@@ -6,19 +6,16 @@ use educe_vectors_checks::check_at;
 use std::alloc::{AllocError, Global};
 use std::test::Fail;
 
-pub mod bodies;
-pub mod shapes;
-
 /// What a run answers and writes.
 #[derive(Drop)]
-struct Outcome {
-    code: u8,
-    text: MemorySink,
-    notes: MemorySink,
+pub struct Outcome {
+    pub code: u8,
+    pub text: MemorySink,
+    pub notes: MemorySink,
 }
 
 /// The text that bytes are, or `no text`.
-fn shown(bytes: &[u8]) -> &str {
+pub fn shown(bytes: &[u8]) -> &str {
     match str::from_utf8(bytes) {
         Ok(text) => text,
         Err(_) => "no text",
@@ -67,92 +64,31 @@ impl<'a> Case<'a> {
         }
     }
 
-    /// The exit status of the run, whose reads take at most so many bytes.
+    /// The exit status of the run, whose reads take at most ten bytes.
     fn exit_code(
         &self,
         alloc: Global,
-        step: usize,
         text: &mut MemorySink,
         notes: &mut MemorySink,
-    ) -> Result<u8, AllocError>
-        requires { 1 ≤ step }
-    {
-        let source = MemorySource::new(alloc, self.input, step, self.failing_reads);
+    ) -> Result<u8, AllocError> {
+        let source = MemorySource::new(alloc, self.input, 10, self.failing_reads);
         run_word(alloc, self.word, source, text, notes)
     }
 
-    /// The run over devices whose calls move at most so many bytes.
-    fn outcome(&self, alloc: Global, step: usize) -> Result<Outcome, AllocError>
-        requires { 1 ≤ step }
-    {
-        let mut text = MemorySink::new(alloc, step, self.failing_writes)?;
-        let mut notes = MemorySink::new(alloc, step, self.failing_notes)?;
-        let code = self.exit_code(alloc, step, &mut text, &mut notes)?;
+    /// The run over devices whose calls move at most ten bytes.
+    pub fn outcome(&self, alloc: Global) -> Result<Outcome, AllocError> {
+        let mut text = MemorySink::new(alloc, 10, self.failing_writes)?;
+        let mut notes = MemorySink::new(alloc, 10, self.failing_notes)?;
+        let code = self.exit_code(alloc, &mut text, &mut notes)?;
         Ok(Outcome { code, text, notes })
     }
 
-    /// The run answers so where calls move at most ten bytes.
+    /// The run answers so.
     pub fn check(&self, alloc: Global) -> Result<(), Fail> {
-        let found = self.outcome(alloc, 10)?;
+        let found = self.outcome(alloc)?;
         let input = shown(self.input);
         check_at(input, found.code, self.code)?;
         check_at(input, shown(found.text.bytes()), self.text)?;
         check_at(input, shown(found.notes.bytes()), self.notes)
-    }
-}
-
-/// Each of the inputs is expanded to this text.
-pub fn check_expanded(alloc: Global, cases: &[(&str, &str)]) -> Result<(), Fail> {
-    for (input, text) in cases {
-        Case::of(input.as_bytes(), 0, text, "").check(alloc)?;
-    }
-    Ok(())
-}
-
-/// Each of the inputs is refused with these notes.
-pub fn check_refused(alloc: Global, cases: &[(&str, &str)]) -> Result<(), Fail> {
-    for (input, notes) in cases {
-        Case::of(input.as_bytes(), 1, "", notes).check(alloc)?;
-    }
-    Ok(())
-}
-
-/// The input has these notes, which are empty exactly where the run ends with 0.
-pub fn check_notes(alloc: Global, input: &str, notes: &str) -> Result<(), Fail> {
-    let found = Case::of(input.as_bytes(), 0, "", "").outcome(alloc, 4096)?;
-    check_at(input, shown(found.notes.bytes()), notes)?;
-    check_at(input, found.code == 0, notes.is_empty())
-}
-
-/// The input is expanded to a text that contains this one.
-pub fn check_holds(alloc: Global, input: &str, part: &str) -> Result<(), Fail> {
-    let found = Case::of(input.as_bytes(), 0, "", "").outcome(alloc, 4096)?;
-    check_at(input, found.code, 0)?;
-    let text = shown(found.text.bytes());
-    if text.contains(part) {
-        Ok(())
-    } else {
-        Err(Fail::new(format_args!("at {input:?}: found {text:?}")))
-    }
-}
-
-/// The input is expanded to a text that contains each of these.
-pub fn check_holds_each(alloc: Global, input: &str, parts: &[&str]) -> Result<(), Fail> {
-    for part in parts {
-        check_holds(alloc, input, part)?;
-    }
-    Ok(())
-}
-
-/// The input is refused with one of these notes.
-pub fn check_one_of(alloc: Global, input: &str, notes: &[&str]) -> Result<(), Fail> {
-    let found = Case::of(input.as_bytes(), 1, "", "").outcome(alloc, 4096)?;
-    check_at(input, found.code, 1)?;
-    check_at(input, shown(found.text.bytes()), "")?;
-    let found = shown(found.notes.bytes());
-    if notes.iter().any(|line| *line == found) {
-        Ok(())
-    } else {
-        Err(Fail::new(format_args!("at {input:?}: found {found:?}")))
     }
 }

@@ -5,7 +5,7 @@ use educe_attrs::{Trait, TypeBuilder, clone};
 use educe_syntax::{Attributes, DeriveInput, Shape};
 use educe_tokens::{EduceError, Kind, Span};
 use educe_vectors_checks::{check_at, definition};
-use educe_vectors_runs::cites;
+use educe_vectors_examples::cites;
 use std::alloc::Global;
 use std::test::Fail;
 

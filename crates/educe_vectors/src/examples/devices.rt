@@ -1,10 +1,13 @@
 //! Worked examples of words that are no command, inputs past the limit or not UTF-8, and devices that
 //! fail.
 
-use crate::program::ONE_FIELD;
 use educe_vectors_runs::Case;
 use std::alloc::Global;
 use std::test::Fail;
+
+/// What a struct of one field is expanded to.
+const ONE_FIELD: &str =
+    "# [ automatically_derived ] impl :: core :: cmp :: PartialEq for S { fn eq ( & self , other : & Self ) -> :: core :: primitive :: bool { if :: core :: cmp :: PartialEq :: ne ( & self . a , & other . a ) { return false ; } true } }\n";
 
 /// The run over an input of so many blanks.
 fn check_blanks(alloc: Global, count: usize, code: u8, notes: &str) -> Result<(), Fail> {

@@ -1,37 +1,32 @@
 //! Worked examples of what is said of a comparison at its type and at a field (documentation of
 //! `educe`, PartialEq; PartialOrd; Ord).
 
-use educe_vectors_runs::{Answer, Example, Outcome, check_all};
-use std::cmp::Ordering;
+use educe_vectors_runs::check_table;
 use std::test::Fail;
 
-/// The line of a trait alone at a field.
-const BARE: &str =
-    "1:40: you are using an incorrect format of the `PartialEq` attribute, which should be reformatted as follows:
+static FORMS: &str = r#"
+the trait alone at a field
+#[educe(PartialEq)] struct S { #[educe(PartialEq)] a: u8 }
+: refused 1:40: you are using an incorrect format of the `PartialEq` attribute, which should be reformatted as follows:
     #[educe(PartialEq = false)]
     #[educe(PartialEq(ignore))]
     #[educe(PartialEq(method(path_to_method)))]
-";
 
-/// The line of a parameter that an order does not have at a field.
-const ORD_FORMS: &str =
-    "1:34: you are using an incorrect format of the `Ord` attribute, which should be reformatted as follows:
-    #[educe(Ord = false)]
-    #[educe(Ord(ignore))]
-    #[educe(Ord(method(path_to_method)))]
-    #[educe(Ord(rank = integer))]
-";
+a parameter twice
+#[educe(PartialEq)] struct S { #[educe(PartialEq(ignore, ignore = false))] a: u8 }
+: refused 1:58: you are trying to reset the `ignore` parameter
 
-/// The line of a value behind a trait at its type.
-const TYPE_FORMS: &str =
-    "1:9: you are using an incorrect format of the `PartialEq` attribute, which should be reformatted as follows:
-    #[educe(PartialEq)]
-    #[educe(PartialEq(bound(where_predicates)))]
-    #[educe(PartialEq(bound = false))]
-";
+a number where a truth value belongs
+#[educe(PartialEq)] struct S { #[educe(PartialEq(ignore = 1))] a: u8 }
+: refused 1:59: expected `ignore = false`
 
-/// The line of a trait that is not supported, at a field.
-const FOO: &str = "1:40: unsupported trait `Foo`, available traits:
+a trait that the type does not list
+#[educe(PartialEq)] struct S { #[educe(Hash = false)] a: u8 }
+: refused 1:40: the trait `Hash` is not used
+
+a trait that is not supported at a field
+#[educe(PartialEq)] struct S { #[educe(Foo)] a: u8 }
+: refused 1:40: unsupported trait `Foo`, available traits:
     Debug
     Clone
     Copy
@@ -41,155 +36,111 @@ const FOO: &str = "1:40: unsupported trait `Foo`, available traits:
     Ord
     Hash
     Default
-";
 
-static FORMS: [Example; 14] = [
-    (
-        "the trait alone at a field",
-        "#[educe(PartialEq)] struct S { #[educe(PartialEq)] a: u8 }",
-        Answer::Line(BARE),
-    ),
-    (
-        "a parameter twice",
-        "#[educe(PartialEq)] struct S { #[educe(PartialEq(ignore, ignore = false))] a: u8 }",
-        Answer::Line("1:58: you are trying to reset the `ignore` parameter\n"),
-    ),
-    (
-        "a number where a truth value belongs",
-        "#[educe(PartialEq)] struct S { #[educe(PartialEq(ignore = 1))] a: u8 }",
-        Answer::Line("1:59: expected `ignore = false`\n"),
-    ),
-    (
-        "a trait that the type does not list",
-        "#[educe(PartialEq)] struct S { #[educe(Hash = false)] a: u8 }",
-        Answer::Line("1:40: the trait `Hash` is not used\n"),
-    ),
-    (
-        "a trait that is not supported at a field",
-        "#[educe(PartialEq)] struct S { #[educe(Foo)] a: u8 }",
-        Answer::Line(FOO),
-    ),
-    (
-        "a trait twice at a field",
-        "#[educe(PartialEq)] struct S { #[educe(PartialEq(ignore))] #[educe(PartialEq = true)] a: u8 }",
-        Answer::Line("1:68: the trait `PartialEq` is used repeatedly\n"),
-    ),
-    (
-        "a list of a field that is no list of metas",
-        "#[educe(PartialEq)] struct S { #[educe(1)] a: u8 }",
-        Answer::Line("1:40: syntax error\n"),
-    ),
-    (
-        "a faulty list behind one that is read",
-        "#[educe(PartialEq)] struct S { #[educe(PartialEq(ignore))] #[educe(PartialEq 1)] a: u8 }",
-        Answer::Line("1:78: syntax error\n"),
-    ),
-    (
-        "129 prefixes at a field",
-        "#[educe(PartialEq)] struct S { #[educe(PartialEq = !!!!!!!!!!!!!!!!!!!!!!!!!!!!!!!!!!!!!!!!!!!!!!!!!!!!!!!!!!!!!!!!!!!!!!!!!!!!!!!!!!!!!!!!!!!!!!!!!!!!!!!!!!!!!!!!!!!!!!!!!!!!!!!!!x)] a: u8 }",
-        Answer::Line("1:180: nested too deeply\n"),
-    ),
-    (
-        "parameters that are no list of metas",
-        "#[educe(PartialEq)] struct S { #[educe(PartialEq(ignore ignore))] a: u8 }",
-        Answer::Line("1:57: syntax error\n"),
-    ),
-    (
-        "a number behind the trait",
-        "#[educe(PartialEq)] struct S { #[educe(PartialEq = 0)] a: u8 }",
-        Answer::Line("1:52: expected `PartialEq = false`\n"),
-    ),
-    (
-        "a raw name is no parameter",
-        "#[educe(Ord)] struct S { #[educe(Ord(r#method = f))] a: u8 }",
-        Answer::Line(ORD_FORMS),
-    ),
-    (
-        "a value behind a trait at its type",
-        "#[educe(PartialEq = false)] struct S { a: u8 }",
-        Answer::Line(TYPE_FORMS),
-    ),
-    (
-        "a list of a trait at its type that is no list of metas",
-        "#[educe(PartialEq(1))] struct S { a: u8 }",
-        Answer::Line("1:19: syntax error\n"),
-    ),
-];
+a trait twice at a field
+#[educe(PartialEq)] struct S { #[educe(PartialEq(ignore))] #[educe(PartialEq = true)] a: u8 }
+: refused 1:68: the trait `PartialEq` is used repeatedly
 
-static RANKS: [Example; 13] = [
-    (
-        "a rank below all others",
-        "#[educe(Ord)] struct S { #[educe(Ord(rank = -1))] a: u8, #[educe(Ord(rank = -2))] b: u8 }",
-        Answer::Value([2, 1], [1, 2], Outcome::Order(Ordering::Less)),
-    ),
-    (
-        "a rank in a string",
-        "#[educe(Ord)] struct S { #[educe(Ord(rank = \"-1\"))] a: u8, b: u8 }",
-        Answer::Value([2, 1], [1, 2], Outcome::Order(Ordering::Less)),
-    ),
-    (
-        "a rank in brackets",
-        "#[educe(PartialOrd)] struct S { #[educe(PartialOrd(rank(\"+7\")))] a: u8, b: u8 }",
-        Answer::Value([2, 1], [1, 2], Outcome::PartialOrder(Some(Ordering::Less))),
-    ),
-    (
-        "a truth value that ignores",
-        "#[educe(Ord)] struct S { #[educe(Ord = false)] a: u8, b: u8 }",
-        Answer::Value([2, 1], [1, 1], Outcome::Order(Ordering::Equal)),
-    ),
-    (
-        "a truth value that keeps",
-        "#[educe(Ord)] struct S { #[educe(Ord(ignore = false))] a: u8, b: u8 }",
-        Answer::Value([2, 1], [1, 1], Outcome::Order(Ordering::Greater)),
-    ),
-    (
-        "a list for each setting",
-        "#[educe(Ord)] #[educe(PartialEq)] struct S { #[educe(PartialEq(ignore))] #[educe(Ord(rank = 3))] a: u8, b: u8 }",
-        Answer::Value([2, 1], [1, 1], Outcome::Truth(true)),
-    ),
-    (
-        "a rank without a value",
-        "#[educe(Ord)] struct S { #[educe(Ord(rank))] a: u8 }",
-        Answer::Line("1:38: expected `rank = integer` or `rank(integer)`\n"),
-    ),
-    (
-        "a rank that is no integer",
-        "#[educe(Ord)] struct S { #[educe(Ord(rank = x))] a: u8 }",
-        Answer::Line("1:45: expected `rank = integer`\n"),
-    ),
-    (
-        "a float in a string",
-        "#[educe(Ord)] struct S { #[educe(Ord(rank = \"1.5\"))] a: u8 }",
-        Answer::Line("1:45: expected `rank = integer`\n"),
-    ),
-    (
-        "a rank twice at a field",
-        "#[educe(Ord)] struct S { #[educe(Ord(rank = 1, rank(2)))] a: u8 }",
-        Answer::Line("1:48: you are trying to reset the `rank` parameter\n"),
-    ),
-    (
-        "a rank of the other order that is no integer",
-        "#[educe(PartialOrd, Ord)] struct S { #[educe(PartialOrd(rank = x))] a: u8 }",
-        Answer::Line("1:64: expected `rank = integer`\n"),
-    ),
-    (
-        "a rank where the type lists the other order alone",
-        "#[educe(PartialOrd)] struct S { #[educe(Ord(rank = 1))] a: u8 }",
-        Answer::Line("1:41: the trait `Ord` is not used\n"),
-    ),
-    (
-        "one rank in two spellings",
-        "#[educe(Ord)] struct S { #[educe(Ord(rank = 0x10))] a: u8, #[educe(Ord(rank(\"16\")))] b: u8 }",
-        Answer::Line("1:72: the rank `16` is repeatedly used\n"),
-    ),
-];
+a list of a field that is no list of metas
+#[educe(PartialEq)] struct S { #[educe(1)] a: u8 }
+: refused 1:40: syntax error
+
+a faulty list behind one that is read
+#[educe(PartialEq)] struct S { #[educe(PartialEq(ignore))] #[educe(PartialEq 1)] a: u8 }
+: refused 1:78: syntax error
+
+129 prefixes at a field
+#[educe(PartialEq)] struct S { #[educe(PartialEq = !!!!!!!!!!!!!!!!!!!!!!!!!!!!!!!!!!!!!!!!!!!!!!!!!!!!!!!!!!!!!!!!!!!!!!!!!!!!!!!!!!!!!!!!!!!!!!!!!!!!!!!!!!!!!!!!!!!!!!!!!!!!!!!!!x)] a: u8 }
+: refused 1:180: nested too deeply
+
+parameters that are no list of metas
+#[educe(PartialEq)] struct S { #[educe(PartialEq(ignore ignore))] a: u8 }
+: refused 1:57: syntax error
+
+a number behind the trait
+#[educe(PartialEq)] struct S { #[educe(PartialEq = 0)] a: u8 }
+: refused 1:52: expected `PartialEq = false`
+
+a raw name is no parameter
+#[educe(Ord)] struct S { #[educe(Ord(r#method = f))] a: u8 }
+: refused 1:34: you are using an incorrect format of the `Ord` attribute, which should be reformatted as follows:
+    #[educe(Ord = false)]
+    #[educe(Ord(ignore))]
+    #[educe(Ord(method(path_to_method)))]
+    #[educe(Ord(rank = integer))]
+
+a value behind a trait at its type
+#[educe(PartialEq = false)] struct S { a: u8 }
+: refused 1:9: you are using an incorrect format of the `PartialEq` attribute, which should be reformatted as follows:
+    #[educe(PartialEq)]
+    #[educe(PartialEq(bound(where_predicates)))]
+    #[educe(PartialEq(bound = false))]
+
+a list of a trait at its type that is no list of metas
+#[educe(PartialEq(1))] struct S { a: u8 }
+: refused 1:19: syntax error
+"#;
 
 #[test]
 fn forms_are_answered(rt: HostRuntime) -> Result<(), Fail> {
-    check_all(rt.alloc(), &FORMS)
+    check_table(rt.alloc(), FORMS)
 }
+
+static RANKS: &str = r#"
+a rank below all others
+#[educe(Ord)] struct S { #[educe(Ord(rank = -1))] a: u8, #[educe(Ord(rank = -2))] b: u8 }
+: cmp 0(2, 1) 0(1, 2) = Less
+
+a rank in a string
+#[educe(Ord)] struct S { #[educe(Ord(rank = "-1"))] a: u8, b: u8 }
+: cmp 0(2, 1) 0(1, 2) = Less
+
+a rank in brackets
+#[educe(PartialOrd)] struct S { #[educe(PartialOrd(rank("+7")))] a: u8, b: u8 }
+: partial_cmp 0(2, 1) 0(1, 2) = Some(Less)
+
+a truth value that ignores
+#[educe(Ord)] struct S { #[educe(Ord = false)] a: u8, b: u8 }
+: cmp 0(2, 1) 0(1, 1) = Equal
+
+a truth value that keeps
+#[educe(Ord)] struct S { #[educe(Ord(ignore = false))] a: u8, b: u8 }
+: cmp 0(2, 1) 0(1, 1) = Greater
+
+a list for each setting
+#[educe(Ord)] #[educe(PartialEq)] struct S { #[educe(PartialEq(ignore))] #[educe(Ord(rank = 3))] a: u8, b: u8 }
+: eq 0(2, 1) 0(1, 1) = true
+
+a rank without a value
+#[educe(Ord)] struct S { #[educe(Ord(rank))] a: u8 }
+: refused 1:38: expected `rank = integer` or `rank(integer)`
+
+a rank that is no integer
+#[educe(Ord)] struct S { #[educe(Ord(rank = x))] a: u8 }
+: refused 1:45: expected `rank = integer`
+
+a float in a string
+#[educe(Ord)] struct S { #[educe(Ord(rank = "1.5"))] a: u8 }
+: refused 1:45: expected `rank = integer`
+
+a rank twice at a field
+#[educe(Ord)] struct S { #[educe(Ord(rank = 1, rank(2)))] a: u8 }
+: refused 1:48: you are trying to reset the `rank` parameter
+
+a rank of the other order that is no integer
+#[educe(PartialOrd, Ord)] struct S { #[educe(PartialOrd(rank = x))] a: u8 }
+: refused 1:64: expected `rank = integer`
+
+a rank where the type lists the other order alone
+#[educe(PartialOrd)] struct S { #[educe(Ord(rank = 1))] a: u8 }
+: refused 1:41: the trait `Ord` is not used
+
+one rank in two spellings
+#[educe(Ord)] struct S { #[educe(Ord(rank = 0x10))] a: u8, #[educe(Ord(rank("16")))] b: u8 }
+: refused 1:72: the rank `16` is repeatedly used
+"#;
 
 #[test]
 fn ranks_are_answered(rt: HostRuntime) -> Result<(), Fail> {
-    check_all(rt.alloc(), &RANKS)
+    check_table(rt.alloc(), RANKS)
 }
