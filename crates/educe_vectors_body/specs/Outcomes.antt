@@ -1,6 +1,6 @@
 -- What bodies evaluate to, as tests compare it.
 use Rattle.educe_body_values.specs.declared.evaluator.Outcome.{Outcome}
-use Rattle.educe_body_values.specs.declared.evaluator.Outcome.TheVariants.{Truth, Order, PartialOrder, Parts, Made, Whole, Stuck}
+use Rattle.educe_body_values.specs.declared.evaluator.Outcome.TheVariants.{Truth, Order, PartialOrder, Parts, Made, Whole, Shape, Stuck}
 use Rattle.educe_vectors_body.specs.declared.outcomes.Seen.{Seen}
 use Rattle.educe_vectors_body.specs.declared.outcomes.Seen.TheVariants.{Truth as SeenTruth, Order as SeenOrder, PartialOrder as SeenPartialOrder, Parts as SeenParts, Made as SeenMade, Whole as SeenWhole, Stuck as SeenStuck}
 
@@ -13,3 +13,8 @@ shown (SeenParts parts) = Parts parts.now
 shown (SeenMade variant fields) = Made (record { variant = variant; fields = fields.now })
 shown (SeenWhole x) = Whole x
 shown SeenStuck = Stuck
+
+-- what `fmt` shows
+abbrev pub IsShape : Outcome → Type 0
+IsShape (Shape seen) = Unit {0}
+IsShape outcome = ⊥

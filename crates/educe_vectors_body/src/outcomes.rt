@@ -1,6 +1,6 @@
 //! What bodies evaluate to, as tests compare it.
-ghost use Rattle.std.specs.Prelude.{◌≡◌, IfSome};
-ghost use Rattle.educe_vectors_body.specs.Outcomes.{shown};
+ghost use Rattle.std.specs.Prelude.{◌≡◌, IfSome, None};
+ghost use Rattle.educe_vectors_body.specs.Outcomes.{shown, IsShape};
 
 use educe_body::{FieldValue, Outcome};
 use std::cmp::Ordering;
@@ -23,7 +23,8 @@ pub enum Seen<'a> {
 
 /// What a body evaluates to, lent. What `fmt` shows is none of these: tests compare its text.
 pub fn lent(outcome: &Outcome) -> Option<Seen<'_>>
-    ensures { IfSome result (λ seen. shown seen ≡ outcome.now) }
+    ensures seen { IfSome result (λ seen. shown seen ≡ outcome.now) }
+    ensures unseen { result ≡ None → IsShape outcome.now }
 {
     let seen = match outcome {
         Outcome::Truth(b) => Seen::Truth(*b),

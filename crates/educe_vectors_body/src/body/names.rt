@@ -3,9 +3,8 @@ ghost use Rattle.std.specs.Prelude.{IsTrue};
 ghost use Rattle.educe_tokens.specs.Quote.{is_ascii_name};
 
 use educe_body::UsedIdents;
-use educe_syntax::Ident;
 use educe_tokens::Span;
-use educe_vectors_checks::{check_at, check_equal, check_text, lexed};
+use educe_vectors_checks::{check_at, check_text, lexed};
 use std::alloc::Global;
 use std::test::Fail;
 
@@ -15,12 +14,24 @@ fn words(alloc: Global, source: &str) -> Result<UsedIdents, Fail> {
     Ok(UsedIdents::new(alloc, tokens.as_slice())?)
 }
 
-/// The identifier that is chosen for a name.
+/// The identifier that is chosen for a name is this, and stands nowhere.
 #[tactic(auto, using(educe_body::specs::NameLaws::ascii_is_word))]
-fn select(alloc: Global, used: &mut UsedIdents, name: &str) -> Result<Ident, Fail>
+fn check_select(
+    alloc: Global,
+    used: &mut UsedIdents,
+    name: &str,
+    expected: &str,
+) -> Result<(), Fail>
     requires { IsTrue (is_ascii_name name.now) }
 {
-    Ok(used.select(alloc, name)?)
+    let ident = used.select(alloc, name)?;
+    check_at(name, ident.span, Span::NONE)?;
+    check_at(name, ident.text.as_str(), expected)
+}
+
+/// The prefix that is chosen for a name is this.
+fn check_prefix(alloc: Global, used: &UsedIdents, name: &str, expected: &str) -> Result<(), Fail> {
+    check_text(used.select_prefix(alloc, name)?, expected)
 }
 
 /// The name is chosen as expected, for each of the texts.
@@ -28,9 +39,7 @@ fn check_names(alloc: Global, name: &str, table: &[(&str, &str)]) -> Result<(), 
     requires { IsTrue (is_ascii_name name.now) }
 {
     for (source, expected) in table {
-        let mut used = words(alloc, source)?;
-        let ident = select(alloc, &mut used, name)?;
-        check_at(*source, ident.text.as_str(), *expected)?;
+        check_select(alloc, &mut words(alloc, source)?, name, expected)?;
     }
     Ok(())
 }
@@ -38,8 +47,7 @@ fn check_names(alloc: Global, name: &str, table: &[(&str, &str)]) -> Result<(), 
 /// The prefix is chosen as expected, for each of the texts.
 fn check_prefixes(alloc: Global, name: &str, table: &[(&str, &str)]) -> Result<(), Fail> {
     for (source, expected) in table {
-        let prefix = words(alloc, source)?.select_prefix(alloc, name)?;
-        check_at(*source, prefix.as_str(), *expected)?;
+        check_prefix(alloc, &words(alloc, source)?, name, expected)?;
     }
     Ok(())
 }
@@ -91,19 +99,18 @@ fn no_parts_of_words_are_in_the_way(rt: HostRuntime) -> Result<(), Fail> {
     )
 }
 
+/// No name is chosen twice.
+fn check_twice(alloc: Global, used: &mut UsedIdents) -> Result<(), Fail> {
+    check_select(alloc, used, "other", "other")?;
+    check_select(alloc, used, "other", "_other")?;
+    check_select(alloc, used, "_other", "___other")?;
+    check_select(alloc, used, "this", "this")
+}
+
 #[test]
 fn chooses_no_name_twice(rt: HostRuntime) -> Result<(), Fail> {
     let alloc = rt.alloc();
-    let mut used = words(alloc, "__other")?;
-    let first = select(alloc, &mut used, "other")?;
-    check_equal(first.text.as_str(), "other")?;
-    check_equal(first.span, Span::NONE)?;
-    check_equal(select(alloc, &mut used, "other")?.text.as_str(), "_other")?;
-    check_equal(
-        select(alloc, &mut used, "_other")?.text.as_str(),
-        "___other",
-    )?;
-    check_equal(select(alloc, &mut used, "this")?.text.as_str(), "this")
+    check_twice(alloc, &mut words(alloc, "__other")?)
 }
 
 #[test]
@@ -126,23 +133,31 @@ fn chooses_prefixes(rt: HostRuntime) -> Result<(), Fail> {
     )
 }
 
+/// Prefixes are no beginnings of names that were chosen.
+fn check_seen(alloc: Global, used: &mut UsedIdents) -> Result<(), Fail> {
+    check_prefix(alloc, used, "_s_", "_s_")?;
+    check_select(alloc, used, "_s_a", "_s_a")?;
+    check_prefix(alloc, used, "_s_", "__s_")?;
+    check_prefix(alloc, used, "_o_", "_o_")
+}
+
 #[test]
 fn prefixes_see_names(rt: HostRuntime) -> Result<(), Fail> {
     let alloc = rt.alloc();
-    let mut used = words(alloc, "a")?;
-    check_text(used.select_prefix(alloc, "_s_")?, "_s_")?;
-    check_equal(select(alloc, &mut used, "_s_a")?.text.as_str(), "_s_a")?;
-    check_text(used.select_prefix(alloc, "_s_")?, "__s_")?;
-    check_text(used.select_prefix(alloc, "_o_")?, "_o_")
+    check_seen(alloc, &mut words(alloc, "a")?)
+}
+
+/// Behind a word of `_`, one `_` more is a prefix of none; names of fewer are free.
+fn check_underscores(alloc: Global, used: &mut UsedIdents, more: &str) -> Result<(), Fail> {
+    check_prefix(alloc, used, "_", more)?;
+    check_select(alloc, used, "_", "_")?;
+    check_select(alloc, used, "_", "__")
 }
 
 #[test]
 fn stands_behind_many_underscores(rt: HostRuntime) -> Result<(), Fail> {
     let alloc = rt.alloc();
     let many = underscores(alloc, 2000)?;
-    let mut used = words(alloc, &many)?;
     let more = underscores(alloc, 2001)?;
-    check_text(used.select_prefix(alloc, "_")?, &more)?;
-    check_equal(select(alloc, &mut used, "_")?.text.as_str(), "_")?;
-    check_equal(select(alloc, &mut used, "_")?.text.as_str(), "__")
+    check_underscores(alloc, &mut words(alloc, &many)?, &more)
 }

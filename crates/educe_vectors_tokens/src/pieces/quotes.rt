@@ -26,101 +26,93 @@ fn fits(alloc: Global, literal: &str) -> Result<bool, Fail> {
     }
 }
 
+static STRINGS: [(&str, bool); 14] = [
+    (r#""a""#, true),
+    (r#""a"#, false),
+    (r#""a"b""#, false),
+    (r#""""#, true),
+    ("\"é\n\"", true),
+    (r#""\n\r\t\\\0\'\"""#, true),
+    (r#""\""#, false),
+    (r#""\q""#, false),
+    (r#""\x7f""#, true),
+    (r#""\x80""#, false),
+    (r#""\x7""#, false),
+    ("\"\\\n\"", true),
+    ("\"\\\r\n\"", true),
+    ("\"\\\r\"", false),
+];
+
 #[test]
 fn strings(rt: HostRuntime) -> Result<(), Fail> {
-    check_answers(
-        rt.alloc(),
-        fits,
-        &[
-            (r#""a""#, true),
-            (r#""a"#, false),
-            (r#""a"b""#, false),
-            (r#""""#, true),
-            ("\"é\n\"", true),
-            (r#""\n\r\t\\\0\'\"""#, true),
-            (r#""\""#, false),
-            (r#""\q""#, false),
-            (r#""\x7f""#, true),
-            (r#""\x80""#, false),
-            (r#""\x7""#, false),
-            ("\"\\\n\"", true),
-            ("\"\\\r\n\"", true),
-            ("\"\\\r\"", false),
-        ],
-    )
+    check_answers(rt.alloc(), fits, &STRINGS)
 }
+
+static CODES: [(&str, bool); 14] = [
+    (r"'\u{1_F600}'", true),
+    (r"'\u{0_0_0_0_4_1__}'", true),
+    (r"'\u{D7FF}'", true),
+    (r"'\u{D800}'", false),
+    (r"'\u{DFFF}'", false),
+    (r"'\u{E000}'", true),
+    (r"'\u{10FFFF}'", true),
+    (r"'\u{110000}'", false),
+    (r"'\u{}'", false),
+    (r"'\u{_1}'", false),
+    (r"'\u{1234567}'", false),
+    (r"'\u{1g}'", false),
+    (r"'\u{1'", false),
+    (r"'\u41'", false),
+];
 
 #[test]
 fn codes(rt: HostRuntime) -> Result<(), Fail> {
-    check_answers(
-        rt.alloc(),
-        fits,
-        &[
-            (r"'\u{1_F600}'", true),
-            (r"'\u{0_0_0_0_4_1__}'", true),
-            (r"'\u{D7FF}'", true),
-            (r"'\u{D800}'", false),
-            (r"'\u{DFFF}'", false),
-            (r"'\u{E000}'", true),
-            (r"'\u{10FFFF}'", true),
-            (r"'\u{110000}'", false),
-            (r"'\u{}'", false),
-            (r"'\u{_1}'", false),
-            (r"'\u{1234567}'", false),
-            (r"'\u{1g}'", false),
-            (r"'\u{1'", false),
-            (r"'\u41'", false),
-        ],
-    )
+    check_answers(rt.alloc(), fits, &CODES)
 }
+
+static BYTES_AND_C_STRINGS: [(&str, bool); 16] = [
+    (r#""\u{1_F600}""#, true),
+    (r#""\u{D800}""#, false),
+    (r#"b"a\x80\xff\'""#, true),
+    ("b\"\\\n\"", true),
+    (r#"b"a"#, false),
+    (r#"b"é""#, false),
+    (r#"b"\u{41}""#, false),
+    (r#"c"é\xff\u{41}""#, true),
+    (r#"c"\xff"#, false),
+    (r#"c"\q""#, false),
+    (r"b'a'", true),
+    (r"b'\xff'", true),
+    (r"b'a", false),
+    (r"b'\u{1}'", false),
+    (r"b'é'", false),
+    ("b'\n'", false),
+];
 
 #[test]
 fn bytes_and_c_strings(rt: HostRuntime) -> Result<(), Fail> {
-    check_answers(
-        rt.alloc(),
-        fits,
-        &[
-            (r#""\u{1_F600}""#, true),
-            (r#""\u{D800}""#, false),
-            (r#"b"a\x80\xff\'""#, true),
-            ("b\"\\\n\"", true),
-            (r#"b"a"#, false),
-            (r#"b"é""#, false),
-            (r#"b"\u{41}""#, false),
-            (r#"c"é\xff\u{41}""#, true),
-            (r#"c"\xff"#, false),
-            (r#"c"\q""#, false),
-            (r"b'a'", true),
-            (r"b'\xff'", true),
-            (r"b'a", false),
-            (r"b'\u{1}'", false),
-            (r"b'é'", false),
-            ("b'\n'", false),
-        ],
-    )
+    check_answers(rt.alloc(), fits, &BYTES_AND_C_STRINGS)
 }
+
+static CHARACTERS: [(&str, bool); 13] = [
+    (r"'a'", true),
+    (r"'é'", true),
+    (r#"'"'"#, true),
+    (r"'\''", true),
+    (r"'a", false),
+    (r"'''", false),
+    (r"''", false),
+    (r"'ab'", false),
+    ("'\n'", false),
+    ("'\r'", false),
+    ("'\t'", false),
+    (r"'\x80'", false),
+    ("'\\\n'", false),
+];
 
 #[test]
 fn characters(rt: HostRuntime) -> Result<(), Fail> {
-    check_answers(
-        rt.alloc(),
-        fits,
-        &[
-            (r"'a'", true),
-            (r"'é'", true),
-            (r#"'"'"#, true),
-            (r"'\''", true),
-            (r"'a", false),
-            (r"'''", false),
-            (r"''", false),
-            (r"'ab'", false),
-            ("'\n'", false),
-            ("'\r'", false),
-            ("'\t'", false),
-            (r"'\x80'", false),
-            ("'\\\n'", false),
-        ],
-    )
+    check_answers(rt.alloc(), fits, &CHARACTERS)
 }
 
 /// Where a literal ends behind its opening quote.

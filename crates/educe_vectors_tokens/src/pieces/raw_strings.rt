@@ -15,23 +15,21 @@ fn found(alloc: Global, text: &str) -> Result<Option<usize>, Fail> {
     Ok(raw_len(&characters(alloc, text)?))
 }
 
+static RAW_TEXTS: [(&str, Option<usize>); 9] = [
+    ("\"\"", Some(2)),
+    ("\"\"\"", Some(2)),
+    ("#\"a\"b\"#", Some(7)),
+    ("#\"a\"b\"##", Some(7)),
+    ("##\"a\"#\"##", Some(9)),
+    ("#\"a\"", None),
+    ("\"a", None),
+    ("#a", None),
+    ("", None),
+];
+
 #[test]
 fn raw_texts(rt: HostRuntime) -> Result<(), Fail> {
-    check_answers(
-        rt.alloc(),
-        found,
-        &[
-            ("\"\"", Some(2)),
-            ("\"\"\"", Some(2)),
-            ("#\"a\"b\"#", Some(7)),
-            ("#\"a\"b\"##", Some(7)),
-            ("##\"a\"#\"##", Some(9)),
-            ("#\"a\"", None),
-            ("\"a", None),
-            ("#a", None),
-            ("", None),
-        ],
-    )
+    check_answers(rt.alloc(), found, &RAW_TEXTS)
 }
 
 #[test]

@@ -132,43 +132,41 @@ fn message(alloc: Global, kind: Kind) -> Result<String, Fail> {
     }
 }
 
+static SAYS_WHY: [(Kind, &str); 11] = [
+    (Kind::Syntax, "syntax error"),
+    (Kind::TooDeep, "nested too deeply"),
+    (Kind::NotCarried, "`1.5` is not supported"),
+    (Kind::NotBuilt, "not built yet"),
+    (
+        Kind::DeriveAttributeNotSetUpYet,
+        "you are using `Educe` in the `derive` attribute, but it has not been set up yet",
+    ),
+    (
+        Kind::DuplicateName,
+        "the name `é` is defined more than once",
+    ),
+    (
+        Kind::UnsupportedTrait,
+        "unsupported trait `é`, available traits:\n    Debug\n    Clone\n    Copy\n    PartialEq\n    Eq\n    PartialOrd\n    Ord\n    Hash\n    Default",
+    ),
+    (Kind::ReuseATrait, "the trait `é` is used repeatedly"),
+    (
+        Kind::ReuseARank { rank: 0 },
+        "the rank `0` is repeatedly used",
+    ),
+    (
+        Kind::ReuseARank { rank: -7 },
+        "the rank `-7` is repeatedly used",
+    ),
+    (
+        Kind::ReuseARank { rank: i64::MIN },
+        "the rank `-9223372036854775808` is repeatedly used",
+    ),
+];
+
 #[test]
 fn says_why(rt: HostRuntime) -> Result<(), Fail> {
-    check_texts(
-        rt.alloc(),
-        message,
-        &[
-            (Kind::Syntax, "syntax error"),
-            (Kind::TooDeep, "nested too deeply"),
-            (Kind::NotCarried, "`1.5` is not supported"),
-            (Kind::NotBuilt, "not built yet"),
-            (
-                Kind::DeriveAttributeNotSetUpYet,
-                "you are using `Educe` in the `derive` attribute, but it has not been set up yet",
-            ),
-            (
-                Kind::DuplicateName,
-                "the name `é` is defined more than once",
-            ),
-            (
-                Kind::UnsupportedTrait,
-                "unsupported trait `é`, available traits:\n    Debug\n    Clone\n    Copy\n    PartialEq\n    Eq\n    PartialOrd\n    Ord\n    Hash\n    Default",
-            ),
-            (Kind::ReuseATrait, "the trait `é` is used repeatedly"),
-            (
-                Kind::ReuseARank { rank: 0 },
-                "the rank `0` is repeatedly used",
-            ),
-            (
-                Kind::ReuseARank { rank: -7 },
-                "the rank `-7` is repeatedly used",
-            ),
-            (
-                Kind::ReuseARank { rank: i64::MIN },
-                "the rank `-9223372036854775808` is repeatedly used",
-            ),
-        ],
-    )
+    check_texts(rt.alloc(), message, &SAYS_WHY)
 }
 
 /// A text of three lines.
@@ -183,19 +181,17 @@ fn place(_alloc: Global, start: u32) -> Result<(u32, u32), Fail> {
     }
 }
 
+static COUNTS_LINES_AND_CHARACTERS: [(u32, (u32, u32)); 7] = [
+    (0, (1, 1)),
+    (1, (1, 2)),
+    (2, (2, 1)),
+    (4, (2, 2)),
+    (5, (3, 1)),
+    (7, (3, 2)),
+    (8, (3, 3)),
+];
+
 #[test]
 fn counts_lines_and_characters(rt: HostRuntime) -> Result<(), Fail> {
-    check_answers(
-        rt.alloc(),
-        place,
-        &[
-            (0, (1, 1)),
-            (1, (1, 2)),
-            (2, (2, 1)),
-            (4, (2, 2)),
-            (5, (3, 1)),
-            (7, (3, 2)),
-            (8, (3, 3)),
-        ],
-    )
+    check_answers(rt.alloc(), place, &COUNTS_LINES_AND_CHARACTERS)
 }

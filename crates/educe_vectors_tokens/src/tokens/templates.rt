@@ -83,18 +83,16 @@ fn part_of_part(
     Ok(spellings(alloc, &part(part_of_all, inner)?)?)
 }
 
+static PARTS_SHARE_A_LIST: [(((usize, usize), (usize, usize)), &str); 4] = [
+    (((0, 5), (0, 5)), "5: a : : b c"),
+    (((1, 4), (0, 3)), "3: : : b"),
+    (((1, 4), (2, 3)), "1: b"),
+    (((1, 4), (3, 3)), "none"),
+];
+
 #[test]
 fn parts_share_a_list(rt: HostRuntime) -> Result<(), Fail> {
-    check_texts(
-        rt.alloc(),
-        part_of_part,
-        &[
-            (((0, 5), (0, 5)), "5: a : : b c"),
-            (((1, 4), (0, 3)), "3: : : b"),
-            (((1, 4), (2, 3)), "1: b"),
-            (((1, 4), (3, 3)), "none"),
-        ],
-    )
+    check_texts(rt.alloc(), part_of_part, &PARTS_SHARE_A_LIST)
 }
 
 /// The part `a:` of `a::b`.

@@ -39,23 +39,21 @@ fn integer(alloc: Global, source: &str) -> Result<Option<u128>, Fail> {
     Ok(int_value(&token(alloc, source)?))
 }
 
+static INTEGERS: [(&str, Option<u128>); 9] = [
+    ("1", Some(1)),
+    ("007", Some(7)),
+    ("1_000", Some(1000)),
+    ("0x_Fu8", Some(15)),
+    ("0b1010usize", Some(10)),
+    ("0o17_i128", Some(15)),
+    ("340282366920938463463374607431768211455", Some(u128::MAX)),
+    ("_1", None),
+    ("'1'", None),
+];
+
 #[test]
 fn integers(rt: HostRuntime) -> Result<(), Fail> {
-    check_answers(
-        rt.alloc(),
-        integer,
-        &[
-            ("1", Some(1)),
-            ("007", Some(7)),
-            ("1_000", Some(1000)),
-            ("0x_Fu8", Some(15)),
-            ("0b1010usize", Some(10)),
-            ("0o17_i128", Some(15)),
-            ("340282366920938463463374607431768211455", Some(u128::MAX)),
-            ("_1", None),
-            ("'1'", None),
-        ],
-    )
+    check_answers(rt.alloc(), integer, &INTEGERS)
 }
 
 /// The text, where there is one.
