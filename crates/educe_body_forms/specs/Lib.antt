@@ -3,6 +3,7 @@ pub mod LiteralTexts
 pub mod Keys
 pub mod Suffixed
 pub mod Lifetimes
+pub mod Filled
 pub mod Tokens
 pub mod Printing
 pub mod Printouts

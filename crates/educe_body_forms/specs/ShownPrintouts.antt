@@ -217,13 +217,11 @@ wrapper_impl names = wrapper_head names beside in_curly (wrapper_function names)
 abbrev pub wrapper_printout : ArgumentNames → Printout
 wrapper_printout names = wrapper_struct names beside wrapper_impl names
 
--- `educe__value : & Type ,`
-abbrev pub closure_value : ArgumentNames → Written → Printout
-closure_value names ty = name names.own_value beside says (codes ": &") refl beside written ty beside says (codes ",") refl
-
 -- `| educe__value : & Type , educe__formatter : & mut :: core :: fmt :: Formatter < '_ > |`
 abbrev pub closure_head : ArgumentNames → Written → Printout
-closure_head names ty = says (codes "|") refl beside closure_value names ty beside formatter_param (name names.own_formatter) beside says (codes "|") refl
+closure_head names ty =
+    says (codes "|") refl beside name names.own_value beside says (codes ": &") refl beside written ty
+    beside (says (codes ",") refl beside formatter_param (name names.own_formatter) beside says (codes "|") refl)
 
 -- `( educe__value , educe__formatter )`
 abbrev pub closure_arguments : ArgumentNames → Printout

@@ -65,7 +65,8 @@ pub enum Form {
     /// `Self` or `Self::V` with its fields: `{ a: v, }`, `( v, )`, or none (Rust Reference, Struct
     /// expressions).
     Construct(Option<Ident>, FieldForm, Inits),
-    /// The tokens of a default value, as they were written.
+    /// The tokens of a default value: an expression as it was written or as it is converted, or a call of
+    /// `Default::default`.
     Pasted(Written),
     /// `*self`
     WholeCopy,

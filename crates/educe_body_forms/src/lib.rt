@@ -5,6 +5,7 @@
 mod bindings;
 mod body;
 mod comparison;
+mod filled;
 mod form;
 mod key_function;
 mod keys;

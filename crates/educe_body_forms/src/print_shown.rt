@@ -2,10 +2,11 @@
 ghost use Rattle.std.specs.Prelude.{OnOk};
 ghost use Rattle.educe_tokens.specs.Appends.{HasPrefix};
 ghost use Rattle.educe_body_forms.specs.Printouts.{Prints, in_round};
-ghost use Rattle.educe_body_forms.specs.ShownPrintouts.{literal_printout, write_str, write_str_printout, opening_printout, opened, builder_printout, entry_key, entry_front, entry_start, finish_printout, helper_field, helper_struct, first_of_self, helper_function, helper_impl, helper_printout};
+ghost use Rattle.educe_body_forms.specs.ShownPrintouts.{literal_printout, write_str, write_str_printout, opening_printout, opened, builder_printout, entry_key, entry_front, entry_start, finish_printout, helper_printout};
 
+use crate::filled::push_filled;
 use crate::literal_text::LiteralText;
-use crate::print_fmt::{push_fmt_head, push_lifetime, push_literal, push_number};
+use crate::print_fmt::push_literal;
 use crate::shown::{EntryKey, Opening};
 use educe_tokens::{TokenStream, quote};
 use educe_tree::{Ident, ToTokens};
@@ -176,6 +177,10 @@ pub(crate) fn push_finish(
     quote(alloc, tokens, ". finish ( )")
 }
 
+/// The type of a map's keys and its `Debug`, by the names of the type and of the formatter.
+const HELPER: &str =
+    "struct #0 ( & 'static :: core :: primitive :: str ) ; impl :: core :: fmt :: Debug for #0 { fn fmt ( & self , #1 : & mut :: core :: fmt :: Formatter < '_ > ) -> :: core :: fmt :: Result { #1 . write_str ( self . 0 ) } }";
+
 /// Appends the type of a map's keys and its `Debug`.
 pub(crate) fn push_helper(
     alloc: Global,
@@ -187,90 +192,5 @@ pub(crate) fn push_helper(
         OnOk result (Prints found tokens.old tokens.new) }
     ensures prefix { HasPrefix tokens.old tokens.new }
 {
-    push_helper_struct(alloc, tokens, helper)?;
-    push_helper_impl(alloc, tokens, helper, formatter)
-}
-
-/// Appends the field of that type in round brackets.
-fn push_helper_field(alloc: Global, tokens: &mut TokenStream) -> Result<(), AllocError>
-    ensures ok { OnOk result (Prints helper_field tokens.old tokens.new) }
-    ensures prefix { HasPrefix tokens.old tokens.new }
-{
-    quote(alloc, tokens, "(")?;
-    quote(alloc, tokens, "&")?;
-    push_lifetime(alloc, tokens, "'static")?;
-    quote(alloc, tokens, ":: core :: primitive :: str")?;
-    quote(alloc, tokens, ")")
-}
-
-/// Appends the declaration of that type.
-fn push_helper_struct(
-    alloc: Global,
-    tokens: &mut TokenStream,
-    helper: &Ident,
-) -> Result<(), AllocError>
-    ensures ok { OnOk result (Prints (helper_struct helper.now) tokens.old tokens.new) }
-    ensures prefix { HasPrefix tokens.old tokens.new }
-{
-    quote(alloc, tokens, "struct")?;
-    helper.to_tokens(alloc, tokens)?;
-    push_helper_field(alloc, tokens)?;
-    quote(alloc, tokens, ";")
-}
-
-/// Appends the first field of `self`.
-pub(crate) fn push_first_of_self(alloc: Global, tokens: &mut TokenStream) -> Result<(), AllocError>
-    ensures ok { OnOk result (Prints first_of_self tokens.old tokens.new) }
-    ensures prefix { HasPrefix tokens.old tokens.new }
-{
-    quote(alloc, tokens, "self .")?;
-    push_number(alloc, tokens, "0")
-}
-
-/// Appends a call that writes that field.
-fn push_write_first(
-    alloc: Global,
-    tokens: &mut TokenStream,
-    formatter: &Ident,
-) -> Result<(), AllocError>
-    ensures ok { let found = write_str_printout formatter.now first_of_self in
-        OnOk result (Prints found tokens.old tokens.new) }
-    ensures prefix { HasPrefix tokens.old tokens.new }
-{
-    push_write_str(alloc, tokens, formatter)?;
-    quote(alloc, tokens, "(")?;
-    push_first_of_self(alloc, tokens)?;
-    quote(alloc, tokens, ")")
-}
-
-/// Appends the `fmt` of that type.
-fn push_helper_function(
-    alloc: Global,
-    tokens: &mut TokenStream,
-    formatter: &Ident,
-) -> Result<(), AllocError>
-    ensures ok { OnOk result (Prints (helper_function formatter.now) tokens.old tokens.new) }
-    ensures prefix { HasPrefix tokens.old tokens.new }
-{
-    push_fmt_head(alloc, tokens, formatter)?;
-    quote(alloc, tokens, "{")?;
-    push_write_first(alloc, tokens, formatter)?;
-    quote(alloc, tokens, "}")
-}
-
-/// Appends the `Debug` of that type.
-fn push_helper_impl(
-    alloc: Global,
-    tokens: &mut TokenStream,
-    helper: &Ident,
-    formatter: &Ident,
-) -> Result<(), AllocError>
-    ensures ok { OnOk result (Prints (helper_impl helper.now formatter.now) tokens.old tokens.new) }
-    ensures prefix { HasPrefix tokens.old tokens.new }
-{
-    quote(alloc, tokens, "impl :: core :: fmt :: Debug for")?;
-    helper.to_tokens(alloc, tokens)?;
-    quote(alloc, tokens, "{")?;
-    push_helper_function(alloc, tokens, formatter)?;
-    quote(alloc, tokens, "}")
+    push_filled(alloc, tokens, HELPER, &[helper, formatter])
 }

@@ -1,8 +1,10 @@
 use Rattle.std.proofs.lemmas.Result.{on_ok_weaker}
+use Rattle.educe_tokens.specs.Quote.{quoted}
 use Rattle.educe_tokens.proofs.Appending.{Appends-append}
 use Rattle.educe_body_forms.proofs.print_arguments.push_closure_head.Goals as goal
 
 pub returns-clause-ok : goal.returns-clause-ok
+unfolding quoted
 returns-clause-ok c =
-    let front = Appends-append (Appends-append c.in_ok-quote.ensures.ok c.in_ok-push_closure_value.ensures.ok) c.in_ok-push_formatter_param.ensures.ok in
-    on_ok_weaker _ (λ back. Appends-append front back) c.quote-2.ensures.ok
+    let front = Appends-append c.in_ok-push_filled.ensures.ok c.in_ok-append_written.ensures.ok in
+    on_ok_weaker c.push_filled-2.result (λ back. Appends-append front back) c.push_filled-2.ensures.ok

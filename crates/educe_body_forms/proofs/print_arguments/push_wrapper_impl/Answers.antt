@@ -1,6 +1,0 @@
-use Rattle.std.proofs.lemmas.Result.{on_ok_weaker}
-use Rattle.educe_tokens.proofs.Appending.{Appends-append}
-use Rattle.educe_body_forms.proofs.print_arguments.push_wrapper_impl.Goals as goal
-
-pub returns-clause-ok : goal.returns-clause-ok
-returns-clause-ok c = on_ok_weaker _ (λ back. Appends-append c.in_ok-push_wrapper_head.ensures.ok (Appends-append (Appends-append c.in_ok-quote.ensures.ok c.in_ok-push_wrapper_function.ensures.ok) back)) c.quote-2.ensures.ok

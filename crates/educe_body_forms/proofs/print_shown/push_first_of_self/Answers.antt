@@ -1,6 +1,0 @@
-use Rattle.std.proofs.lemmas.Result.{on_ok_weaker}
-use Rattle.educe_tokens.proofs.Appending.{Appends-append}
-use Rattle.educe_body_forms.proofs.print_shown.push_first_of_self.Goals as goal
-
-pub returns-clause-ok : goal.returns-clause-ok
-returns-clause-ok c = on_ok_weaker _ (λ back. Appends-append c.in_ok-quote.ensures.ok back) c.push_number.ensures.ok
