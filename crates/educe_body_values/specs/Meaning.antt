@@ -551,10 +551,11 @@ abbrev pub entry_flow : Option Referent → EntryKey → Env → Thing → Flow
 entry_flow (Some BuilderName) key env thing = entered key env env.shown thing
 entry_flow found key env thing = Stuck
 
--- the names that stand around the type of an argument, and around its method
+-- a name that stands for nothing that is evaluated
 abbrev pub inert : Ident → Binding
 inert name = record { name = name.text; referent = Inert }
 
+-- the names that stand around the type of an argument, and around its method
 abbrev pub around_type : List Binding → ArgumentNames → List Binding
 around_type names own = names ++ inert own.wrapper ∷ []
 

@@ -24,8 +24,10 @@ use crate::showing::{builder_flow, declared, entry_flow, finished, text_flow};
 use crate::stage::Stage;
 use crate::types::pasted_callee;
 use crate::value::{FieldValue, FieldValues, Parts, Value};
-use educe_body_forms::{Arm, Body, Form, Forms, Init, Inits, KeyArms, Names, Pattern};
-use educe_tokens::{Seq, Spelling, Written};
+use educe_body_forms::{
+    Arm, Body, EntryKey, Form, Forms, Init, Inits, KeyArms, LiteralText, Names, Opening, Pattern,
+};
+use educe_tokens::{Seq, Spelling, Word, Written};
 use educe_tree::{ExprPath, Field, Ident};
 use std::alloc::{AllocError, Global};
 use std::cmp::Ordering;
@@ -241,40 +243,118 @@ fn run_form(alloc: Global, form: &Form, env: Env, stage: &Stage) -> Result<Flow,
         Form::Unreachable => Ok(Flow::Stuck),
         Form::Discard(name) => Ok(discarded(env, &name.text)),
         Form::AssignField(key, path, inner, handed) => {
-            let target = field_named(stage, &key.text);
-            run_assign(alloc, path.get(), inner.get(), *handed, &target, env, stage)
+            run_field(alloc, path.get(), inner.get(), *handed, key, env, stage)
         }
         Form::AssignThrough(name, path, inner, handed) => {
-            let target = find(env.names.as_slice(), &name.text);
-            run_assign(alloc, path.get(), inner.get(), *handed, &target, env, stage)
+            run_through(alloc, path.get(), inner.get(), *handed, name, env, stage)
         }
-        Form::WriteText(formatter, text) => {
-            let found = find(env.names.as_slice(), &formatter.text);
-            text_flow(alloc, env, &found, &text.text)
-        }
+        Form::WriteText(formatter, text) => written_text(alloc, env, formatter, text),
         Form::HelperType(helper, _) => declared(alloc, env, &helper.text, Referent::Helper),
         Form::Builder(builder, formatter, opening) => {
-            let found = find(env.names.as_slice(), &formatter.text);
-            builder_flow(alloc, env, &found, &builder.text, opening)
+            begun(alloc, env, builder, formatter, opening)
         }
         Form::BuilderEntry(builder, key, inner, _) => {
-            let found = find(env.names.as_slice(), &builder.text);
-            entry_flow(
-                alloc,
-                &found,
-                key,
-                run_form(alloc, inner.get(), env, stage)?,
-            )
+            run_entry(alloc, builder, key, inner.get(), env, stage)
         }
         Form::MethodArgument(own, inner, ty, path) => {
             let inner = run_form(alloc, inner.get(), env, stage)?;
             argument_flow(alloc, own.get(), ty, path.get(), inner)
         }
-        Form::Finish(builder) => {
-            let found = find(env.names.as_slice(), &builder.text);
-            Ok(finished(env, &found))
-        }
+        Form::Finish(builder) => Ok(ended_builder(env, builder)),
     }
+}
+
+/// What is written to a formatter.
+fn written_text(
+    alloc: Global,
+    env: Env,
+    formatter: &Ident,
+    text: &LiteralText,
+) -> Result<Flow, AllocError>
+    ensures { let found = look_up env.names formatter.now.text in
+        IfOk result (λ flow. flow ≡ meaning.text_flow env found text.now.text) }
+{
+    let found = find(env.names.as_slice(), &formatter.text);
+    text_flow(alloc, env, &found, &text.text)
+}
+
+/// A builder, which is in scope from now on.
+fn begun(
+    alloc: Global,
+    env: Env,
+    builder: &Ident,
+    formatter: &Ident,
+    opening: &Opening,
+) -> Result<Flow, AllocError>
+    ensures { let found = look_up env.names formatter.now.text in
+        IfOk result (λ flow. flow ≡ meaning.builder_flow env found builder.now.text opening.now) }
+{
+    let found = find(env.names.as_slice(), &formatter.text);
+    builder_flow(alloc, env, &found, &builder.text, opening)
+}
+
+/// What a builder has shown.
+fn ended_builder(env: Env, builder: &Ident) -> Flow
+    ensures { result ≡ meaning.finished env (look_up env.names builder.now.text) }
+{
+    let found = find(env.names.as_slice(), &builder.text);
+    finished(env, &found)
+}
+
+/// What a form gives is the value of an entry of a builder.
+#[cycle(run)]
+fn run_entry(
+    alloc: Global,
+    builder: &Ident,
+    key: &EntryKey,
+    inner: &Form,
+    env: Env,
+    stage: &Stage,
+) -> Result<Flow, AllocError>
+    ensures { let found = look_up env.names builder.now.text in
+        IfOk result (λ flow. flow ≡ go_on (form_value (scene_at stage.now) env inner.now) (meaning.entry_flow found key.now)) }
+{
+    let found = find(env.names.as_slice(), &builder.text);
+    let inner = run_form(alloc, inner, env, stage)?;
+    entry_flow(alloc, &found, key, inner)
+}
+
+/// What a call makes of a form is assigned to a field of `self`.
+#[cycle(run)]
+fn run_field(
+    alloc: Global,
+    path: &ExprPath,
+    inner: &Form,
+    handed: bool,
+    key: &Word,
+    env: Env,
+    stage: &Stage,
+) -> Result<Flow, AllocError>
+    ensures { let here = scene_at stage.now in
+        let target = meaning.field_named here key.now.text in
+        IfOk result (λ flow. flow ≡ go_on (form_value here env inner.now) (assign here path.now handed target)) }
+{
+    let target = field_named(stage, &key.text);
+    run_assign(alloc, path, inner, handed, &target, env, stage)
+}
+
+/// What a call makes of a form is assigned through a name.
+#[cycle(run)]
+fn run_through(
+    alloc: Global,
+    path: &ExprPath,
+    inner: &Form,
+    handed: bool,
+    name: &Ident,
+    env: Env,
+    stage: &Stage,
+) -> Result<Flow, AllocError>
+    ensures { let here = scene_at stage.now in
+        let target = look_up env.names name.now.text in
+        IfOk result (λ flow. flow ≡ go_on (form_value here env inner.now) (assign here path.now handed target)) }
+{
+    let target = find(env.names.as_slice(), &name.text);
+    run_assign(alloc, path, inner, handed, &target, env, stage)
 }
 
 /// What a call makes of a form is assigned to what a name stands for; where the truth value holds, the

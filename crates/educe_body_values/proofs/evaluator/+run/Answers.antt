@@ -5,7 +5,7 @@ use Rattle.educe_body_forms.specs.declared.form.Form.{Form}
 use Rattle.educe_body_values.specs.declared.flow.Flow.{Flow}
 use Rattle.educe_body_values.specs.declared.flow.Flow.TheVariants.{Gives, Returns, Stuck}
 use Rattle.educe_body_values.specs.Scoping.{callee_in}
-use Rattle.educe_body_values.specs.Meaning.{scene_at, form_value, args_list, arms_list, held_list, call_named, call_value, look_up, with_named, go_on, assign, entry_flow, argument_flow, or_nothing, Scene, built}
+use Rattle.educe_body_values.specs.Meaning.{scene_at, form_value, args_list, arms_list, held_list, call_named, call_value, look_up, with_named, go_on, assign, entry_flow, argument_flow, or_nothing, field_named, Scene, built}
 use Rattle.educe_body_values.proofs.Rows.{form_value-Call, form_value-Not, form_value-SomeOf, form_value-IfReturn, form_value-Return, form_value-HashPart, form_value-Construct, form_value-MatchOrdering, form_value-MatchValue, form_value-Block, form_value-AssignField, form_value-AssignThrough, form_value-BuilderEntry, form_value-MethodArgument, match_held, if_let_known, args_list-step, args_list-gathered, args_list-all, counted-gathers, inits_list-step, inits_list-gathered, inits_list-fewer, inits_list-all}
 use Rattle.educe_body_values.proofs.evaluator.+run.Goals as goal
 
@@ -46,6 +46,55 @@ run_form-returns-in_ok-run_form-in-HashPart t c =
     let s = scene_at c.args.stage.now in
     rw (c.in-HashPart.is, form_value-HashPart s c.args.env c.in-HashPart.inner, sym c.get-in-HashPart.ensures) (rw c.in_ok-run_form-in-HashPart.ensures at c.hash_part.ensures)
 
+pub run_form-returns-in-AssignField : goal.run_form-returns-in-AssignField
+run_form-returns-in-AssignField t c =
+    let s = scene_at c.args.stage.now in
+    let arm = c.in-AssignField in
+    ends_alike c.run_field.result _ _
+    (
+    (λ i. go_on (form_value s c.args.env (c.get-in-AssignField-2.ensures i)) (assign s (c.get-in-AssignField.ensures i) arm.handed (field_named s arm.key.text)))
+    ∙ sym (ap (form_value s c.args.env) arm.is ∙ form_value-AssignField s c.args.env arm.key arm.path arm.inner arm.handed)
+    )
+    c.run_field.ensures
+
+pub run_form-returns-in-AssignThrough : goal.run_form-returns-in-AssignThrough
+run_form-returns-in-AssignThrough t c =
+    let s = scene_at c.args.stage.now in
+    let arm = c.in-AssignThrough in
+    ends_alike c.run_through.result _ _
+    (
+    (λ i. go_on (form_value s c.args.env (c.get-in-AssignThrough-2.ensures i)) (assign s (c.get-in-AssignThrough.ensures i) arm.handed (look_up c.args.env.names arm.name.text)))
+    ∙ sym (ap (form_value s c.args.env) arm.is ∙ form_value-AssignThrough s c.args.env arm.name arm.path arm.inner arm.handed)
+    )
+    c.run_through.ensures
+
+pub run_form-returns-in-BuilderEntry : goal.run_form-returns-in-BuilderEntry
+run_form-returns-in-BuilderEntry t c =
+    let s = scene_at c.args.stage.now in
+    let arm = c.in-BuilderEntry in
+    ends_alike c.run_entry.result _ _
+    (
+    (λ i. go_on (form_value s c.args.env (c.get-in-BuilderEntry.ensures i)) (entry_flow (look_up c.args.env.names arm.builder.text) arm.key))
+    ∙ sym (ap (form_value s c.args.env) arm.is ∙ form_value-BuilderEntry s c.args.env arm.builder arm.key arm.inner arm.field-3)
+    )
+    c.run_entry.ensures
+
+pub run_field-returns : goal.run_field-returns
+run_field-returns t c =
+    let s = scene_at c.args.stage.now in
+    ends_alike c.run_assign.result _ _ (ap (λ target. go_on (form_value s c.args.env c.args.inner.now) (assign s c.args.path.now c.args.handed target)) c.field_named-target.ensures) c.run_assign.ensures
+
+pub run_through-returns : goal.run_through-returns
+run_through-returns t c =
+    let s = scene_at c.args.stage.now in
+    let target = c.find-target.ensures ∙ ap (λ names. look_up names c.args.name.now.text) c.as_slice.ensures in
+    ends_alike c.run_assign.result _ _ (ap (λ target. go_on (form_value s c.args.env c.args.inner.now) (assign s c.args.path.now c.args.handed target)) target) c.run_assign.ensures
+
+pub run_entry-returns : goal.run_entry-returns
+run_entry-returns t c =
+    let found = c.find-found.ensures ∙ ap (λ names. look_up names c.args.builder.now.text) c.as_slice.ensures in
+    ends_alike c.entry_flow.result _ _ (λ i. go_on (c.in_ok-inner.ensures i) (entry_flow (found i) c.args.key.now)) c.entry_flow.ensures
+
 pub run_form-returns-in-None : goal.run_form-returns-in-None
 run_form-returns-in-None t c =
     let s = scene_at c.args.stage.now in
@@ -62,17 +111,6 @@ run_form-returns-in-Some t c =
     ends_alike c.run_at_equal.result _ _
     (sym (match_held s c.args.env c.args.form.now arm.matched arm.partial arm.held c.in-Some.block arm.greater arm.less flow arm.is c.in-Some.is gives))
     c.run_at_equal.ensures
-
-pub run_form-returns-in-MatchValue : goal.run_form-returns-in-MatchValue
-run_form-returns-in-MatchValue t c =
-    let s = scene_at c.args.stage.now in
-    let arm = c.in-MatchValue in
-    ends_alike c.run_arms.result _ _
-    (
-    ap (λ arms. with_named s c.args.env (look_up c.args.env.names arm.name.text) (arms_list s c.args.env arms)) c.as_slice.ensures
-    ∙ sym (ap (form_value s c.args.env) arm.is ∙ form_value-MatchValue s c.args.env arm.name arm.arms)
-    )
-    c.run_arms.ensures
 
 pub run_form-returns-in-Some-true : goal.run_form-returns-in-Some-true
 run_form-returns-in-Some-true t c =
@@ -97,47 +135,22 @@ run_form-returns-in-Some-others t c =
     )
     c.run_inner.ensures
 
+pub run_form-returns-in-MatchValue : goal.run_form-returns-in-MatchValue
+run_form-returns-in-MatchValue t c =
+    let s = scene_at c.args.stage.now in
+    let arm = c.in-MatchValue in
+    ends_alike c.run_arms.result _ _
+    (
+    ap (λ arms. with_named s c.args.env (look_up c.args.env.names arm.name.text) (arms_list s c.args.env arms)) c.as_slice.ensures
+    ∙ sym (ap (form_value s c.args.env) arm.is ∙ form_value-MatchValue s c.args.env arm.name arm.arms)
+    )
+    c.run_arms.ensures
+
 pub run_form-returns-in-Construct : goal.run_form-returns-in-Construct
 run_form-returns-in-Construct t c =
     let s = scene_at c.args.stage.now in
     let arm = c.in-Construct in
     ends_alike c.run_construct.result _ _ (sym (ap (form_value s c.args.env) arm.is ∙ form_value-Construct s c.args.env arm.name arm.field-1 arm.inits)) c.run_construct.ensures
-
-pub run_form-returns-in-AssignField : goal.run_form-returns-in-AssignField
-run_form-returns-in-AssignField t c =
-    let s = scene_at c.args.stage.now in
-    let arm = c.in-AssignField in
-    ends_alike c.run_assign.result _ _
-    (
-    (λ i. go_on (form_value s c.args.env (c.get-in-AssignField-2.ensures i)) (assign s (c.get-in-AssignField.ensures i) arm.handed (c.field_named-target.ensures i)))
-    ∙ sym (ap (form_value s c.args.env) arm.is ∙ form_value-AssignField s c.args.env arm.key arm.path arm.inner arm.handed)
-    )
-    c.run_assign.ensures
-
-pub run_form-returns-in-AssignThrough : goal.run_form-returns-in-AssignThrough
-run_form-returns-in-AssignThrough t c =
-    let s = scene_at c.args.stage.now in
-    let arm = c.in-AssignThrough in
-    let target = c.find-target.ensures ∙ ap (λ names. look_up names arm.name.text) c.as_slice-in-AssignThrough.ensures in
-    ends_alike c.run_assign-in-AssignThrough.result _ _
-    (
-    (λ i. go_on (form_value s c.args.env (c.get-in-AssignThrough-2.ensures i)) (assign s (c.get-in-AssignThrough.ensures i) arm.handed (target i)))
-    ∙ sym (ap (form_value s c.args.env) arm.is ∙ form_value-AssignThrough s c.args.env arm.name arm.path arm.inner arm.handed)
-    )
-    c.run_assign-in-AssignThrough.ensures
-
-pub run_form-returns-in_ok-run_form-in-BuilderEntry : goal.run_form-returns-in_ok-run_form-in-BuilderEntry
-run_form-returns-in_ok-run_form-in-BuilderEntry t c =
-    let s = scene_at c.args.stage.now in
-    let arm = c.in-BuilderEntry in
-    let found = c.find-found-in-BuilderEntry.ensures ∙ ap (λ names. look_up names arm.builder.text) c.as_slice-in-BuilderEntry.ensures in
-    let gives = c.in_ok-run_form-in-BuilderEntry.ensures ∙ ap (form_value s c.args.env) c.get-in-BuilderEntry.ensures in
-    ends_alike c.entry_flow.result _ _
-    (
-    (λ i. go_on (gives i) (entry_flow (found i) arm.key))
-    ∙ sym (ap (form_value s c.args.env) arm.is ∙ form_value-BuilderEntry s c.args.env arm.builder arm.key arm.inner arm.field-3)
-    )
-    c.entry_flow.ensures
 
 pub run_form-returns-in_ok-inner-in-MethodArgument : goal.run_form-returns-in_ok-inner-in-MethodArgument
 run_form-returns-in_ok-inner-in-MethodArgument t c =
