@@ -9,7 +9,6 @@ ghost use Rattle.educe_attrs.specs.Causes.{NoCause, OfStop};
 ghost use Rattle.educe_attrs.specs.Phases.{OfHandler};
 ghost use Rattle.educe_bound.specs.Predicates.{keys_of};
 ghost use Rattle.educe_bound_traits.specs.declared.traits.Trait.TheVariants.{Eq};
-ghost use Rattle.educe_cmp_eq.specs.EqTypes.{AddsImpl};
 ghost use Rattle.educe_handlers.specs.EveryType.{behind};
 ghost use Rattle.educe_laws.specs.Blocks as spec;
 ghost use Rattle.educe_laws.specs.Handled.{handling};
@@ -20,7 +19,7 @@ ghost use Rattle.educe_laws.specs.Types as types;
 use crate::eq_check::check_item;
 use crate::eq_types::checked_types;
 use educe_attrs::Stop;
-use educe_body::{Item, Items};
+use educe_body::{ImplItem, Item, Items};
 use educe_bound::{Bound, Trait};
 use educe_handlers::{
     Header, Task, TraitHandlerContext, bound_of_type, check_places, header_of, impl_item, is_copied,
@@ -42,19 +41,13 @@ fn has_check(bound: &Bound, checked: &Vec<&Ty>) -> bool
     }
 }
 
-/// The impl of `Eq`, which has no functions, behind these items.
-fn push_impl(
-    alloc: Global,
-    ast: &DeriveInput,
-    generics: Generics,
-    items: &mut Items,
-) -> Result<(), AllocError>
+/// The impl of `Eq`, which has no functions.
+fn eq_impl(alloc: Global, ast: &DeriveInput, generics: Generics) -> Result<ImplItem, AllocError>
     requires { IsHeader Eq ast.now generics }
-    ensures { OnOk result (AddsImpl ast.now items.old items.new) }
+    ensures { IfOk result (spec.IsImpl Eq ast.now spec.AreNone) }
 {
     let item = impl_item(alloc, Trait::Eq, ast, generics, Seq::new(alloc))?;
-    items.push(Item::Impl(item))?;
-    Ok(())
+    Ok(item)
 }
 
 /// The check of these types, and behind it the impl.
@@ -70,10 +63,11 @@ fn checked_block(
     requires visits { AllByRecursion MayVisitType (behind checked.now.items) }
     ensures { IfOk result (spec.IsCheckedBlock ast.now) }
 {
+    let item = eq_impl(alloc, ast, generics)?;
+    let check = check_item(alloc, ast, &item.generics, checked)?;
     let mut items = Seq::new(alloc);
-    let check = check_item(alloc, ast, &generics, checked)?;
     items.push(Item::FieldCheck(check))?;
-    push_impl(alloc, ast, generics, &mut items)?;
+    items.push(Item::Impl(item))?;
     Ok(items)
 }
 
@@ -82,8 +76,9 @@ fn plain_block(alloc: Global, ast: &DeriveInput, generics: Generics) -> Result<I
     requires { IsHeader Eq ast.now generics }
     ensures { IfOk result (spec.IsImplBlock Eq ast.now spec.AreNone) }
 {
+    let item = eq_impl(alloc, ast, generics)?;
     let mut items = Seq::new(alloc);
-    push_impl(alloc, ast, generics, &mut items)?;
+    items.push(Item::Impl(item))?;
     Ok(items)
 }
 

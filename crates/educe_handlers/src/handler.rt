@@ -16,8 +16,8 @@ use educe_handlers_bounds::TraitHandlerContext;
 use educe_syntax::DeriveInput;
 use std::alloc::Global;
 
-/// The handler of a trait, or a part of one, which takes definitions of one shape. What implements it
-/// is a unit struct: what it does depends on the definition and on what is listed alone.
+/// The handler of a trait, or a part of one, which takes definitions of one shape. It has no values: what
+/// it does depends on the definition and on what is listed alone.
 pub trait TraitHandler {
     /// The trait whose items are added.
     const TRAIT: Trait;

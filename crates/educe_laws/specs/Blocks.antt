@@ -171,14 +171,12 @@ has_check Auto (t ∷ ts) = true
 has_check All types = false
 has_check (Custom predicates) types = false
 
--- the check of the types of fields, with the header of `Eq`, and behind it the impl, and nothing else
+-- the check of the types of fields, with the generics of the impl, and behind it the impl, and nothing else
 pub record IsCheckedBlock (definition : DeriveInput) (items : List Item) : Type 0 where
   pub check : CheckItem
   pub item : ImplItem
   pub are : items ≡ FieldCheck check ∷ Impl item ∷ []
-  pub generics : Generics
-  pub header_is : IsHeader trait.Eq definition generics
-  pub check_is : IsCheck definition generics (checked_types definition) check
+  pub check_is : IsCheck definition item.generics (checked_types definition) check
   pub impl_is : IsImpl trait.Eq definition AreNone item
 
 -- the items of the block of `Eq`: with true the check and the impl, and else the impl alone

@@ -30,7 +30,7 @@ fields_cloned table [] = Some []
 fields_cloned table (v ∷ vs) = made_with (cloned table v) (fields_cloned table vs)
 
 -- what `clone` means of a value: the value itself, where it is copied as a whole; else the value of the same variant that has what
--- is made of each field, where values have this variant's place
+-- is made of each field, where the variant's place is below 2^32
 abbrev pub clone_of : Answers → DeriveInput → Value → Option Outcome
 clone_of table definition a =
     if copies_whole definition then Some (Made a) else placed_value a.variant (fields_cloned table (valued trait.Clone definition a))

@@ -32,7 +32,7 @@ use Rattle.educe_laws.specs.Settings.{type_settings, AreSettings}
 abbrev pub mark_row : Bool → Row
 mark_row bare = default.type_row (record { enable_flag = bare; enable_new = false; enable_expression = false; enable_bound = false })
 
--- at a field that `default` writes its value, also behind `=`; at any other nothing
+-- at a field that `default` writes: its value, also behind `=`; at any other nothing
 abbrev pub value_row : Bool → Row
 value_row written = default.field_row (record { enable_flag = false; enable_expression = written })
 

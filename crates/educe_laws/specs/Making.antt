@@ -89,11 +89,11 @@ abbrev pub value_of : ℕ → Option (List FieldValue) → Option Outcome
 value_of place None = None
 value_of place (Some values) = Some (Made (record { variant = place; fields = values }))
 
--- the same where values have this place, which is one below 2^32
+-- the same where the place is below 2^32, as that of each value is
 abbrev pub placed_value : ℕ → Option (List FieldValue) → Option Outcome
 placed_value place values = if nat_lt place (2 ^ 32) then value_of place values else None
 
--- the same of a case, where values have its place
+-- the same of a case with its place
 abbrev pub case_made : Answers → DeriveInput → Option (ℕ × List Field) → Option Outcome
 case_made table definition None = None
 case_made table definition (Some case) = value_of case.0 (fields_made table definition case.1)

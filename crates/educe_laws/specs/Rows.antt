@@ -65,8 +65,8 @@ debug_row (Struct shape) =
 debug_row (Enum variants) =
     debug.type_row (record { enable_flag = true; enable_name = true; enable_named_field = false; enable_bound = true; name = own_type_name (Enum variants); named_field = false })
 
--- the forms of the attribute of a trait at a type: the trait alone, and `bound`; for `Default` also `new` and a value; and for `Debug`
--- those
+-- the forms of the attribute of a trait at a type: those of `Debug`; for any other trait the trait alone, and `bound`, and for `Default`
+-- also `new` and a value
 abbrev pub type_row : Trait → DeriveInput → Row
 type_row trait.Debug definition = debug_row definition.shape
 type_row trait.Default definition = default.type_row (record { enable_flag = true; enable_new = true; enable_expression = true; enable_bound = true })

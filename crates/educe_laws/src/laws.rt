@@ -7,8 +7,8 @@ ghost use Rattle.educe_laws.specs.EqLaws.{EqLaws};
 ghost use Rattle.educe_laws.specs.HashLaws.{HashLaws};
 ghost use Rattle.educe_laws.specs.Laws.{ComparisonLaws, TraitLaws};
 
-/// Where no cause of a listed trait stands, its settings are what the attributes say, and those of fields
-/// are no others. What the context notes of the traits that an impl inherits from is what it inherits; and
+/// Where no cause of a listed trait stands, its settings are what the attributes say, and of a trait that
+/// is read field by field those of fields are no others. What the context notes of the traits that an impl inherits from is what it inherits; and
 /// where the bound of an impl is the automatic one, its own predicates suffice, and none of them can be
 /// dropped.
 pub fn trait_laws()
