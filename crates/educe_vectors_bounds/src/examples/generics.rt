@@ -445,6 +445,10 @@ predicates of lifetimes
 #[educe(PartialEq)] struct S<'a, 'b, T: 'a>(&'a T, &'b u8) where 'b: 'a, 'a:;
 : holds impl < 'a , 'b , T : 'a > :: core :: cmp :: PartialEq for S < 'a , 'b , T > where 'b : 'a , 'a : , & 'a T : :: core :: cmp :: PartialEq { fn eq
 
+a lifetime that outlives itself
+#[educe(PartialEq)] struct S<'a>(&'a u8) where 'a: 'a;
+: holds impl < 'a > :: core :: cmp :: PartialEq for S < 'a > where 'a : 'a { fn eq
+
 predicates without parameters
 #[educe(PartialEq, PartialOrd, Ord)] struct S where u8: Copy { a: u8 }
 : holds impl :: core :: cmp :: PartialEq for S where u8 : Copy { fn eq
@@ -453,6 +457,10 @@ predicates without parameters
 
 no predicate behind `where`
 #[educe(PartialEq)] struct S<T> where { a: T }
+: holds impl < T > :: core :: cmp :: PartialEq for S < T > where T : :: core :: cmp :: PartialEq { fn eq
+
+no predicate behind a tuple struct
+#[educe(PartialEq)] struct S<T>(T) where;
 : holds impl < T > :: core :: cmp :: PartialEq for S < T > where T : :: core :: cmp :: PartialEq { fn eq
 
 a predicate that is declared already
