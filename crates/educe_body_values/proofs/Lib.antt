@@ -1,11 +1,8 @@
 pub mod Rows
-pub mod Binds
 pub mod Steps
 pub mod Tables
-pub mod Places
 pub mod Fields
 pub mod Apart
-pub mod Assigned
 pub mod MadePaths
 pub mod Hiding
 pub mod Pushed

@@ -33,8 +33,8 @@ use Rattle.educe_body_forms.specs.declared.shown.Opening.{Opening}
 use Rattle.educe_body_forms.specs.declared.shown.Opening.TheVariants.{Struct as OpenStruct, Tuple as OpenTuple, Map as OpenMap}
 use Rattle.educe_body_forms.specs.declared.pattern.Pattern.{Pattern}
 use Rattle.educe_body_forms.specs.declared.body.Body.{Body}
-use Rattle.educe_body_values.specs.declared.evaluator.Outcome.{Outcome}
-use Rattle.educe_body_values.specs.declared.evaluator.Outcome.TheVariants.{Truth as OutcomeTruth, Order as OutcomeOrder, PartialOrder as OutcomePartialOrder, Parts as OutcomeParts, Made as OutcomeMade, Whole as OutcomeWhole, Shape as OutcomeShape, Stuck as OutcomeStuck}
+use Rattle.educe_body_values.specs.declared.outcome.Outcome.{Outcome}
+use Rattle.educe_body_values.specs.declared.outcome.Outcome.TheVariants.{Truth as OutcomeTruth, Order as OutcomeOrder, PartialOrder as OutcomePartialOrder, Parts as OutcomeParts, Made as OutcomeMade, Whole as OutcomeWhole, Shape as OutcomeShape, Stuck as OutcomeStuck}
 use Rattle.educe_body_values.specs.declared.environment.Scope.{Scope}
 use Rattle.educe_body_values.specs.declared.shape.DebugShape.{DebugShape}
 use Rattle.educe_body_values.specs.declared.shape.Entry.{Entry}

@@ -128,7 +128,7 @@ pub fn built_in(path: &ExprPath) -> Option<BuiltIn>
 }
 
 /// The text of a path.
-pub(crate) fn text_of_path(alloc: Global, path: &ExprPath) -> Result<Spelling, AllocError>
+pub fn text_of_path(alloc: Global, path: &ExprPath) -> Result<Spelling, AllocError>
     ensures { IfOk result (λ text. text ≡ text_of_path path.now) }
 {
     let text = text_of_tree(alloc, path)?;

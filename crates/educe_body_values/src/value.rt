@@ -34,10 +34,7 @@ impl Value {
 }
 
 /// Values, and further ones behind them.
-pub(crate) fn with_values(
-    values: FieldValues,
-    more: &[FieldValue],
-) -> Result<FieldValues, AllocError>
+pub fn with_values(values: FieldValues, more: &[FieldValue]) -> Result<FieldValues, AllocError>
     ensures { IfOk result (λ all. all ≡ values ++ more.now) }
 {
     let mut all = values;

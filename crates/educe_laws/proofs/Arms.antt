@@ -26,7 +26,7 @@ use Rattle.educe_body_values.specs.declared.environment.Own.{Own}
 use Rattle.educe_body_values.specs.declared.environment.Own.TheVariants.{Value as OwnValue}
 use Rattle.educe_body_values.specs.declared.environment.Referent.{Referent}
 use Rattle.educe_body_values.specs.declared.environment.Referent.TheVariants.{This, OwnField, Bound}
-use Rattle.educe_body_values.specs.declared.evaluator.Outcome.TheVariants.{Truth as OutcomeTruth}
+use Rattle.educe_body_values.specs.declared.outcome.Outcome.TheVariants.{Truth as OutcomeTruth}
 use Rattle.educe_body_values.specs.declared.flow.Flow.{Flow}
 use Rattle.educe_body_values.specs.declared.flow.Flow.TheVariants.{Gives, Returns, Stuck}
 use Rattle.educe_body_values.specs.declared.flow.Thing.TheVariants.{Nothing, Part}

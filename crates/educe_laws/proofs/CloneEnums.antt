@@ -15,7 +15,7 @@ use Rattle.educe_body_values.specs.Scoping.{IsApart}
 use Rattle.educe_body_values.specs.declared.answers.Answers.{Answers}
 use Rattle.educe_body_values.specs.declared.environment.Binding.{Binding}
 use Rattle.educe_body_values.specs.declared.environment.Env.{Env}
-use Rattle.educe_body_values.specs.declared.evaluator.Outcome.{Outcome}
+use Rattle.educe_body_values.specs.declared.outcome.Outcome.{Outcome}
 use Rattle.educe_body_values.specs.declared.flow.Flow.{Flow}
 use Rattle.educe_body_values.specs.declared.flow.Flow.TheVariants.{Gives, Returns, Stuck}
 use Rattle.educe_body_values.specs.declared.flow.Thing.{Thing}

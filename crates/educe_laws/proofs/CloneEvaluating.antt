@@ -19,7 +19,7 @@ use Rattle.educe_body_values.specs.Meaning.{first_bindings, start, form_value, l
 use Rattle.educe_body_forms.specs.declared.body.Body.{Body}
 use Rattle.educe_body_items.specs.declared.items.Function.{Function}
 use Rattle.educe_body_items.specs.declared.items.Item.{Item}
-use Rattle.educe_body_values.specs.declared.evaluator.Outcome.TheVariants.{Made}
+use Rattle.educe_body_values.specs.declared.outcome.Outcome.TheVariants.{Made}
 use Rattle.educe_body_values.specs.declared.flow.Thing.TheVariants.{Nothing}
 use Rattle.educe_body_forms.specs.declared.form.Form.{Form, MatchValue}
 use Rattle.educe_body_forms.specs.declared.form.Form as form

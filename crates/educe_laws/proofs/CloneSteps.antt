@@ -24,8 +24,8 @@ use Rattle.educe_body_values.specs.declared.environment.Env.{Env}
 use Rattle.educe_body_values.specs.declared.environment.Own.TheVariants.{Value as OwnValue}
 use Rattle.educe_body_values.specs.declared.environment.Referent.{Referent}
 use Rattle.educe_body_values.specs.declared.environment.Referent.TheVariants.{OwnField}
-use Rattle.educe_body_values.specs.declared.evaluator.Outcome.{Outcome}
-use Rattle.educe_body_values.specs.declared.evaluator.Outcome.TheVariants as outcome
+use Rattle.educe_body_values.specs.declared.outcome.Outcome.{Outcome}
+use Rattle.educe_body_values.specs.declared.outcome.Outcome.TheVariants as outcome
 use Rattle.educe_body_values.specs.declared.flow.Flow.{Flow}
 use Rattle.educe_body_values.specs.declared.flow.Flow.TheVariants.{Gives, Stuck}
 use Rattle.educe_body_values.specs.declared.flow.Thing.{Thing}

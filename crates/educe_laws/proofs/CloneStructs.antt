@@ -18,7 +18,7 @@ use Rattle.educe_body_values.specs.Scoping.{IsApart, own_self}
 use Rattle.educe_body_values.specs.declared.answers.Answers.{Answers}
 use Rattle.educe_body_values.specs.declared.environment.Binding.{Binding}
 use Rattle.educe_body_values.specs.declared.environment.Referent.TheVariants.{This, Other, OwnField}
-use Rattle.educe_body_values.specs.declared.evaluator.Outcome.{Outcome}
+use Rattle.educe_body_values.specs.declared.outcome.Outcome.{Outcome}
 use Rattle.educe_body_values.specs.declared.flow.Flow.{Flow}
 use Rattle.educe_body_values.specs.declared.flow.Flow.TheVariants.{Gives}
 use Rattle.educe_body_values.specs.declared.flow.Thing.TheVariants.{Nothing, Part}

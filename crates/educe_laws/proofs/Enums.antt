@@ -18,7 +18,7 @@ use Rattle.educe_body_forms.specs.declared.comparison.Comparison.{Comparison}
 use Rattle.educe_body_forms.specs.declared.comparison.Comparison.TheVariants.{PartialEq, PartialOrd, Ord}
 use Rattle.educe_body_values.specs.declared.environment.Binding.{Binding}
 use Rattle.educe_body_values.specs.declared.environment.Env.{Env}
-use Rattle.educe_body_values.specs.declared.evaluator.Outcome.TheVariants.{Truth as OutcomeTruth}
+use Rattle.educe_body_values.specs.declared.outcome.Outcome.TheVariants.{Truth as OutcomeTruth}
 use Rattle.educe_body_values.specs.declared.flow.Flow.{Flow}
 use Rattle.educe_body_values.specs.declared.flow.Flow.TheVariants.{Gives, Returns, Stuck}
 use Rattle.educe_body_values.specs.declared.flow.Thing.TheVariants.{Nothing, Order}

@@ -21,8 +21,8 @@ use Rattle.educe_body_values.specs.declared.environment.Env.{Env}
 use Rattle.educe_body_values.specs.declared.environment.Own.TheVariants.{Whole as OwnWhole}
 use Rattle.educe_body_values.specs.declared.environment.Referent.{Referent}
 use Rattle.educe_body_values.specs.declared.environment.Referent.TheVariants.{This, Bound}
-use Rattle.educe_body_values.specs.declared.evaluator.Outcome.{Outcome}
-use Rattle.educe_body_values.specs.declared.evaluator.Outcome.TheVariants.{Made, Whole}
+use Rattle.educe_body_values.specs.declared.outcome.Outcome.{Outcome}
+use Rattle.educe_body_values.specs.declared.outcome.Outcome.TheVariants.{Made, Whole}
 use Rattle.educe_body_values.specs.declared.flow.Flow.{Flow}
 use Rattle.educe_body_values.specs.declared.flow.Flow.TheVariants.{Gives}
 use Rattle.educe_body_values.specs.declared.flow.Thing.TheVariants.{Nothing, Part}

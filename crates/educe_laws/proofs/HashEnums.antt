@@ -15,7 +15,7 @@ use Rattle.educe_body_values.specs.declared.environment.Binding.{Binding}
 use Rattle.educe_body_values.specs.declared.environment.Own.{Own}
 use Rattle.educe_body_values.specs.declared.environment.Own.TheVariants.{Value as OwnValue}
 use Rattle.educe_body_values.specs.declared.environment.Referent.TheVariants.{Inert}
-use Rattle.educe_body_values.specs.declared.evaluator.Outcome.TheVariants.{Parts}
+use Rattle.educe_body_values.specs.declared.outcome.Outcome.TheVariants.{Parts}
 use Rattle.educe_body_values.specs.declared.flow.Flow.{Flow}
 use Rattle.educe_body_values.specs.declared.flow.Flow.TheVariants.{Gives}
 use Rattle.educe_body_values.specs.declared.flow.Thing.TheVariants.{Nothing}

@@ -12,7 +12,7 @@ use Rattle.educe_body_values.specs.Meaning.{list_value, parts_of}
 use Rattle.educe_body_values.specs.declared.answers.Answers.{Answers}
 use Rattle.educe_body_forms.specs.declared.body.Body.{Body}
 use Rattle.educe_body_values.specs.declared.environment.Own.TheVariants.{Value as OwnValue}
-use Rattle.educe_body_values.specs.declared.evaluator.Outcome.TheVariants.{Parts}
+use Rattle.educe_body_values.specs.declared.outcome.Outcome.TheVariants.{Parts}
 use Rattle.educe_body_values.specs.declared.flow.Thing.TheVariants.{Nothing}
 use Rattle.educe_body_forms.specs.declared.form.Form.{Form}
 use Rattle.educe_body_values.specs.declared.value.Value.{Value}

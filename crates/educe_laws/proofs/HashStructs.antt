@@ -21,7 +21,7 @@ use Rattle.educe_body_values.specs.declared.environment.Own.{Own}
 use Rattle.educe_body_values.specs.declared.environment.Own.TheVariants.{Value as OwnValue}
 use Rattle.educe_body_values.specs.declared.environment.Referent.{Referent}
 use Rattle.educe_body_values.specs.declared.environment.Referent.TheVariants.{This, Inert}
-use Rattle.educe_body_values.specs.declared.evaluator.Outcome.TheVariants.{Parts}
+use Rattle.educe_body_values.specs.declared.outcome.Outcome.TheVariants.{Parts}
 use Rattle.educe_body_values.specs.declared.flow.Thing.TheVariants.{Nothing}
 use Rattle.educe_body_forms.specs.declared.form.Form.{Form}
 use Rattle.educe_body_values.specs.declared.value.Value.{Value}

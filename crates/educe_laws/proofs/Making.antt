@@ -32,8 +32,8 @@ use Rattle.educe_body_values.specs.declared.answers.Answers.{Answers}
 use Rattle.educe_body_forms.specs.declared.body.Body.{Body}
 use Rattle.educe_body_values.specs.declared.callee.Callee.{Callee}
 use Rattle.educe_body_values.specs.declared.environment.Env.{Env}
-use Rattle.educe_body_values.specs.declared.evaluator.Outcome.{Outcome}
-use Rattle.educe_body_values.specs.declared.evaluator.Outcome.TheVariants as outcome
+use Rattle.educe_body_values.specs.declared.outcome.Outcome.{Outcome}
+use Rattle.educe_body_values.specs.declared.outcome.Outcome.TheVariants as outcome
 use Rattle.educe_body_values.specs.declared.flow.Flow.{Flow}
 use Rattle.educe_body_values.specs.declared.flow.Flow.TheVariants.{Gives, Returns, Stuck}
 use Rattle.educe_body_values.specs.declared.flow.Thing.TheVariants.{Nothing, Made}

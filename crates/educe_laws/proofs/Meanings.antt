@@ -19,8 +19,8 @@ use Rattle.educe_body_values.specs.declared.answers.Answers.{Answers}
 use Rattle.educe_body_values.specs.declared.environment.Env.{Env}
 use Rattle.educe_body_values.specs.declared.value.Value.{Value}
 use Rattle.educe_body_forms.specs.declared.form.Form as form
-use Rattle.educe_body_values.specs.declared.evaluator.Outcome.{Outcome}
-use Rattle.educe_body_values.specs.declared.evaluator.Outcome.TheVariants.{Truth as OutcomeTruth}
+use Rattle.educe_body_values.specs.declared.outcome.Outcome.{Outcome}
+use Rattle.educe_body_values.specs.declared.outcome.Outcome.TheVariants.{Truth as OutcomeTruth}
 use Rattle.educe_body_forms.specs.declared.form.Known.{Known}
 use Rattle.educe_body_forms.specs.declared.form.Known.TheVariants.{Truth, Order, PartialOrder}
 use Rattle.educe_laws.specs.Comparisons.{trait_of}

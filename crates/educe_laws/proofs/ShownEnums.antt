@@ -17,7 +17,7 @@ use Rattle.educe_body_values.specs.declared.answers.Answers.{Answers}
 use Rattle.educe_body_values.specs.declared.environment.Binding.{Binding}
 use Rattle.educe_body_values.specs.declared.environment.Own.{Own}
 use Rattle.educe_body_values.specs.declared.environment.Own.TheVariants.{Value as OwnValue}
-use Rattle.educe_body_values.specs.declared.evaluator.Outcome.TheVariants.{Shape as OutcomeShape}
+use Rattle.educe_body_values.specs.declared.outcome.Outcome.TheVariants.{Shape as OutcomeShape}
 use Rattle.educe_body_values.specs.declared.flow.Thing.TheVariants.{Nothing}
 use Rattle.educe_body_values.specs.declared.value.Value.{Value}
 use Rattle.educe_laws.specs.Arms.{is_unit, IsMatchOnSelf}

@@ -18,7 +18,7 @@ use Rattle.educe_body_items.specs.declared.items.Item.{Item}
 use Rattle.educe_body_values.specs.Meaning.{start, list_value, outcome_of, ended}
 use Rattle.educe_body_values.specs.declared.answers.Answers.{Answers}
 use Rattle.educe_body_values.specs.declared.environment.Referent.TheVariants.{Helper}
-use Rattle.educe_body_values.specs.declared.evaluator.Outcome.TheVariants.{Shape as OutcomeShape}
+use Rattle.educe_body_values.specs.declared.outcome.Outcome.TheVariants.{Shape as OutcomeShape}
 use Rattle.educe_body_values.specs.declared.flow.Thing.TheVariants.{Nothing}
 use Rattle.educe_body_values.specs.declared.value.Value.{Value}
 use Rattle.educe_laws.specs.Blocks.{IsDebugBlock, Shows, scene_with, Evaluates, EachEvaluates}

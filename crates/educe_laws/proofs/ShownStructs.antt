@@ -20,7 +20,7 @@ use Rattle.educe_body_values.specs.declared.environment.Own.{Own}
 use Rattle.educe_body_values.specs.declared.environment.Own.TheVariants.{Value as OwnValue}
 use Rattle.educe_body_values.specs.declared.environment.Referent.{Referent}
 use Rattle.educe_body_values.specs.declared.environment.Referent.TheVariants.{This, Other, BuilderName, Helper}
-use Rattle.educe_body_values.specs.declared.evaluator.Outcome.TheVariants.{Shape as OutcomeShape}
+use Rattle.educe_body_values.specs.declared.outcome.Outcome.TheVariants.{Shape as OutcomeShape}
 use Rattle.educe_body_values.specs.declared.flow.Flow.TheVariants.{Gives}
 use Rattle.educe_body_values.specs.declared.flow.Thing.TheVariants.{Nothing}
 use Rattle.educe_body_values.specs.declared.shape.Entry.{Entry}

@@ -28,9 +28,9 @@ use Rattle.educe_body_items.specs.declared.items.Item.{Item}
 use Rattle.educe_body_items.specs.declared.items.MarkerItem.{MarkerItem}
 use Rattle.educe_body_items.specs.declared.items.Item.TheVariants.{Impl, New, FieldCheck, Marker}
 use Rattle.educe_body_values.specs.declared.answers.Answers.{Answers}
-use Rattle.educe_body_values.specs.declared.evaluator.Outcome.{Outcome}
-use Rattle.educe_body_values.specs.declared.evaluator.Outcome.TheVariants.{Parts}
-use Rattle.educe_body_values.specs.declared.evaluator.Outcome.TheVariants as outcome
+use Rattle.educe_body_values.specs.declared.outcome.Outcome.{Outcome}
+use Rattle.educe_body_values.specs.declared.outcome.Outcome.TheVariants.{Parts}
+use Rattle.educe_body_values.specs.declared.outcome.Outcome.TheVariants as outcome
 use Rattle.educe_body_values.specs.declared.value.Value.{Value}
 use Rattle.educe_body.specs.Chosen.{underscored}
 use Rattle.educe_body_values.specs.Meaning.{Scene, value}

@@ -8,8 +8,8 @@ use Rattle.educe_body_values.specs.Meaning.{whole_value}
 use Rattle.educe_body_values.specs.declared.answers.Answers.{Answers}
 use Rattle.educe_body_values.specs.declared.callee.BuiltIn.TheVariants.{Clone}
 use Rattle.educe_body_values.specs.declared.callee.Callee.TheVariants as callee
-use Rattle.educe_body_values.specs.declared.evaluator.Outcome.{Outcome}
-use Rattle.educe_body_values.specs.declared.evaluator.Outcome.TheVariants.{Made}
+use Rattle.educe_body_values.specs.declared.outcome.Outcome.{Outcome}
+use Rattle.educe_body_values.specs.declared.outcome.Outcome.TheVariants.{Made}
 use Rattle.educe_body_values.specs.declared.value.FieldValue.{FieldValue}
 use Rattle.educe_body_values.specs.declared.value.Value.{Value}
 use Rattle.educe_laws.specs.Comparing.{Compared, asked, paired}

@@ -20,8 +20,8 @@ use Rattle.educe_body_forms.specs.declared.form.Known.TheVariants.{Truth, Order,
 use Rattle.educe_body_values.specs.declared.answers.Answer.{Answer}
 use Rattle.educe_body_values.specs.declared.answers.Answer.TheVariants.{Truth as AnswerTruth, Order as AnswerOrder, PartialOrder as AnswerPartialOrder}
 use Rattle.educe_body_values.specs.declared.answers.Answers.{Answers}
-use Rattle.educe_body_values.specs.declared.evaluator.Outcome.{Outcome}
-use Rattle.educe_body_values.specs.declared.evaluator.Outcome.TheVariants.{Truth as OutcomeTruth, Order as OutcomeOrder, PartialOrder as OutcomePartialOrder}
+use Rattle.educe_body_values.specs.declared.outcome.Outcome.{Outcome}
+use Rattle.educe_body_values.specs.declared.outcome.Outcome.TheVariants.{Truth as OutcomeTruth, Order as OutcomeOrder, PartialOrder as OutcomePartialOrder}
 use Rattle.educe_body_values.specs.Answering.{answer_of}
 use Rattle.educe_body_values.specs.Callees.{as_callee, callee_of}
 use Rattle.educe_body_values.specs.Types.{type_spellings, first_place}

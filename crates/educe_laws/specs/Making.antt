@@ -22,8 +22,8 @@ use Rattle.educe_body_values.specs.declared.answers.Answers.{Answers}
 use Rattle.educe_body_forms.specs.declared.body.Body.{Body}
 use Rattle.educe_body_values.specs.declared.callee.Callee.{Callee}
 use Rattle.educe_body_values.specs.declared.callee.Callee.TheVariants as callee
-use Rattle.educe_body_values.specs.declared.evaluator.Outcome.{Outcome}
-use Rattle.educe_body_values.specs.declared.evaluator.Outcome.TheVariants.{Made, Whole}
+use Rattle.educe_body_values.specs.declared.outcome.Outcome.{Outcome}
+use Rattle.educe_body_values.specs.declared.outcome.Outcome.TheVariants.{Made, Whole}
 use Rattle.educe_body_forms.specs.declared.form.Form.{Form, Construct, Pasted}
 use Rattle.educe_body_forms.specs.declared.form.Init.{Init}
 use Rattle.educe_body_values.specs.declared.value.FieldValue.{FieldValue}

@@ -1,6 +1,6 @@
 -- What bodies evaluate to, as tests compare it.
-use Rattle.educe_body_values.specs.declared.evaluator.Outcome.{Outcome}
-use Rattle.educe_body_values.specs.declared.evaluator.Outcome.TheVariants.{Truth, Order, PartialOrder, Parts, Made, Whole, Shape, Stuck}
+use Rattle.educe_body_values.specs.declared.outcome.Outcome.{Outcome}
+use Rattle.educe_body_values.specs.declared.outcome.Outcome.TheVariants.{Truth, Order, PartialOrder, Parts, Made, Whole, Shape, Stuck}
 use Rattle.educe_vectors_body.specs.declared.outcomes.Seen.{Seen}
 use Rattle.educe_vectors_body.specs.declared.outcomes.Seen.TheVariants.{Truth as SeenTruth, Order as SeenOrder, PartialOrder as SeenPartialOrder, Parts as SeenParts, Made as SeenMade, Whole as SeenWhole, Stuck as SeenStuck}
 

@@ -1,12 +1,12 @@
-//! Bodies of one form, by what a test says of them, and what they evaluate to over one value and one
-//! table.
+//! Bodies, by what a test says of them, and what they evaluate to over one value and one table.
 
 use crate::outcomes::{Seen, lent};
 use crate::values::{scope, value};
 use educe_body::{
     Answer, Answers, Body, Callee, FieldValue, Form, Forms, Init, Inits, Names, Outcome, Position,
-    Row, Scope, Shared, Value, eval, index_word,
+    Row, Scope, Shared, Value, index_word,
 };
+use educe_body_eval::eval;
 use educe_syntax::{DeriveInput, ExprPath, FieldForm, Ident, parse_expr, parse_ident, parse_path};
 use educe_tokens::{Boxed, Seq, Spelling, Word, pair};
 use educe_vectors_checks::{check_at, definition, found, lexed_slice};
@@ -38,7 +38,7 @@ pub enum Use {
     Part,
 }
 
-/// The one form of a body, in outline.
+/// A form of a body, in outline.
 #[derive(Clone, Copy)]
 pub enum Outline {
     /// The tokens of an expression.
@@ -50,12 +50,12 @@ pub enum Outline {
     Call(Use, &'static str, &'static [Argument]),
 }
 
-/// A name, a definition, the parameters of a body, its form, and what it evaluates to.
+/// A name, a definition, the parameters of a body, its forms, and what it evaluates to.
 pub type Case = (
     &'static str,
     &'static str,
     &'static [&'static str],
-    Outline,
+    &'static [Outline],
     Seen<'static>,
 );
 
@@ -105,13 +105,6 @@ fn arguments(alloc: Global, list: &[Argument]) -> Result<Forms, Fail> {
         forms.push(argument_form(alloc, *handed)?)?;
     }
     Ok(forms)
-}
-
-/// The list of this.
-fn list<T: Drop>(alloc: Global, item: T) -> Result<Seq<T>, AllocError> {
-    let mut items = Seq::new(alloc);
-    items.push(item)?;
-    Ok(items)
 }
 
 /// The path that a text is.
@@ -176,10 +169,19 @@ fn form(alloc: Global, outline: &Outline) -> Result<Form, Fail> {
     }
 }
 
-/// The body with these parameters and this form.
-fn body(alloc: Global, params: &[&str], outline: &Outline) -> Result<Body, Fail> {
+/// The forms.
+fn forms(alloc: Global, outlines: &[Outline]) -> Result<Forms, Fail> {
+    let mut forms = Seq::new(alloc);
+    for outline in outlines {
+        forms.push(form(alloc, outline)?)?;
+    }
+    Ok(forms)
+}
+
+/// The body with these parameters and these forms.
+fn body(alloc: Global, params: &[&str], outlines: &[Outline]) -> Result<Body, Fail> {
     let params = words(alloc, params)?;
-    let block = list(alloc, form(alloc, outline)?)?;
+    let block = forms(alloc, outlines)?;
     Ok(Body { params, block })
 }
 
@@ -264,8 +266,8 @@ fn evaluated(
 
 /// What the body of a case evaluates to in its definition.
 fn outcome(alloc: Global, answers: &Answers, case: &Case) -> Result<Outcome, Fail> {
-    let (_, source, params, outline, _) = case;
-    let body = body(alloc, params, outline)?;
+    let (_, source, params, outlines, _) = case;
+    let body = body(alloc, params, outlines)?;
     evaluated(alloc, &definition(alloc, source)?, &body, answers)
 }
 

@@ -1,0 +1,10 @@
+use Rattle.std.proofs.Common.{◌≡◌, drop}
+use Rattle.std.specs.Cmp.Lexicographic.{pointwise}
+use Rattle.std.specs.Str.{bytes_eq}
+use Rattle.educe_body_values.specs.Callees.{spellings, texts}
+use Rattle.educe_body_eval.proofs.types.are_words.Given as goal
+
+abbrev pub invariant-loop-i : goal.invariant-loop-i
+invariant-loop-i l =
+    pointwise bytes_eq (spellings (drop l.i l.tokens)) (texts (drop l.i l.words))
+    ≡ pointwise bytes_eq (spellings l.tokens) (texts l.words)
