@@ -29,7 +29,7 @@ fn names(alloc: Global, ast: &DeriveInput) -> Result<Names, AllocError>
     Ok(names)
 }
 
-/// The types, each with the name of the definition in place of each `Self`.
+/// The types, each with the name of the definition in place of each `Self` that a path begins with.
 fn replaced_types(
     alloc: Global,
     replace: &ReplaceSelf,

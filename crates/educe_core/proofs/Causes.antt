@@ -16,7 +16,6 @@ use Rattle.educe_syntax.specs.Refusal.{IsRefusalOf}
 use Rattle.educe_syntax.specs.Laws.{lawful_definition, lawful_definitions}
 use Rattle.educe_syntax.specs.TokenLaws.{lawful_lexing}
 use Rattle.educe_attrs.specs.Causes.{NoCause}
-use Rattle.educe_laws.specs.Built.{IsBuilt}
 use Rattle.educe_laws.specs.Handled.{IsListedCause}
 use Rattle.educe_core.specs.Headline.{Defines, IsHandlerCause, IsCause, IsValid}
 use Rattle.educe_laws.specs.Listed.{IsListingCause}
@@ -72,16 +71,15 @@ cause_words source e IsCause.memory = refl
 -- ---- what is done has no cause
 
 -- where no cause stands in any phase, the handler refuses only for out of memory
-handled_undone : (d : DeriveInput) (e : EduceError) → NoCause (IsListingCause d) → IsBuilt d → NoCause (IsListedCause d) → IsHandlerCause d e → e.kind ≡ Alloc
-handled_undone d e listing built uncaused (IsHandlerCause.listing cause) = absurd (listing.none_stands e cause)
-handled_undone d e listing built uncaused (IsHandlerCause.unbuilt none never) = absurd (never built)
-handled_undone d e listing built uncaused (IsHandlerCause.handled none also cause) = absurd (uncaused.none_stands e cause)
-handled_undone d e listing built uncaused IsHandlerCause.memory = refl
+handled_undone : (d : DeriveInput) (e : EduceError) → NoCause (IsListingCause d) → NoCause (IsListedCause d) → IsHandlerCause d e → e.kind ≡ Alloc
+handled_undone d e listing uncaused (IsHandlerCause.listing cause) = absurd (listing.none_stands e cause)
+handled_undone d e listing uncaused (IsHandlerCause.handled none cause) = absurd (uncaused.none_stands e cause)
+handled_undone d e listing uncaused IsHandlerCause.memory = refl
 
 -- the handler refuses a valid text only where memory runs out
 pub valid_handler : (source : List ℕ) (d : DeriveInput) (e : EduceError) → Defines (chars source) d → IsHandlerCause d e → IsValid source → e.kind ≡ Alloc
 valid_handler source d e defines cause valid =
-    handled_undone valid.definition e valid.listing valid.built valid.uncaused (subst (λ (x : DeriveInput). IsHandlerCause x e) (one_defined source d valid.definition defines valid.defines) cause)
+    handled_undone valid.definition e valid.listing valid.uncaused (subst (λ (x : DeriveInput). IsHandlerCause x e) (one_defined source d valid.definition defines valid.defines) cause)
 
 -- in a valid text no cause stands, out of memory aside
 pub uncaused_if_valid : (source : List ℕ) → IsValid source → (e : EduceError) → IsCause source e → e.kind ≢ Alloc → ⊥

@@ -1,14 +1,15 @@
 -- One handler behind the other.
-use Rattle.std.proofs.Common.{◌≡◌, ◌≢◌, ◌∙◌, Bool, true, false, cond, List, [], ◌∷◌, ◌++◌, Result, Ok, Err, refl, sym, ap, subst, append_assoc, append-nil, arith}
+use Rattle.std.proofs.Common.{◌≡◌, ◌≢◌, ◌∙◌, true, false, cond, List, [], ◌∷◌, ◌++◌, Result, Ok, Err, refl, sym, ap, subst, append_assoc, append-nil, arith}
 use Rattle.std.specs.Prelude.{Contains, OnOk, slice_index_or}
-use Rattle.std.specs.List.{filter, AllByRecursion, AllZip}
-use Rattle.std.proofs.lemmas.Bool.{true≢false, false≢true, eq-eqb}
+use Rattle.std.specs.List.{AllByRecursion, AllZip}
+use Rattle.std.proofs.lemmas.Bool.{true≢false, eq-eqb}
 use Rattle.std.proofs.lemmas.List.Elements.{filter-append, All-contains, All-from_recursion}
 use Rattle.std.proofs.lemmas.List.Folds.{list_any_at}
 use Rattle.std.proofs.lemmas.Map.Views.{Contains-from_any}
 use Rattle.educe_tokens.specs.declared.error.EduceError.{EduceError}
 use Rattle.educe_syntax.specs.DeriveInput.{DeriveInput}
 use Rattle.educe_bound_traits.specs.declared.traits.Trait.{Trait}
+use Rattle.educe_bound_traits.specs.declared.traits.Trait.TheVariants as trait
 use Rattle.educe_bound_traits.specs.Traits.{variants, place, same_trait, is_listed}
 use Rattle.educe_bound_traits.proofs.Apart.{same_is}
 use Rattle.educe_attrs.specs.Causes.{NoCause}
@@ -19,13 +20,11 @@ use Rattle.educe_attrs.specs.Stop.{Stop}
 use Rattle.educe_body_items.specs.declared.items.Item.{Item}
 use Rattle.educe_handlers.specs.Laws.{lawful_traits}
 use Rattle.educe_laws.specs.Blocks.{IsBlock, Blocks, OneEach, EachEvaluates}
-use Rattle.educe_laws.specs.Built.{built_traits, IsBuilt}
 use Rattle.educe_laws.specs.Handled.{handling, IsListedCause}
 use Rattle.educe_laws.specs.Handlers.{Noted, IsNoted, AreNoted, AddsBlock, AddsMeaning, handled_of}
-use Rattle.educe_laws.specs.Listed.{listed, listed_in_order}
+use Rattle.educe_laws.specs.Listed.{listed}
 use Rattle.educe_laws.specs.Said.{AreAllSaid}
 use Rattle.educe_laws.proofs.Elements.{each_joined}
-use Rattle.educe_laws.proofs.Inheriting.{listed_built, built_listed}
 use Rattle.educe_core.specs.Composed.{AreHandled}
 
 -- ---- the listed traits
@@ -34,26 +33,22 @@ use Rattle.educe_core.specs.Composed.{AreHandled}
 listed_stands : (traits : List Trait) (which : Trait) → is_listed traits which ≡ true → Contains traits which
 listed_stands traits which lists = Contains-from_any (λ a b same. (same_is a b).0 same) which traits lists
 
+-- each trait is one of all
+each_listed : (which : Trait) → is_listed variants which ≡ true
+each_listed trait.Debug = refl
+each_listed trait.Clone = refl
+each_listed trait.Copy = refl
+each_listed trait.PartialEq = refl
+each_listed trait.Eq = refl
+each_listed trait.PartialOrd = refl
+each_listed trait.Ord = refl
+each_listed trait.Hash = refl
+each_listed trait.Default = refl
+
 -- a trait that stands in the list is listed
 standing_listed : (traits : List Trait) (which : Trait) → Contains traits which → is_listed traits which ≡ true
 standing_listed traits which found =
     list_any_at (same_trait which) traits found.0 which found.1 (eq-eqb (place which) (place (slice_index_or traits found.0 which)) (ap place (sym found.2)))
-
--- an element passes one test, and what is left of a list of them the other
-within_step : {X : Type 0} (p : X → Bool) (x : X) (rest passed : List X) (in_q in_p : Bool) → p x ≡ in_p → (in_p ≡ true → in_q ≡ true) → filter p rest ≡ passed
-    → filter p (cond in_q (x ∷ rest) rest) ≡ cond in_p (x ∷ passed) passed
-within_step p x rest passed true in_p is within same = λ i. cond (is i) (x ∷ same i) (same i)
-within_step p x rest passed false true is within same = absurd (false≢true (within refl))
-within_step p x rest passed false false is within same = same
-
--- where what passes one test passes another, nothing more passes the first of what passes the other
-filter-within : {X : Type 0} (p q : X → Bool) (xs : List X) → ((x : X) → p x ≡ true → q x ≡ true) → filter p (filter q xs) ≡ filter p xs
-filter-within p q [] within = refl
-filter-within p q (x ∷ xs) within = within_step p x (filter q xs) (filter p xs) (q x) (p x) refl (within x) (filter-within p q xs within)
-
--- where the items of all listed traits are built, these are the listed ones among those that are built
-built_in_order : (d : DeriveInput) → IsBuilt d → handled_of (listed d) built_traits ≡ listed_in_order d
-built_in_order d built = filter-within (is_listed (listed d)) (is_listed built_traits) variants (λ which lists. listed_built (listed d) which (built_listed d built) lists)
 
 -- a cause of a listed trait's handler is one of the last phase
 pub listed_refused : (d : DeriveInput) (which : Trait) → is_listed (listed d) which ≡ true → (e : EduceError) → OfHandler (handling d) which e → IsListedCause d e
@@ -121,17 +116,16 @@ some_stands : (traits : List Trait) → traits ≢ [] → (which : Trait) × Con
 some_stands [] some_listed = absurd (some_listed refl)
 some_stands (which ∷ more) some_listed = (which, (0, omega arith, refl))
 
-module _ (d : DeriveInput) (noted : List Noted) (items : List Item) (built : IsBuilt d) (all : AreHandled built_traits d noted items) where
+module _ (d : DeriveInput) (noted : List Noted) (items : List Item) (all : AreHandled variants d noted items) where
   -- each listed trait has its block, and there is nothing else
   pub one_each : OneEach d items
-  one_each = subst (λ ts. Blocks ts d items) (built_in_order d built) all.blocks
+  one_each = all.blocks
 
   -- no cause of a listed trait stands
   trait_uncaused : (which : Trait) → is_listed (listed d) which ≡ true → NoCause (OfHandler (handling d) which)
   trait_uncaused which lists =
       let Uncaused : Trait → Type 0 = λ own. is_listed (listed d) own ≡ true → NoCause (OfHandler (handling d) own) in
-      All-contains Uncaused built_traits which (All-from_recursion Uncaused built_traits all.uncaused)
-      (listed_stands built_traits which (listed_built (listed d) which (built_listed d built) lists)) lists
+      All-contains Uncaused variants which (All-from_recursion Uncaused variants all.uncaused) (listed_stands variants which (each_listed which)) lists
 
   -- and none of the last phase
   pub last_uncaused : IsListing d.attrs (listed d) → NoCause (IsListedCause d)
@@ -141,4 +135,4 @@ module _ (d : DeriveInput) (noted : List Noted) (items : List Item) (built : IsB
 
   -- and the settings of each listed trait are what the attributes say
   pub all_said : AreAllSaid d
-  all_said which lists = lawful_traits.said which d built lists (trait_uncaused which lists)
+  all_said which lists = lawful_traits.said which d lists (trait_uncaused which lists)

@@ -2,10 +2,9 @@
 use Rattle.std.proofs.Common.{◌≡◌, ◌≢◌, ℕ, List, ◌⊎◌, inl, inr, refl, chars}
 use Rattle.educe_tokens.specs.declared.error.EduceError.{EduceError}
 use Rattle.educe_tokens.specs.declared.error.Kind.{Kind}
-use Rattle.educe_tokens.specs.declared.error.Kind.TheVariants.{Syntax, TooDeep, NotCarried, NotBuilt, Alloc}
+use Rattle.educe_tokens.specs.declared.error.Kind.TheVariants.{Syntax, TooDeep, NotCarried, Alloc}
 use Rattle.educe_tokens.specs.declared.token.Token.{Token}
 use Rattle.educe_tokens.specs.Causes.{HasCause, IsLexicalCause}
-use Rattle.educe_tokens.specs.Refusals.{placeless}
 use Rattle.educe_tokens.specs.Steps.{IsReading}
 use Rattle.educe_syntax.specs.DeriveInput.{DeriveInput}
 use Rattle.educe_syntax.specs.Definitions.{definition}
@@ -17,7 +16,6 @@ use Rattle.educe_attrs.specs.Causes.{Cause, NoCause}
 use Rattle.educe_laws.specs.Handled.{IsListedCause}
 use Rattle.educe_core.specs.Headline.{Defines, IsValid, IsHandlerCause, IsCause}
 use Rattle.educe_laws.specs.Listed.{IsListingCause}
-use Rattle.educe_core.proofs.BuiltDecided.{built_if}
 use Rattle.educe_core.proofs.Causes.{defined_by}
 use Rattle.educe_core.proofs.HandlerCauses.{listing_message, listed_message}
 
@@ -90,13 +88,11 @@ no_cause P told none = record { none_stands = λ e cause. told e cause (none e c
 valid_definition : (source : List ℕ) (d : DeriveInput) → Defines (chars source) d → ((e : EduceError) → IsHandlerCause d e → e.kind ≡ Alloc) → IsValid source
 valid_definition source d defines none =
     let listing = no_cause (IsListingCause d) (λ e cause. (listing_message d e cause).kind) (λ e cause. none e (IsHandlerCause.listing cause)) in
-    let built = built_if d (λ never. (let same = none (placeless NotBuilt) (IsHandlerCause.unbuilt listing never) in cc)) in
     record {
       definition = d;
       defines = defines;
       listing = listing;
-      built = built;
-      uncaused = no_cause (IsListedCause d) (λ e cause. (listed_message d e cause).kind) (λ e cause. none e (IsHandlerCause.handled listing built cause));
+      uncaused = no_cause (IsListedCause d) (λ e cause. (listed_message d e cause).kind) (λ e cause. none e (IsHandlerCause.handled listing cause));
     }
 
 -- A text in which no cause stands, out of memory aside, is valid.

@@ -63,7 +63,6 @@ module _ (d : DeriveInput) where
   fieldwise_message which e (IsFieldwiseCause.by_field field among cause) = lawful_reports.field_message which (field_row which) (listed d) field.attrs e cause
   fieldwise_message which e (IsFieldwiseCause.by_rank fields among cause) = subst HasMessage (sym cause.reuse.is) (record { kind = λ same. cc; words = refl })
   fieldwise_message which e (IsFieldwiseCause.by_copy is_clone lists cause) = lawful_reports.said_message trait.Copy (type_row trait.Copy d) d.attrs e cause
-  fieldwise_message which _ (IsFieldwiseCause.by_marker field among unmarked) = record { kind = λ same. cc; words = refl }
 
   shown_message : (e : EduceError) → IsShownCause d e → HasMessage e
   shown_message e (IsShownCause.by_type cause) = lawful_reports.said_message trait.Debug (type_row trait.Debug d) d.attrs e cause
@@ -73,7 +72,6 @@ module _ (d : DeriveInput) where
   shown_message _ (IsShownCause.by_bracketed_variant variant case is bracketed nameless) = record { kind = λ same. cc; words = refl }
   shown_message _ (IsShownCause.by_unit_variant variant case is unit nameless) = record { kind = λ same. cc; words = refl }
   shown_message _ (IsShownCause.by_empty_enum nameless) = record { kind = λ same. cc; words = refl }
-  shown_message _ (IsShownCause.by_marker case field is among unbuilt) = record { kind = λ same. cc; words = refl }
 
   default_message : (e : EduceError) → IsDefaultCause d e → HasMessage e
   default_message e (IsDefaultCause.by_type cause) = lawful_reports.said_message trait.Default (type_row trait.Default d) d.attrs e cause
@@ -90,8 +88,7 @@ module _ (d : DeriveInput) where
 
   pub handler_words : (e : EduceError) → IsHandlerCause d e → HasWords e.kind e.words
   handler_words e (IsHandlerCause.listing cause) = (listing_message e cause).words
-  handler_words e (IsHandlerCause.unbuilt none never) = refl
-  handler_words e (IsHandlerCause.handled none built cause) = (listed_message e cause).words
+  handler_words e (IsHandlerCause.handled none cause) = (listed_message e cause).words
   handler_words e IsHandlerCause.memory = refl
 
 -- ---- places
@@ -169,7 +166,6 @@ module _ (tokens : List Token) (d : DeriveInput) (placed : IsDefinitionPlaced to
       lawful_reports.field_placed tokens field.attrs here.attrs which (field_row which) (listed d) e cause
   fieldwise_placed which e (IsFieldwiseCause.by_rank fields among cause) = rank_placed which fields among e cause.reuse
   fieldwise_placed which e (IsFieldwiseCause.by_copy is_clone lists cause) = lawful_reports.said_placed tokens d.attrs placed.attrs trait.Copy (type_row trait.Copy d) e cause
-  fieldwise_placed which _ (IsFieldwiseCause.by_marker field among unmarked) = IsBoundary.beginning
 
   -- a variant of a case stands among the tokens
   shown_variant : (variant : Variant) (case : ShownCase) → IsVariantCase d variant case → IsVariantPlaced tokens variant
@@ -190,7 +186,6 @@ module _ (tokens : List Token) (d : DeriveInput) (placed : IsDefinitionPlaced to
   shown_placed _ (IsShownCause.by_unit_variant variant case is unit nameless) =
       let span = (shown_variant variant case is).span in subst Starts (sym span.is) (IsBoundary.start span.first span.first_stands)
   shown_placed _ (IsShownCause.by_empty_enum nameless) = IsBoundary.start d.ident.span placed.name
-  shown_placed _ (IsShownCause.by_marker case field is among unbuilt) = IsBoundary.beginning
 
   -- the fields of a case whose attributes `Default` reads stand among the tokens
   case_placed : (fields : List Field) (written : Bool) → IsCase d fields written → AreFieldsPlaced tokens fields
@@ -227,6 +222,5 @@ module _ (tokens : List Token) (d : DeriveInput) (placed : IsDefinitionPlaced to
   -- each cause of the handler starts at one
   pub handler_placed : (e : EduceError) → IsHandlerCause d e → IsBoundary tokens e.span.start
   handler_placed e (IsHandlerCause.listing cause) = lawful_reports.listing_placed tokens d.attrs placed.attrs (end_of d.tokens) e cause
-  handler_placed e (IsHandlerCause.unbuilt none never) = IsBoundary.beginning
-  handler_placed e (IsHandlerCause.handled none built cause) = each_listed d (λ e. Starts e.span) lists_placed fieldwise_placed shown_placed default_placed e cause
+  handler_placed e (IsHandlerCause.handled none cause) = each_listed d (λ e. Starts e.span) lists_placed fieldwise_placed shown_placed default_placed e cause
   handler_placed e IsHandlerCause.memory = IsBoundary.beginning

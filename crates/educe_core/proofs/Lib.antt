@@ -7,5 +7,4 @@ pub mod Phased
 pub mod Places
 pub mod Causes
 pub mod Alone
-pub mod BuiltDecided
 pub mod Decided

@@ -1,19 +1,13 @@
 -- Refusals of the phases have causes.
 use Rattle.std.proofs.Common.{◌≡◌, sym, subst}
 use Rattle.educe_tokens.specs.declared.error.EduceError.{EduceError}
-use Rattle.educe_tokens.specs.declared.error.Kind.TheVariants.{NotBuilt, Alloc}
+use Rattle.educe_tokens.specs.declared.error.Kind.TheVariants.{Alloc}
 use Rattle.educe_tokens.specs.Refusals.{placeless}
 use Rattle.educe_syntax.specs.DeriveInput.{DeriveInput}
-use Rattle.educe_attrs.specs.Causes.{NoCause, OfStop}
+use Rattle.educe_attrs.specs.Causes.{OfStop}
 use Rattle.educe_attrs.specs.Stop.{Stop}
 use Rattle.educe_attrs.specs.Stop.TheVariants.{Memory, Refused}
-use Rattle.educe_laws.specs.Built.{IsBuilt}
-use Rattle.educe_laws.specs.Listed.{IsListingCause}
 use Rattle.educe_core.specs.Headline.{IsHandlerCause}
-
--- a definition that is not of the form that is built is refused where what it lists has no cause
-pub form_refused : (d : DeriveInput) (e : EduceError) → e ≡ placeless NotBuilt → NoCause (IsListingCause d) → (IsBuilt d → ⊥) → IsHandlerCause d e
-form_refused d e is listing never = subst (IsHandlerCause d) (sym is) (IsHandlerCause.unbuilt listing never)
 
 -- the refusal of a stop, or the error for out of memory
 abbrev error_of : Stop → EduceError

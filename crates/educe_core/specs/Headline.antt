@@ -3,7 +3,7 @@ use Rattle.std.specs.Prelude.{◌≡◌, ◌≢◌, ℕ, List, chars, encode_utf
 use Rattle.std.specs.List.{AllByRecursion}
 use Rattle.educe_tokens.specs.declared.token.Token.{Token}
 use Rattle.educe_tokens.specs.declared.error.EduceError.{EduceError}
-use Rattle.educe_tokens.specs.declared.error.Kind.TheVariants.{NotBuilt, Alloc}
+use Rattle.educe_tokens.specs.declared.error.Kind.TheVariants.{Alloc}
 use Rattle.educe_tokens.specs.Lexes.{LexesAside}
 use Rattle.educe_tokens.specs.Steps.{IsReading}
 use Rattle.educe_tokens.specs.Causes.{IsLexicalCause}
@@ -18,7 +18,6 @@ use Rattle.educe_body_items.specs.Items.{tokens_of, spelling}
 use Rattle.educe_attrs.specs.Causes.{NoCause}
 use Rattle.educe_attrs.specs.Listing.{IsListing}
 use Rattle.educe_laws.specs.Blocks.{OneEach, EachEvaluates, HasTightBounds}
-use Rattle.educe_laws.specs.Built.{IsBuilt}
 use Rattle.educe_laws.specs.Handled.{IsListedCause}
 use Rattle.educe_laws.specs.Listed.{listed, IsListingCause}
 use Rattle.educe_laws.specs.Said.{AreAllSaid}
@@ -30,12 +29,10 @@ pub record Defines (text : List ℕ) (definition : DeriveInput) : Type 0 where
   pub names_apart : AreNamesApart definition
 
 -- why the handler refuses a definition, by phases, of which the first with a cause is the one that is reported: what the
--- definition lists is refused; it is not of the form that is built so far; or a listed trait is refused. Out of memory has no
--- cause.
+-- definition lists is refused; or a listed trait is refused. Out of memory has no cause.
 pub data IsHandlerCause (definition : DeriveInput) : EduceError → Type 0 where
   listing : {e : EduceError} → IsListingCause definition e → IsHandlerCause definition e
-  unbuilt : NoCause (IsListingCause definition) → (IsBuilt definition → ⊥) → IsHandlerCause definition (placeless NotBuilt)
-  handled : {e : EduceError} → NoCause (IsListingCause definition) → IsBuilt definition → IsListedCause definition e → IsHandlerCause definition e
+  handled : {e : EduceError} → NoCause (IsListingCause definition) → IsListedCause definition e → IsHandlerCause definition e
   memory : IsHandlerCause definition (placeless Alloc)
 
 -- the text is a definition in which no cause of any phase stands
@@ -43,7 +40,6 @@ pub record IsValid (source : List ℕ) : Type 0 where
   pub definition : DeriveInput
   pub defines : Defines (chars source) definition
   pub listing : NoCause (IsListingCause definition)
-  pub built : IsBuilt definition
   pub uncaused : NoCause (IsListedCause definition)
 
 -- the text is no definition
@@ -72,7 +68,6 @@ IsAlone source e = (other : EduceError) → other.kind ≢ Alloc → IsCause sou
 pub record IsExpansion (source : List ℕ) (items : List Item) (written : List ℕ) : Type 0 where
   pub definition : DeriveInput
   pub defines : Defines (chars source) definition
-  pub built : IsBuilt definition
   pub lists : IsListing definition.attrs (listed definition)
   pub uncaused : NoCause (IsListedCause definition)
   pub said : AreAllSaid definition

@@ -17,7 +17,6 @@ pub use Rattle.educe_laws.specs.Steps
 pub use Rattle.educe_laws.specs.Types
 pub use Rattle.educe_laws.specs.Arms
 pub use Rattle.educe_laws.specs.Blocks
-pub use Rattle.educe_laws.specs.Built
 pub use Rattle.educe_laws.specs.Handled
 pub use Rattle.educe_laws.specs.Handlers
 -- what clauses say of devices and of how a run ends, and the types that they name

@@ -6,7 +6,6 @@ ghost use Rattle.educe_attrs.specs.Causes.{NoCause, OfStop};
 ghost use Rattle.educe_attrs.specs.Listing.{IsListing};
 ghost use Rattle.educe_core.specs.Composed.{AreHandled};
 ghost use Rattle.educe_laws.specs.Blocks.{OneEach, EachEvaluates, HasTightBounds};
-ghost use Rattle.educe_laws.specs.Built.{IsBuilt};
 ghost use Rattle.educe_laws.specs.Handled.{IsListedCause};
 ghost use Rattle.educe_laws.specs.Handlers.{traits_before, traits_through};
 ghost use Rattle.educe_laws.specs.Listed as listing;
@@ -35,7 +34,6 @@ fn handle<H: TraitHandler>(
 ) -> Result<(), Stop>
     requires is_read { IsDefinition ast.now.tokens ast.now }
     requires listed { listed.now ≡ listing.listed ast.now }
-    requires built { IsBuilt ast.now }
     requires takes { IsTrue (H.takes ast.now.shape) }
     requires before { AreHandled (traits_before H.TRAIT) ast.now ctx.old items.old }
     ensures through { OnOk result (AreHandled (traits_through H.TRAIT) ast.now ctx.new items.new) }
@@ -48,12 +46,11 @@ fn handle<H: TraitHandler>(
     }
 }
 
-/// The blocks of the listed traits, in the fixed order, of a definition that is built.
+/// The blocks of the listed traits, in the fixed order.
 pub fn blocks(alloc: Global, ast: &DeriveInput, listed: &[Trait]) -> Result<Items, Stop>
     requires is_read { IsDefinition ast.now.tokens ast.now }
     requires listed { listed.now ≡ listing.listed ast.now }
     requires lists { IsListing ast.now.attrs (listing.listed ast.now) }
-    requires built { IsBuilt ast.now }
     ensures one_each { IfOk result (OneEach ast.now) }
     ensures said { IfOk result (λ _. AreAllSaid ast.now) }
     ensures evaluates { IfOk result (AllByRecursion (EachEvaluates ast.now)) }

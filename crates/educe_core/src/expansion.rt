@@ -82,10 +82,9 @@ fn expanded(alloc: Global, source: &str) -> Result<Expansion, EduceError>
 
 /// The expansion of a definition with `educe` attributes. A source is refused, in this order, where it
 /// does not lex, is no definition within the limits, or gives a name twice; where what the type lists
-/// is wrong; where it is not of the form that is built so far; and where an attribute of a listed trait
-/// is wrong, two fields have one rank, not one variant is the default one, `Debug` has no name to show, or
-/// the marker of a method is not built. Of several causes of one phase any may be reported (documentation
-/// of `educe`, Traits).
+/// is wrong; and where an attribute of a listed trait is wrong, two fields have one rank, not one variant
+/// is the default one, or `Debug` has no name to show. Of several causes of one phase any may be reported
+/// (documentation of `educe`, Traits).
 pub fn expand(alloc: Global, source: &str) -> Result<Expansion, EduceError>
     requires { length source.now ≤ 131_072 }
     ensures done { IfOk result (λ e.

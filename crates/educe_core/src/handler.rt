@@ -8,7 +8,6 @@ ghost use Rattle.educe_attrs.specs.Causes.{NoCause, OfStop};
 ghost use Rattle.educe_attrs.specs.Listing.{IsListing};
 ghost use Rattle.educe_core.specs.Headline.{IsHandlerCause};
 ghost use Rattle.educe_laws.specs.Blocks.{OneEach, EachEvaluates, HasTightBounds};
-ghost use Rattle.educe_laws.specs.Built.{IsBuilt};
 ghost use Rattle.educe_laws.specs.Handled.{IsListedCause};
 ghost use Rattle.educe_laws.specs.Listed as listing;
 ghost use Rattle.educe_laws.specs.Said.{AreAllSaid};
@@ -17,9 +16,8 @@ use crate::composition::blocks;
 use educe_attrs::{Stop, error_of, type_listing};
 use educe_body::Items;
 use educe_bound::Traits;
-use educe_handlers::is_built;
 use educe_syntax::DeriveInput;
-use educe_tokens::{EduceError, Kind, Span, Token};
+use educe_tokens::{EduceError, Token};
 use std::alloc::Global;
 
 /// Where the last token ends, and 0 where there is none.
@@ -43,7 +41,7 @@ fn listed_traits(alloc: Global, ast: &DeriveInput) -> Result<Traits, Stop>
     type_listing(alloc, ast.attrs.as_slice(), end)
 }
 
-/// The items of a definition, by phases: what it lists, its form, and the handlers of what it lists.
+/// The items of a definition, by phases: what it lists, and the handlers of what it lists.
 fn items_of(alloc: Global, ast: &DeriveInput) -> Result<Items, Stop>
     requires { IsDefinition ast.now.tokens ast.now }
     ensures one_each { IfOk result (OneEach ast.now) }
@@ -52,20 +50,16 @@ fn items_of(alloc: Global, ast: &DeriveInput) -> Result<Items, Stop>
     ensures bounded { IfOk result (AllByRecursion (HasTightBounds ast.now)) }
     ensures lists { IfOk result (λ _. IsListing ast.now.attrs (listing.listed ast.now)) }
     ensures listing { IfOk result (λ _. NoCause (listing.IsListingCause ast.now)) }
-    ensures built { IfOk result (λ _. IsBuilt ast.now) }
     ensures uncaused { IfOk result (λ _. NoCause (IsListedCause ast.now)) }
     ensures err { IfErr result (λ s. OfStop (IsHandlerCause ast.now) s) }
 {
     let listed = listed_traits(alloc, ast)?;
-    if !is_built(ast, listed.as_slice()) {
-        return Err(Stop::Refused(EduceError::new(alloc, Kind::NotBuilt, Span::NONE)));
-    }
     blocks(alloc, ast, listed.as_slice())
 }
 
 /// The items of a definition: one block for each listed trait, in the fixed order. A definition is
-/// refused where what it lists is, then where it is not of the form that is built so far, and then
-/// where a handler of a listed trait refuses it (documentation of `educe`, Traits).
+/// refused where what it lists is, and then where a handler of a listed trait refuses it (documentation
+/// of `educe`, Traits).
 pub fn derive_input_handler(alloc: Global, ast: &DeriveInput) -> Result<Items, EduceError>
     // The definition is the value of its tokens, as those that are read from a text.
     requires { IsDefinition ast.now.tokens ast.now }
@@ -77,7 +71,6 @@ pub fn derive_input_handler(alloc: Global, ast: &DeriveInput) -> Result<Items, E
     ensures lists { IfOk result (λ _. IsListing ast.now.attrs (listing.listed ast.now)) }
     // No cause stands in any phase.
     ensures listing { IfOk result (λ _. NoCause (listing.IsListingCause ast.now)) }
-    ensures built { IfOk result (λ _. IsBuilt ast.now) }
     ensures uncaused { IfOk result (λ _. NoCause (IsListedCause ast.now)) }
     ensures err { IfErr result (IsHandlerCause ast.now) }
     // Its refusal has the words of its message.

@@ -7,6 +7,8 @@ pub mod Beginnings
 pub mod Failing
 pub mod Sound
 pub mod Unrolling
+pub mod NotedUnrolling
+pub mod Forgetting
 pub mod Keeping
 pub mod Balanced
 pub mod Counted

@@ -43,26 +43,26 @@ has_parts_inside (written g) = has_parts_inside g
 has_parts_inside (part p) = false
 
 -- parts of less budget than a bound are met: the budget is below it, or the parts stand inside
-abbrev Meets : ℕ → ℕ → Bool → Type 0
+abbrev pub Meets : ℕ → ℕ → Bool → Type 0
 Meets bound budget inside = (budget < bound) ⊎ ((budget ≤ bound) × (inside ≡ true))
 
 -- the first of two rules
-meets_left : {bound budget : ℕ} (a b : Bool) → Meets bound budget (a && b) → Meets bound budget a
+pub meets_left : {bound budget : ℕ} (a b : Bool) → Meets bound budget (a && b) → Meets bound budget a
 meets_left a b (inl h) = inl h
 meets_left a b (inr h) = inr (h.0, (both_hold a b h.1).0)
 
 -- the second of two rules
-meets_right : {bound budget : ℕ} (a b : Bool) → Meets bound budget (a && b) → Meets bound budget b
+pub meets_right : {bound budget : ℕ} (a b : Bool) → Meets bound budget (a && b) → Meets bound budget b
 meets_right a b (inl h) = inl h
 meets_right a b (inr h) = inr (h.0, (both_hold a b h.1).1)
 
 -- inside there is less budget
-meets_inside : (bound budget : ℕ) (a b : Bool) → Meets bound budget a → 0 < budget → Meets bound (budget - 1) b
+pub meets_inside : (bound budget : ℕ) (a b : Bool) → Meets bound budget a → 0 < budget → Meets bound (budget - 1) b
 meets_inside bound budget a b (inl h) some = inl (omega arith)
 meets_inside bound budget a b (inr h) some = inl (omega (arith, h.0))
 
 -- parts of the same budget are met only where that is below the bound
-meets_part : (bound budget : ℕ) → Meets bound budget false → budget < bound
+pub meets_part : (bound budget : ℕ) → Meets bound budget false → budget < bound
 meets_part bound budget (inl h) = h
 meets_part bound budget (inr h) = absurd (let e = h.1 in cc)
 
@@ -130,7 +130,7 @@ module _ (bound : ℕ) (first second : Readers) (same : (budget : ℕ) → budge
   run_alike (part p) budget meets ts = same budget (meets_part bound budget meets) p ts
 
 -- the parts stand inside in each part's rule
-part_inside : (p : Part) → has_parts_inside (rule_of p) ≡ true
+pub part_inside : (p : Part) → has_parts_inside (rule_of p) ≡ true
 unfolding has_parts_inside productions
 part_inside types = refl
 part_inside plains = refl

@@ -18,6 +18,8 @@ pub mod Naming
 pub mod Refusal
 pub mod Reading
 pub mod Running
+pub mod Noting
+pub mod NotedReads
 pub mod Placed
 pub mod Few
 pub mod Alike

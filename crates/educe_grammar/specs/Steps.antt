@@ -49,7 +49,7 @@ unfoldable pub since : Tokens → Tokens → Tokens
 since start rest = take (length start - length rest) start
 
 -- what a function that parses ensures: the outcome, unless memory fails
-abbrev pub Gives : {A : Type 0} → Outcome A → Result A ParseError → Tokens → Type 0
+abbrev pub Gives : {S A : Type 0} → Result (A × S) ParseError → Result A ParseError → S → Type 0
 Gives outcome (Ok a) new = outcome ≡ Ok (a, new)
 Gives outcome (Err e) new = e ≢ Memory → outcome ≡ Err e
 
@@ -80,5 +80,5 @@ Operates longest (Ok o) old new = (n : ℕ) × (longest ≡ Some (o, n)) × (new
 Operates longest (Err e) old new = (longest ≡ None) × (e ≡ Syntax (length old))
 
 -- A function value that reads what this program does.
-pub record ReadsAs {A : Type 0} (read : Parser A) (post : MutBor Tokens → Result A ParseError → MutBor Tokens → Type 0) : Type 0 where
-  pub reads : (old new : MutBor Tokens) (r : Result A ParseError) → post old r new → Gives (read old.now) r new.now
+pub record ReadsAs {S A : Type 0} (read : S → Result (A × S) ParseError) (post : MutBor S → Result A ParseError → MutBor S → Type 0) : Type 0 where
+  pub reads : (old new : MutBor S) (r : Result A ParseError) → post old r new → Gives (read old.now) r new.now

@@ -10,6 +10,7 @@ ghost use Rattle.educe_grammar.specs.Steps.{Gives};
 use crate::cursor::Cursor;
 use crate::loops::list;
 use crate::parse_error::ParseError;
+use crate::parse_stream::ParseStream;
 use crate::production::{Context, Lookahead, Production};
 use crate::terminal::Terminal;
 use educe_tokens::{Bracket, Seq, terminated};
@@ -53,98 +54,98 @@ impl Lookahead for AngleEnd {
 /// An item in brackets.
 pub fn nested<C, P: Production<C>>(
     context: &C,
-    cursor: &mut Cursor<'_>,
+    input: &mut ParseStream<'_>,
     budget: u8,
     bracket: Bracket,
 ) -> Result<P::Tree, ParseError>
     requires { (below : ℕ) → below + 1 ≡ budget → P.ready context.now below }
-    ensures { Gives (spec.nested bracket budget (P.reads (budget - 1)) cursor.old) result cursor.new }
+    ensures { Gives (spec.nested bracket budget (P.reads (budget - 1)) input.old) result input.new }
 {
-    let below = cursor.open(budget, bracket)?;
-    let found = P::parse(context, cursor, below)?;
-    terminated(found, cursor.expect_close(bracket))
+    let below = input.cursor.open(budget, bracket)?;
+    let found = P::parse(context, input, below)?;
+    terminated(found, input.cursor.expect_close(bracket))
 }
 
 /// An item in angle brackets.
 pub fn angled<C, P: Production<C>>(
     context: &C,
-    cursor: &mut Cursor<'_>,
+    input: &mut ParseStream<'_>,
     budget: u8,
 ) -> Result<P::Tree, ParseError>
     requires { (below : ℕ) → below + 1 ≡ budget → P.ready context.now below }
-    ensures { Gives (spec.angled budget (P.reads (budget - 1)) cursor.old) result cursor.new }
+    ensures { Gives (spec.angled budget (P.reads (budget - 1)) input.old) result input.new }
 {
-    let below = cursor.open_angle(budget)?;
-    let found = P::parse(context, cursor, below)?;
-    terminated(found, cursor.expect(Terminal::Sign('>')))
+    let below = input.cursor.open_angle(budget)?;
+    let found = P::parse(context, input, below)?;
+    terminated(found, input.cursor.expect(Terminal::Sign('>')))
 }
 
 /// Items with commas between, in brackets before whose end the lookahead stops.
 fn in_brackets<C: Context, P: Production<C>, S: Lookahead>(
     context: &C,
-    cursor: &mut Cursor<'_>,
+    input: &mut ParseStream<'_>,
     budget: u8,
     bracket: Bracket,
 ) -> Result<Seq<P::Tree>, ParseError>
     requires { (below : ℕ) → below + 1 ≡ budget → P.ready context.now below }
-    ensures { Gives (spec.nested bracket budget (comma_items S.look (P.reads (budget - 1))) cursor.old) result cursor.new }
+    ensures { Gives (spec.nested bracket budget (comma_items S.look (P.reads (budget - 1))) input.old) result input.new }
 {
-    let below = cursor.open(budget, bracket)?;
-    let found = list::<C, P, S>(context, cursor, below, Terminal::Sign(','))?;
-    terminated(found, cursor.expect_close(bracket))
+    let below = input.cursor.open(budget, bracket)?;
+    let found = list::<C, P, S>(context, input, below, Terminal::Sign(','))?;
+    terminated(found, input.cursor.expect_close(bracket))
 }
 
 /// Items in round brackets, with commas between and maybe a trailing one.
 pub fn in_round<C: Context, P: Production<C>>(
     context: &C,
-    cursor: &mut Cursor<'_>,
+    input: &mut ParseStream<'_>,
     budget: u8,
 ) -> Result<Seq<P::Tree>, ParseError>
     requires { (below : ℕ) → below + 1 ≡ budget → P.ready context.now below }
-    ensures { Gives (spec.nested bracket.Round budget (comma_items (at (stop bracket.Round)) (P.reads (budget - 1))) cursor.old) result cursor.new }
+    ensures { Gives (spec.nested bracket.Round budget (comma_items (at (stop bracket.Round)) (P.reads (budget - 1))) input.old) result input.new }
 {
-    in_brackets::<C, P, RoundEnd>(context, cursor, budget, Bracket::Round)
+    in_brackets::<C, P, RoundEnd>(context, input, budget, Bracket::Round)
 }
 
 /// Items in curly brackets, with commas between and maybe a trailing one.
 pub fn in_curly<C: Context, P: Production<C>>(
     context: &C,
-    cursor: &mut Cursor<'_>,
+    input: &mut ParseStream<'_>,
     budget: u8,
 ) -> Result<Seq<P::Tree>, ParseError>
     requires { (below : ℕ) → below + 1 ≡ budget → P.ready context.now below }
-    ensures { Gives (spec.nested bracket.Curly budget (comma_items (at (stop bracket.Curly)) (P.reads (budget - 1))) cursor.old) result cursor.new }
+    ensures { Gives (spec.nested bracket.Curly budget (comma_items (at (stop bracket.Curly)) (P.reads (budget - 1))) input.old) result input.new }
 {
-    in_brackets::<C, P, CurlyEnd>(context, cursor, budget, Bracket::Curly)
+    in_brackets::<C, P, CurlyEnd>(context, input, budget, Bracket::Curly)
 }
 
 /// Items in angle brackets, with commas between and maybe a trailing one.
 pub fn in_angles<C: Context, P: Production<C>>(
     context: &C,
-    cursor: &mut Cursor<'_>,
+    input: &mut ParseStream<'_>,
     budget: u8,
 ) -> Result<Seq<P::Tree>, ParseError>
     requires { (below : ℕ) → below + 1 ≡ budget → P.ready context.now below }
-    ensures { Gives (spec.angled budget (comma_items (at_sign 62) (P.reads (budget - 1))) cursor.old) result cursor.new }
+    ensures { Gives (spec.angled budget (comma_items (at_sign 62) (P.reads (budget - 1))) input.old) result input.new }
 {
-    let below = cursor.open_angle(budget)?;
-    let found = list::<C, P, AngleEnd>(context, cursor, below, Terminal::Sign(','))?;
-    terminated(found, cursor.expect(Terminal::Sign('>')))
+    let below = input.cursor.open_angle(budget)?;
+    let found = list::<C, P, AngleEnd>(context, input, below, Terminal::Sign(','))?;
+    terminated(found, input.cursor.expect(Terminal::Sign('>')))
 }
 
 /// An item behind such a token, or nothing where no such token comes next.
 #[tactic(auto, unfolding(crate::specs::Ahead::sees_any))]
 pub fn optional_behind<C, P: Production<C>>(
     context: &C,
-    cursor: &mut Cursor<'_>,
+    input: &mut ParseStream<'_>,
     budget: u8,
     asked: Terminal,
 ) -> Result<Option<P::Tree>, ParseError>
     requires { P.ready context.now budget }
-    ensures { Gives (spec.optional_behind asked (P.reads budget) cursor.old) result cursor.new }
+    ensures { Gives (spec.optional_behind asked (P.reads budget) input.old) result input.new }
 {
-    if !cursor.eat(asked) {
+    if !input.cursor.eat(asked) {
         return Ok(None);
     }
-    Ok(Some(P::parse(context, cursor, budget)?))
+    Ok(Some(P::parse(context, input, budget)?))
 }

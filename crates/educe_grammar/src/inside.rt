@@ -1,12 +1,12 @@
 //! What reads the parts that stand inside of others.
 ghost use Rattle.std.specs.Prelude.{◌+◌, ℕ};
-ghost use Rattle.educe_grammar.specs.Reads.{readers};
+ghost use Rattle.educe_grammar.specs.NotedReads.{readers};
 ghost use Rattle.educe_grammar.specs.Rules.{types, plains, exprs};
 ghost use Rattle.educe_grammar.specs.Steps.{Gives};
 
-use crate::cursor::Cursor;
 use crate::ending::Ending;
 use crate::parse_error::ParseError;
+use crate::parse_stream::ParseStream;
 use crate::production::Production;
 use educe_tree::{Expr, Ty};
 use std::alloc::Global;
@@ -23,19 +23,29 @@ pub trait Inside {
     ghost fewer: { (inside : Self) (bound : ℕ) → nests inside (bound + 1) → nests inside bound };
 
     /// A type (Rust Reference, Types).
-    fn ty(&self, alloc: Global, cursor: &mut Cursor<'_>, budget: u8) -> Result<Ty, ParseError>
+    fn ty(&self, alloc: Global, input: &mut ParseStream<'_>, budget: u8) -> Result<Ty, ParseError>
         requires { nests self.now (budget + 1) }
-        ensures { Gives (readers budget types cursor.old) result cursor.new };
+        ensures { Gives (readers budget types input.old) result input.new };
 
     /// A type whose `dyn` has one bound (Rust Reference, Type expressions).
-    fn plain(&self, alloc: Global, cursor: &mut Cursor<'_>, budget: u8) -> Result<Typed, ParseError>
+    fn plain(
+        &self,
+        alloc: Global,
+        input: &mut ParseStream<'_>,
+        budget: u8,
+    ) -> Result<Typed, ParseError>
         requires { nests self.now (budget + 1) }
-        ensures { Gives (readers budget plains cursor.old) result cursor.new };
+        ensures { Gives (readers budget plains input.old) result input.new };
 
     /// An expression (Rust Reference, Expressions).
-    fn expr(&self, alloc: Global, cursor: &mut Cursor<'_>, budget: u8) -> Result<Expr, ParseError>
+    fn expr(
+        &self,
+        alloc: Global,
+        input: &mut ParseStream<'_>,
+        budget: u8,
+    ) -> Result<Expr, ParseError>
         requires { nests self.now (budget + 1) }
-        ensures { Gives (readers budget exprs cursor.old) result cursor.new };
+        ensures { Gives (readers budget exprs input.old) result input.new };
 }
 
 /// What reads the parts that stand inside, with the allocator of what is read.
@@ -47,27 +57,27 @@ pub struct Parts<R> {
 
 impl<R: Inside> Parts<R> {
     /// A type inside.
-    pub fn ty(&self, cursor: &mut Cursor<'_>, budget: u8) -> Result<Ty, ParseError>
+    pub fn ty(&self, input: &mut ParseStream<'_>, budget: u8) -> Result<Ty, ParseError>
         requires { R.nests self.now.inside (budget + 1) }
-        ensures { Gives (readers budget types cursor.old) result cursor.new }
+        ensures { Gives (readers budget types input.old) result input.new }
     {
-        self.inside.ty(self.alloc, cursor, budget)
+        self.inside.ty(self.alloc, input, budget)
     }
 
     /// A type inside, whose `dyn` has one bound.
-    pub fn plain(&self, cursor: &mut Cursor<'_>, budget: u8) -> Result<Typed, ParseError>
+    pub fn plain(&self, input: &mut ParseStream<'_>, budget: u8) -> Result<Typed, ParseError>
         requires { R.nests self.now.inside (budget + 1) }
-        ensures { Gives (readers budget plains cursor.old) result cursor.new }
+        ensures { Gives (readers budget plains input.old) result input.new }
     {
-        self.inside.plain(self.alloc, cursor, budget)
+        self.inside.plain(self.alloc, input, budget)
     }
 
     /// An expression inside.
-    pub fn expr(&self, cursor: &mut Cursor<'_>, budget: u8) -> Result<Expr, ParseError>
+    pub fn expr(&self, input: &mut ParseStream<'_>, budget: u8) -> Result<Expr, ParseError>
         requires { R.nests self.now.inside (budget + 1) }
-        ensures { Gives (readers budget exprs cursor.old) result cursor.new }
+        ensures { Gives (readers budget exprs input.old) result input.new }
     {
-        self.inside.expr(self.alloc, cursor, budget)
+        self.inside.expr(self.alloc, input, budget)
     }
 }
 
@@ -81,8 +91,8 @@ impl<R: Inside> Production<Parts<R>> for TypeInside {
 
     ghost reads = { λ budget. readers budget types };
 
-    fn parse(parts: &Parts<R>, cursor: &mut Cursor<'_>, budget: u8) -> Result<Ty, ParseError> {
-        parts.ty(cursor, budget)
+    fn parse(parts: &Parts<R>, input: &mut ParseStream<'_>, budget: u8) -> Result<Ty, ParseError> {
+        parts.ty(input, budget)
     }
 }
 
@@ -96,7 +106,11 @@ impl<R: Inside> Production<Parts<R>> for ExprInside {
 
     ghost reads = { λ budget. readers budget exprs };
 
-    fn parse(parts: &Parts<R>, cursor: &mut Cursor<'_>, budget: u8) -> Result<Expr, ParseError> {
-        parts.expr(cursor, budget)
+    fn parse(
+        parts: &Parts<R>,
+        input: &mut ParseStream<'_>,
+        budget: u8,
+    ) -> Result<Expr, ParseError> {
+        parts.expr(input, budget)
     }
 }

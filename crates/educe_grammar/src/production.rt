@@ -2,11 +2,13 @@
 //! value is passed when the program runs.
 ghost use Rattle.std.specs.Prelude.{◌≡◌, ℕ};
 ghost use Rattle.educe_grammar.specs.Ahead.{Look, sees_any};
-ghost use Rattle.educe_grammar.specs.Steps.{Parser, Gives};
+ghost use Rattle.educe_grammar.specs.Noting.{Noter};
+ghost use Rattle.educe_grammar.specs.Steps.{Gives};
 
 use crate::cursor::Cursor;
 use crate::inside::Parts;
 use crate::parse_error::ParseError;
+use crate::parse_stream::ParseStream;
 use std::alloc::Global;
 
 /// What a production is read with: an allocator, and maybe what reads the parts inside.
@@ -36,12 +38,12 @@ pub trait Production<C> {
     ghost ready: { C → ℕ → Type 0 };
 
     // The program that it is, with a budget.
-    ghost reads: { ℕ → Parser Self.Tree };
+    ghost reads: { ℕ → Noter Self.Tree };
 
     /// Reads it.
-    fn parse(context: &C, cursor: &mut Cursor<'_>, budget: u8) -> Result<Self::Tree, ParseError>
+    fn parse(context: &C, input: &mut ParseStream<'_>, budget: u8) -> Result<Self::Tree, ParseError>
         requires { ready context.now budget }
-        ensures { Gives (reads budget cursor.old) result cursor.new };
+        ensures { Gives (reads budget input.old) result input.new };
 }
 
 /// A lookahead: what the tokens may begin with.

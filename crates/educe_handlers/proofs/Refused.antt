@@ -15,7 +15,7 @@ use Rattle.educe_syntax.specs.Field.{Field}
 use Rattle.educe_syntax.specs.Shape.{Shape}
 use Rattle.educe_syntax.specs.Shape.TheVariants.{Struct, Enum}
 use Rattle.educe_syntax.specs.Variant.{Variant}
-use Rattle.educe_bound_traits.specs.Traits.{is_listed}
+use Rattle.educe_bound_traits.specs.Traits.{is_listed, same_trait}
 use Rattle.educe_bound_traits.specs.declared.traits.Trait.TheVariants as trait
 use Rattle.educe_attrs.specs.Among.{IsAmong}
 use Rattle.educe_attrs.specs.Causes.{NoCause, OfStop}
@@ -28,7 +28,7 @@ use Rattle.educe_attrs.specs.Places.{OfPlace, OfField}
 use Rattle.educe_attrs.specs.Said.{IsPlaceCause, IsSaidCause}
 use Rattle.educe_bound_traits.specs.declared.traits.Trait.{Trait}
 use Rattle.educe_laws.specs.Cases.{fields_in, shape_cases, variant_attributes, field_attributes}
-use Rattle.educe_laws.specs.Handled.{places, IsListsCause, IsReuse, IsRankCause, has_markers, IsUnbuiltMarker, IsFieldwiseCause, OfCase, OfVariant, OfShape, handling}
+use Rattle.educe_laws.specs.Handled.{places, IsListsCause, IsReuse, IsRankCause, IsFieldwiseCause, OfCase, OfVariant, OfShape, handling}
 use Rattle.educe_laws.specs.Listed.{listed}
 use Rattle.educe_laws.specs.Ranks.{AreRanksApart}
 use Rattle.educe_laws.specs.Rows.{is_order, is_fieldwise, type_row, variant_row, field_row}
@@ -196,17 +196,13 @@ lists_clear d e own variants fields cause =
 
 -- ---- why no cause stands
 
--- what `Clone` is refused for besides: nothing that the type says of `Copy` is wrong, where that is listed, and each marker is built
+-- what `Clone` is refused for besides: nothing that the type says of `Copy` is wrong, where that is listed
 pub record IsClear (which : Trait) (d : DeriveInput) : Type 0 where
   pub copy : (e : EduceError) → which ≡ trait.Clone → is_listed (listed d) trait.Copy ≡ true → IsSaidCause trait.Copy (type_row trait.Copy d) d.attrs e → ⊥
-  pub marked : (field : Field) → In field (all_fields d) → IsUnbuiltMarker which d field → ⊥
 
--- another trait is refused for neither
-pub other_clear : (which : Trait) (d : DeriveInput) → has_markers which ≡ false → IsClear which d
-other_clear which d unmarked = record {
-  copy = λ e clones lists said. true≢false (ap has_markers (sym clones) ∙ unmarked);
-  marked = λ field found cause. true≢false (sym cause.marks ∙ unmarked);
-}
+-- another trait is not refused for that
+pub other_clear : (which : Trait) (d : DeriveInput) → same_trait which trait.Clone ≡ false → IsClear which d
+other_clear which d apart = record { copy = λ e clones lists said. true≢false (ap (λ (own : Trait). same_trait own trait.Clone) (sym clones) ∙ apart) }
 
 module _ (which : Trait) (d : DeriveInput) (shape_uncaused : NoCause (OfShape which d d.shape)) where
   field_uncaused : (field : Field) → In field (all_fields d) → NoCause (OfField which (field_row which) (listed d) field.attrs)
@@ -235,7 +231,6 @@ module _ (which : Trait) (d : DeriveInput) (shape_uncaused : NoCause (OfShape wh
     own_uncaused clear is_one e (IsFieldwiseCause.by_rank fields among cause) =
         shape_uncaused.none_stands e (rank_behind which d d.shape fields (among_in fields (shape_cases d.shape) among) e cause)
     own_uncaused clear is_one e (IsFieldwiseCause.by_copy clones lists said) = clear.copy e clones lists said
-    own_uncaused clear is_one _ (IsFieldwiseCause.by_marker field among cause) = clear.marked field (among_in field (all_fields d) among) cause
 
     -- so the handler has none
     pub handler_uncaused : IsClear which d → IsTrue (is_fieldwise which) → is_listed (listed d) which ≡ true → NoCause (OfHandler (handling d) which)

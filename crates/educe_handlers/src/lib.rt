@@ -3,7 +3,6 @@
 #![tactic(auto)]
 
 mod bodies;
-mod built;
 mod calling;
 mod cases;
 mod field_types;
@@ -23,7 +22,6 @@ mod settings;
 mod task;
 
 pub use bodies::{block_of, body_of, name_of, same_name};
-pub use built::is_built;
 pub use calling::called;
 pub use cases::{CaseSettings, check_places, settings_of_cases};
 pub use educe_handlers_bounds::{TraitHandlerContext, bound_said};

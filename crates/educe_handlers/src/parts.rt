@@ -15,7 +15,7 @@ pub struct StructPart<H> {
 
 impl<H: TraitHandler> TraitHandler for StructPart<H> {
     ghost use Rattle.std.specs.Prelude.{◌&&◌};
-    ghost use Rattle.educe_laws.specs.Built.{is_struct};
+    ghost use Rattle.educe_laws.specs.Cases.{is_struct};
 
     const TRAIT: Trait = H::TRAIT;
 
@@ -41,7 +41,7 @@ pub struct EnumPart<H> {
 
 impl<H: TraitHandler> TraitHandler for EnumPart<H> {
     ghost use Rattle.std.specs.Prelude.{◌&&◌};
-    ghost use Rattle.educe_laws.specs.Built.{is_enum};
+    ghost use Rattle.educe_laws.specs.Cases.{is_enum};
 
     const TRAIT: Trait = H::TRAIT;
 

@@ -1,7 +1,6 @@
 -- What holds of the block of `Eq`, and of the names that its check declares.
-use Rattle.std.proofs.Common.{◌≡◌, Bool, true, false, ◌&&◌, List, [], ◌∷◌, ℕ, refl, sym, subst}
-use Rattle.std.specs.List.{AllByRecursion, list_all, flat_map}
-use Rattle.std.proofs.lemmas.Bool.{and_parts}
+use Rattle.std.proofs.Common.{Bool, true, false, List, [], ◌∷◌, ℕ, refl, sym, subst}
+use Rattle.std.specs.List.{AllByRecursion, flat_map}
 use Rattle.educe_syntax.specs.DeriveInput.{DeriveInput}
 use Rattle.educe_syntax.specs.Few.{shape_fields}
 use Rattle.educe_syntax.specs.Field.{Field}
@@ -9,7 +8,6 @@ use Rattle.educe_syntax.specs.Refusal.{IsDefinition}
 use Rattle.educe_syntax.specs.Shape.{Shape}
 use Rattle.educe_syntax.specs.Shape.TheVariants.{Struct, Enum}
 use Rattle.educe_syntax.specs.Variant.{Variant}
-use Rattle.educe_syntax_self.specs.Selves.{have_plain_self}
 use Rattle.educe_syntax_self.specs.Visits.{MayVisitType, IsOwnField, AreOwnFields}
 use Rattle.educe_syntax_self.proofs.Lawful.{lawful_definitions}
 use Rattle.educe_bound_traits.specs.declared.traits.Trait.TheVariants as trait
@@ -17,7 +15,6 @@ use Rattle.educe_bound_traits.specs.Traits.{is_listed}
 use Rattle.educe_body_items.specs.declared.items.Item.{Item}
 use Rattle.educe_laws.specs.Arms.{AreChosenFor, AreScoped}
 use Rattle.educe_laws.specs.Blocks.{has_check, IsEqBlockWith, EachEvaluates}
-use Rattle.educe_laws.specs.Built.{are_built, has_plain_type, are_plain_types, may_replace, IsBuilt}
 use Rattle.educe_laws.specs.Cases.{fields_in}
 use Rattle.educe_laws.specs.Checks.{plain_names}
 use Rattle.educe_laws.specs.EqLaws.{EqLaws}
@@ -28,7 +25,6 @@ use Rattle.educe_laws.proofs.Bounding.{checked_hold}
 use Rattle.educe_laws.proofs.Elements.{each_joined}
 use Rattle.educe_laws.proofs.Facts.{ArePlain}
 use Rattle.educe_laws.proofs.Fitting.{none_evaluate}
-use Rattle.educe_laws.proofs.Inheriting.{passes}
 use Rattle.educe_laws.proofs.Variables.{chosen_scoped}
 
 -- the names of a check, where nothing is in their way, have no `r#`, and none of them is `self`
@@ -51,33 +47,25 @@ module _ (d : DeriveInput) where
 abbrev MayVisitField : Field → Type 0
 MayVisitField f = MayVisitType f.ty
 
--- a field whose type is the value of its tokens, in which each `Self` is plain, may be
-fields_visit : (fields : List Field) → AllByRecursion IsOwnField fields → list_all has_plain_type fields ≡ true → AllByRecursion MayVisitField fields
-fields_visit [] own plain = tt
-fields_visit (f ∷ fs) own plain =
-    let parts = and_parts (has_plain_type f) (list_all has_plain_type fs) plain in
-    (record { reads = own.0; plain = parts.0 }, fields_visit fs own.1 parts.1)
+-- a field whose type is the value of its tokens may be
+fields_visit : (fields : List Field) → AllByRecursion IsOwnField fields → AllByRecursion MayVisitField fields
+fields_visit [] own = tt
+fields_visit (f ∷ fs) own = (record { reads = own.0 }, fields_visit fs own.1)
 
 -- so may those of variants
-variants_visit : (variants : List Variant) → AllByRecursion (λ v. AllByRecursion IsOwnField v.fields.fields) variants
-    → list_all (λ (v : Variant). list_all has_plain_type v.fields.fields) variants ≡ true → AllByRecursion MayVisitField (flat_map fields_in variants)
-variants_visit [] own plain = tt
-variants_visit (v ∷ vs) own plain =
-    let parts = and_parts (list_all has_plain_type v.fields.fields) (list_all (λ (v : Variant). list_all has_plain_type v.fields.fields) vs) plain in
-    each_joined MayVisitField (fields_in v) (flat_map fields_in vs) (fields_visit (fields_in v) own.0 parts.0) (variants_visit vs own.1 parts.1)
+variants_visit : (variants : List Variant) → AllByRecursion (λ v. AllByRecursion IsOwnField v.fields.fields) variants → AllByRecursion MayVisitField (flat_map fields_in variants)
+variants_visit [] own = tt
+variants_visit (v ∷ vs) own = each_joined MayVisitField (fields_in v) (flat_map fields_in vs) (fields_visit (fields_in v) own.0) (variants_visit vs own.1)
 
 -- and those of all fields
-shape_visit : (shape : Shape) → AreOwnFields shape → are_plain_types shape ≡ true → AllByRecursion MayVisitField (shape_fields shape)
-shape_visit (Struct shape) own plain = fields_visit shape.fields own plain
-shape_visit (Enum variants) own plain = variants_visit variants own plain
+shape_visit : (shape : Shape) → AreOwnFields shape → AllByRecursion MayVisitField (shape_fields shape)
+shape_visit (Struct shape) own = fields_visit shape.fields own
+shape_visit (Enum variants) own = variants_visit variants own
 
--- the types that are checked may be, where a definition that is built lists `Eq`
-types_visit : (d : DeriveInput) → IsDefinition d.tokens d → IsBuilt d → is_listed (listed d) trait.Eq ≡ true → AllByRecursion MayVisitType (checked_types d)
-types_visit d is built lists =
-    let replaces = passes (is_listed (listed d) trait.Eq) (are_plain_types d.shape && have_plain_self d.generics) (and_parts (are_built (listed d)) (may_replace d) built).1 lists in
-    let plain = (and_parts (are_plain_types d.shape) (have_plain_self d.generics) replaces).0 in
-    let own = lawful_definitions.own d.tokens d is.whole in
-    checked_hold MayVisitType d (shape_visit d.shape own.fields plain) (is_listed (listed d) trait.PartialEq)
+-- the types that are checked may be
+types_visit : (d : DeriveInput) → IsDefinition d.tokens d → AllByRecursion MayVisitType (checked_types d)
+types_visit d is =
+    let own = lawful_definitions.own d.tokens d is.whole in checked_hold MayVisitType d (shape_visit d.shape own.fields) (is_listed (listed d) trait.PartialEq)
 
 -- the laws of `Eq` hold
 pub lawful_checks : EqLaws

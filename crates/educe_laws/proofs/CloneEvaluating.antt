@@ -24,7 +24,7 @@ use Rattle.educe_body_values.specs.declared.flow.Thing.TheVariants.{Nothing}
 use Rattle.educe_body_forms.specs.declared.form.Form.{Form, MatchValue}
 use Rattle.educe_body_forms.specs.declared.form.Form as form
 use Rattle.educe_laws.specs.Blocks.{scene_of, scene_with, Clones, ClonesFrom, AreCloneFunctions, IsCloneBlock, IsCopyBlock, Evaluates, EachEvaluates}
-use Rattle.educe_laws.specs.Built.{is_struct}
+use Rattle.educe_laws.specs.Cases.{is_struct}
 use Rattle.educe_laws.specs.Cases.{fields_in}
 use Rattle.educe_laws.specs.CloneBodies.{CloneNames, AreCloneNames, AreAssignments, IsCloneBlockFor, IsCloneBody, IsFromBlockFor, IsFromBody}
 use Rattle.educe_laws.specs.CloneLaws.{CloneLaws}

@@ -1,8 +1,8 @@
 -- What the context notes of the traits that a trait inherits from is what its impl inherits.
-use Rattle.std.proofs.Common.{◌≡◌, Bool, true, false, not, ◌&&◌, ◌||◌, inl, inr, List, [], ◌∷◌, ◌++◌, refl, sym, ap, ◌∙◌, subst}
-use Rattle.std.specs.Prelude.{if◌then◌else◌, IsTrue}
+use Rattle.std.proofs.Common.{◌≡◌, Bool, true, false, ◌&&◌, inl, inr, List, [], ◌∷◌, ◌++◌, refl, sym, ap, ◌∙◌, subst}
+use Rattle.std.specs.Prelude.{if◌then◌else◌}
 use Rattle.std.specs.List.{AllByRecursion, AllZip}
-use Rattle.std.proofs.lemmas.Bool.{true≢false, false≢true, and_parts, or_cases, or_parts}
+use Rattle.std.proofs.lemmas.Bool.{true≢false, false≢true, or_cases, or_parts}
 use Rattle.std.proofs.lemmas.Map.Views.{any-filter_same}
 use Rattle.educe_syntax.specs.DeriveInput.{DeriveInput}
 use Rattle.educe_bound_traits.specs.declared.traits.Trait.{Trait}
@@ -10,7 +10,6 @@ use Rattle.educe_bound_traits.specs.declared.traits.Trait.TheVariants as trait
 use Rattle.educe_bound.specs.Predicates.{Key}
 use Rattle.educe_bound_traits.specs.Traits.{is_listed, same_trait}
 use Rattle.educe_bound_traits.proofs.Apart.{same_is}
-use Rattle.educe_laws.specs.Built.{built_traits, are_built, may_replace, IsBuilt}
 use Rattle.educe_laws.specs.Handlers.{traits_before, handled_of, Noted, IsNoted, AreNoted, noted_of, inherited_from}
 use Rattle.educe_laws.specs.Headers.{AreOf, AreInherited, from_none, unlisted, from_listed, prerequisites}
 use Rattle.educe_laws.specs.Listed.{listed}
@@ -22,20 +21,6 @@ use Rattle.educe_laws.proofs.Elements.{each_weaker}
 handled_is : (traits done : List Trait) (which : Trait) → is_listed (handled_of traits done) which ≡ (is_listed traits which && is_listed done which)
 handled_is traits done which =
     any-filter_same (same_trait which) (is_listed traits) (is_listed traits which) (λ other same. ap (is_listed traits) (sym ((same_is which other).0 same))) done
-
--- where the items of all traits are built, those of a listed one are
-pub listed_built : (traits : List Trait) (which : Trait) → IsTrue (are_built traits) → is_listed traits which ≡ true → is_listed built_traits which ≡ true
-listed_built [] which built lists = absurd (false≢true lists)
-listed_built (t ∷ ts) which built lists =
-    let parts = and_parts (is_listed built_traits t) (are_built ts) built in
-    elim (or_cases (same_trait which t) (is_listed ts which) lists) [
-      | inl here ↦ subst (λ t. is_listed built_traits t ≡ true) (sym ((same_is which t).0 here)) parts.0
-      | inr later ↦ listed_built ts which parts.1 later
-    ]
-
--- the traits that a definition lists which is built are
-pub built_listed : (d : DeriveInput) → IsBuilt d → IsTrue (are_built (listed d))
-built_listed d built = (and_parts (are_built (listed d)) (may_replace d) built).0
 
 -- ---- what is noted
 
@@ -93,14 +78,9 @@ module _ (d : DeriveInput) (done : List Trait) (noted : List Noted) (are : AreNo
   all_inherited [] each = from_none
   all_inherited (t ∷ ts) each = inherited_step t ts (is_listed (listed d) t) refl each.0 (all_inherited ts each.1)
 
--- where of two tests the first fails or the second passes, the second passes if the first does
-pub passes : (first second : Bool) → (not first || second) ≡ true → first ≡ true → second ≡ true
-passes true second either first = either
-passes false second either first = absurd (false≢true first)
-
--- a trait that another one inherits from is handled before it, if it is built
+-- a trait that another one inherits from is handled before it
 abbrev IsBefore : Trait → Trait → Type 0
-IsBefore which t = (not (is_listed built_traits t) || is_listed (traits_before which) t) ≡ true
+IsBefore which t = is_listed (traits_before which) t ≡ true
 
 all_before : (which : Trait) → AllByRecursion (IsBefore which) (prerequisites which)
 all_before trait.Debug = tt
@@ -114,11 +94,8 @@ all_before trait.Hash = tt
 all_before trait.Default = tt
 
 -- what is noted of the traits that a trait inherits from is what its impl inherits
-pub trait_inherits : (which : Trait) (d : DeriveInput) (noted : List Noted) → IsBuilt d → AreNoted d (traits_before which) noted
+pub trait_inherits : (which : Trait) (d : DeriveInput) (noted : List Noted) → AreNoted d (traits_before which) noted
     → AreInherited d (prerequisites which) (inherited_from noted (prerequisites which))
-trait_inherits which d noted built are =
+trait_inherits which d noted are =
     let Done : Trait → Type 0 = λ t. is_listed (listed d) t ≡ true → is_listed (traits_before which) t ≡ true in
-    let all : IsTrue (are_built (listed d)) = built_listed d built in
-    all_inherited d (traits_before which) noted are (prerequisites which)
-    (each_weaker (IsBefore which) Done (λ t before lists. passes (is_listed built_traits t) (is_listed (traits_before which) t) before (listed_built (listed d) t all lists)) (prerequisites which)
-    (all_before which))
+    all_inherited d (traits_before which) noted are (prerequisites which) (each_weaker (IsBefore which) Done (λ t before lists. before) (prerequisites which) (all_before which))

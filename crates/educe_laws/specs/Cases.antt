@@ -1,5 +1,5 @@
 -- The fields that a value of a definition can have: a struct is one case, an enum has one for each variant.
-use Rattle.std.specs.Prelude.{List, [], ◌∷◌, map, slice_get, unwrap_or}
+use Rattle.std.specs.Prelude.{Bool, true, false, List, [], ◌∷◌, map, slice_get, unwrap_or}
 use Rattle.educe_syntax.specs.Attribute.{Attribute}
 use Rattle.educe_syntax.specs.DeriveInput.{DeriveInput}
 use Rattle.educe_syntax.specs.Few.{variants_of, all_fields}
@@ -8,6 +8,16 @@ use Rattle.educe_syntax.specs.Shape.{Shape}
 use Rattle.educe_syntax.specs.Shape.TheVariants.{Struct, Enum}
 use Rattle.educe_syntax.specs.Variant.{Variant}
 use Rattle.educe_body_values.specs.declared.value.Value.{Value}
+
+-- a struct, of any form
+abbrev pub is_struct : Shape → Bool
+is_struct (Struct shape) = true
+is_struct (Enum variants) = false
+
+-- an enum
+abbrev pub is_enum : Shape → Bool
+is_enum (Struct shape) = false
+is_enum (Enum variants) = true
 
 -- the fields of a variant, in written order
 abbrev pub fields_in : Variant → List Field

@@ -9,8 +9,9 @@ use Rattle.educe_syntax.specs.DeriveInput.{DeriveInput}
 use Rattle.educe_syntax.specs.Generics.{Generics}
 use Rattle.educe_syntax.specs.Steps.{Tokens}
 use Rattle.educe_syntax.specs.Ty.{Ty}
+use Rattle.educe_syntax.specs.Types.{any_type}
 use Rattle.educe_syntax_self.specs.Heads.{head_for}
-use Rattle.educe_syntax_self.specs.Selves.{replaced}
+use Rattle.educe_syntax_self.specs.Splicing.{replaced_in}
 use Rattle.educe_syntax_self.specs.Visits.{AreReplaced}
 use Rattle.educe_attrs.specs.Lints.{lints}
 use Rattle.educe_body_items.specs.declared.items.CheckItem.{CheckItem}
@@ -34,14 +35,15 @@ pub record IsHeadFor (definition : DeriveInput) (head : Tokens) : Type 0 where
   pub is : lexemes head ≡ head_for definition
   pub nowhere : LieNowhere head
 
--- the tokens of the new type are those of the old one, with the head in place of each `Self`
+-- the tokens of the new type are those of the old one, with the head in place of each `Self` that a path begins with
 abbrev pub IsReplacedType : Tokens → Ty → Ty → Type 0
-IsReplacedType head old new = new.written.tokens ≡ replaced head old.written.tokens
+IsReplacedType head old new = new.written.tokens ≡ replaced_in any_type head old.written.tokens
 
 -- ---- checks
 
--- A check of these types, with these generics, and with the head of the definition in place of each `Self` of both: its attributes
--- are the lints alone, and its names are chosen, in their order, apart from the words of the definition and from each other.
+-- A check of these types, with these generics, and with the head of the definition in place of each `Self` that a path of them begins
+-- with: its attributes are the lints alone, and its names are chosen, in their order, apart from the words of the definition and from
+-- each other.
 pub record IsCheck (definition : DeriveInput) (generics : Generics) (types : List Ty) (check : CheckItem) : Type 0 where
   pub attributes_are : written_lexemes check.attributes ≡ lints definition.attrs
   pub head : Tokens

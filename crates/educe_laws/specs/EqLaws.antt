@@ -1,18 +1,14 @@
 -- What holds of the derived `Eq` with no call.
-use Rattle.std.specs.Prelude.{◌≡◌, ℕ, true, List}
+use Rattle.std.specs.Prelude.{ℕ, List}
 use Rattle.std.specs.List.{AllByRecursion}
 use Rattle.educe_syntax.specs.DeriveInput.{DeriveInput}
 use Rattle.educe_syntax.specs.Refusal.{IsDefinition}
 use Rattle.educe_syntax_self.specs.Heads.{AreNamed}
 use Rattle.educe_syntax_self.specs.Visits.{MayVisitType}
-use Rattle.educe_bound_traits.specs.declared.traits.Trait.TheVariants.{Eq}
-use Rattle.educe_bound_traits.specs.Traits.{is_listed}
 use Rattle.educe_body_items.specs.declared.items.Item.{Item}
 use Rattle.educe_laws.specs.Arms.{AreChosenFor, AreScoped}
 use Rattle.educe_laws.specs.Blocks.{IsEqBlock, EachEvaluates}
-use Rattle.educe_laws.specs.Built.{IsBuilt}
 use Rattle.educe_laws.specs.Checks.{plain_names}
-use Rattle.educe_laws.specs.Listed.{listed}
 use Rattle.educe_laws.specs.Types.{checked_types}
 
 -- What holds of the block of `Eq`.
@@ -21,8 +17,7 @@ pub record EqLaws : Type 0 where
   pub scope : (definition : DeriveInput) (names : List (List ℕ)) → AreChosenFor definition plain_names names → AreScoped definition names
   -- the name of a definition and those of its parameters are names, which may stand in place of `Self`
   pub named : (definition : DeriveInput) → IsDefinition definition.tokens definition → AreNamed definition
-  -- where it lists `Eq` and is built, the types that are checked may be visited to replace `Self`
-  pub visits : (definition : DeriveInput) → IsDefinition definition.tokens definition → IsBuilt definition → is_listed (listed definition) Eq ≡ true
-      → AllByRecursion MayVisitType (checked_types definition)
+  -- the types that are checked may be visited to replace `Self`
+  pub visits : (definition : DeriveInput) → IsDefinition definition.tokens definition → AllByRecursion MayVisitType (checked_types definition)
   -- no function of the block is called, so that there is nothing to evaluate
   pub evaluates : (definition : DeriveInput) (items : List Item) → IsEqBlock definition items → AllByRecursion (EachEvaluates definition) items

@@ -1,12 +1,10 @@
 -- Why the handlers of the listed traits refuse a definition.
-use Rattle.std.specs.Prelude.{◌≡◌, ◌⊎◌, ℤ, Bool, true, false, Some, IsTrue, List, [], ◌∷◌, ◌++◌}
+use Rattle.std.specs.Prelude.{◌≡◌, ◌⊎◌, ℤ, true, IsTrue, List, [], ◌∷◌, ◌++◌}
 use Rattle.educe_tokens.specs.declared.error.EduceError.{EduceError}
-use Rattle.educe_tokens.specs.declared.error.Kind.TheVariants.{NotBuilt, ReuseARank}
+use Rattle.educe_tokens.specs.declared.error.Kind.TheVariants.{ReuseARank}
 use Rattle.educe_tokens.specs.declared.span.Span.{Span}
-use Rattle.educe_tokens.specs.Refusals.{placeless}
 use Rattle.educe_syntax.specs.Attribute.{Attribute}
 use Rattle.educe_syntax.specs.DeriveInput.{DeriveInput}
-use Rattle.educe_syntax.specs.ExprPath.{ExprPath}
 use Rattle.educe_syntax.specs.Field.{Field}
 use Rattle.educe_syntax.specs.Shape.{Shape}
 use Rattle.educe_syntax.specs.Shape.TheVariants.{Struct, Enum}
@@ -24,9 +22,8 @@ use Rattle.educe_syntax.specs.Variant.{Variant}
 use Rattle.educe_laws.specs.Cases.{fields_in, cases_of, variant_attributes, field_attributes}
 use Rattle.educe_laws.specs.Defaults.{IsDefaultCause}
 use Rattle.educe_laws.specs.Listed.{listed}
-use Rattle.educe_laws.specs.Markers.{has_plain_marker}
 use Rattle.educe_laws.specs.Rows.{is_order, type_row, variant_row, field_row}
-use Rattle.educe_laws.specs.Settings.{Kept, settings_of, kept_fields, ReusesARank}
+use Rattle.educe_laws.specs.Settings.{Kept, kept_fields, ReusesARank}
 use Rattle.educe_laws.specs.Shown.{IsShownCause}
 
 -- the error for a repeated rank
@@ -56,22 +53,9 @@ pub record IsRankCause (which : Trait) (definition : DeriveInput) (fields : List
   pub read : HaveNoCauses which (field_row which) (listed definition) fields
   pub reuse : IsReuse (kept_fields which definition fields) e
 
--- the trait has markers, which call the methods of fields
-abbrev pub has_markers : Trait → Bool
-has_markers trait.Debug = true
-has_markers trait.Clone = true
-has_markers _ = false
-
--- the field has a method, and its marker is not built
-pub record IsUnbuiltMarker (which : Trait) (definition : DeriveInput) (field : Field) : Type 0 where
-  pub marks : has_markers which ≡ true
-  pub path : ExprPath
-  pub method : (settings_of which definition field).values.method ≡ Some path
-  pub unplain : has_plain_marker definition field path ≡ false
-
 -- why a trait is refused whose attributes are read field by field: what the type says of it is; what a variant says of it is; what a
--- field says of it is; where it is an order, two fields of one case that take part have one rank; where it is `Clone`, what the type
--- says of `Copy` is, if that is listed; or a marker is not built yet
+-- field says of it is; where it is an order, two fields of one case that take part have one rank; or where it is `Clone`, what the
+-- type says of `Copy` is, if that is listed
 pub data IsFieldwiseCause (which : Trait) (definition : DeriveInput) : EduceError → Type 0 where
   by_type : {e : EduceError} → IsSaidCause which (type_row which definition) definition.attrs e → IsFieldwiseCause which definition e
   by_variant : {e : EduceError} (variant : Variant) → IsAmong variant (variants_of definition)
@@ -82,8 +66,6 @@ pub data IsFieldwiseCause (which : Trait) (definition : DeriveInput) : EduceErro
       → IsFieldwiseCause which definition e
   by_copy : {e : EduceError} → which ≡ trait.Clone → is_listed (listed definition) trait.Copy ≡ true
       → IsSaidCause trait.Copy (type_row trait.Copy definition) definition.attrs e → IsFieldwiseCause which definition e
-  by_marker : (field : Field) → IsAmong field (all_fields definition) → IsUnbuiltMarker which definition field
-      → IsFieldwiseCause which definition (placeless NotBuilt)
 
 -- why the fields of a case are refused: one of them is, or a rank
 abbrev pub OfCase : Trait → DeriveInput → List Field → Cause

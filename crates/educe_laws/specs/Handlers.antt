@@ -5,19 +5,18 @@ use Rattle.educe_syntax.specs.DeriveInput.{DeriveInput}
 use Rattle.educe_syntax.specs.Refusal.{IsDefinition}
 use Rattle.educe_bound_traits.specs.declared.traits.Trait.{Trait}
 use Rattle.educe_bound.specs.Predicates.{Key}
-use Rattle.educe_bound_traits.specs.Traits.{is_listed, same_trait}
+use Rattle.educe_bound_traits.specs.Traits.{variants, is_listed, same_trait}
 use Rattle.educe_attrs.specs.Causes.{NoCause}
 use Rattle.educe_attrs.specs.Phases.{OfHandler}
 use Rattle.educe_body_items.specs.declared.items.Item.{Item}
 use Rattle.educe_laws.specs.Blocks.{IsBlock, EachEvaluates}
-use Rattle.educe_laws.specs.Built.{built_traits, IsBuilt}
 use Rattle.educe_laws.specs.Handled.{handling}
 use Rattle.educe_laws.specs.Headers.{AreOf}
 use Rattle.educe_laws.specs.Listed.{listed}
 
 -- the traits that are handled before this one
 abbrev pub traits_before : Trait → List Trait
-traits_before which = before_first (same_trait which) built_traits
+traits_before which = before_first (same_trait which) variants
 
 -- those, and this one
 abbrev pub traits_through : Trait → List Trait
@@ -55,12 +54,11 @@ abbrev pub AreUncaused : DeriveInput → List Trait → Type 0
 AreUncaused definition done = AllByRecursion (λ which. is_listed (listed definition) which ≡ true → NoCause (OfHandler (handling definition) which)) done
 
 -- the definition is ready for the handler of this trait: it is the value of its tokens; it lists the traits, and this one among them;
--- it is of the form that is built; and the handlers before this one have no cause, and the context holds what they noted
+-- and the handlers before this one have no cause, and the context holds what they noted
 pub record IsReady (which : Trait) (definition : DeriveInput) (traits : List Trait) (noted : List Noted) : Type 0 where
   pub is_read : IsDefinition definition.tokens definition
   pub traits_are : traits ≡ listed definition
   pub lists : is_listed traits which ≡ true
-  pub built : IsBuilt definition
   pub uncaused : AreUncaused definition (traits_before which)
   pub noted_are : AreNoted definition (traits_before which) noted
 

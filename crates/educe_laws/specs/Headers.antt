@@ -13,7 +13,7 @@ use Rattle.educe_bound_traits.specs.declared.traits.Trait.TheVariants as trait
 use Rattle.educe_bound.specs.Predicates.{Key, keys_of, exceptions_of, asks_for, AreByBound, AreCopies, lifetimes_first}
 use Rattle.educe_bound_traits.specs.Traits.{is_listed}
 use Rattle.educe_attrs.specs.Packed.{IsPacked}
-use Rattle.educe_laws.specs.Built.{is_struct}
+use Rattle.educe_laws.specs.Cases.{is_struct}
 use Rattle.educe_laws.specs.Listed.{listed}
 use Rattle.educe_laws.specs.Rows.{reads_fields}
 use Rattle.educe_laws.specs.Settings.{bound_for}

@@ -27,23 +27,22 @@ use Rattle.educe_laws.specs.Discriminants.{HaveNumbers}
 use Rattle.educe_laws.specs.Handled.{handling}
 use Rattle.educe_laws.specs.Handlers.{Noted, AreNoted, inherited_from, traits_before}
 use Rattle.educe_laws.specs.Headers.{AreInherited, prerequisites}
-use Rattle.educe_laws.specs.Built.{IsBuilt}
 use Rattle.educe_laws.specs.Listed.{listed}
 use Rattle.educe_laws.specs.Rows.{is_fieldwise, field_row}
 use Rattle.educe_laws.specs.Said.{AreSaidOf}
 use Rattle.educe_laws.specs.Settings.{settings_of}
 
--- What holds of every trait that is built: its settings, what its impl inherits, and its bounds.
+-- What holds of every trait: its settings, what its impl inherits, and its bounds.
 pub record TraitLaws : Type 0 where
   -- where the handler of a listed trait has no cause, the settings of the trait are what the attributes say
-  pub said : (which : Trait) (definition : DeriveInput) → IsBuilt definition → is_listed (listed definition) which ≡ true → NoCause (OfHandler (handling definition) which)
+  pub said : (which : Trait) (definition : DeriveInput) → is_listed (listed definition) which ≡ true → NoCause (OfHandler (handling definition) which)
       → AreSaidOf which definition
   -- and no other settings of fields are, where the attributes are read field by field
   pub only : (which : Trait) (definition : DeriveInput) → IsTrue (is_fieldwise which) → NoCause (OfHandler (handling definition) which) → (settings : Field → FieldSettings)
       → AllByRecursion (λ field. IsFieldSaid which (field_row which) (listed definition) field.attrs (settings field)) (all_fields definition)
       → AllByRecursion (λ field. settings field ≡ settings_of which definition field) (all_fields definition)
   -- what the context notes of a trait's prerequisites is what its impl inherits
-  pub inherits : (which : Trait) (definition : DeriveInput) (noted : List Noted) → IsBuilt definition → AreNoted definition (traits_before which) noted
+  pub inherits : (which : Trait) (definition : DeriveInput) (noted : List Noted) → AreNoted definition (traits_before which) noted
       → AreInherited definition (prerequisites which) (inherited_from noted (prerequisites which))
   -- and where the bound of a trait is the automatic one, the own predicates of its impl suffice, and none can be dropped
   pub bounded : (definition : DeriveInput) (items : List Item) → IsDefinition definition.tokens definition → OneEach definition items

@@ -32,8 +32,7 @@ pub mod ShownBodies
 pub mod Checks
 pub mod Markers
 pub mod Blocks
--- The form of definitions that is built so far, and why a trait is refused.
-pub mod Built
+-- Why a trait is refused.
 pub mod Handled
 -- What a handler is asked for, and what it adds.
 pub mod Handlers

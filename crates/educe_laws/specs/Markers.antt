@@ -1,14 +1,14 @@
 -- Markers: functions that are never called and call the methods of fields, so that rustc counts these as used and checks their types.
-use Rattle.std.specs.Prelude.{◌≡◌, ℕ, Bool, ◌&&◌, List, Option, Some, None}
+use Rattle.std.specs.Prelude.{◌≡◌, ℕ, List, Option, Some, None}
 use Rattle.std.specs.List.{AllZip, filter_map}
 use Rattle.educe_tokens.specs.WrittenLexemes.{written_lexemes}
 use Rattle.educe_syntax.specs.DeriveInput.{DeriveInput}
 use Rattle.educe_syntax.specs.ExprPath.{ExprPath}
-use Rattle.educe_syntax.specs.Field.{Field}
+use Rattle.educe_syntax.specs.Expressions.{expr_path}
 use Rattle.educe_syntax.specs.Generics.{Generics}
 use Rattle.educe_syntax.specs.Steps.{Tokens}
 use Rattle.educe_syntax.specs.Ty.{Ty}
-use Rattle.educe_syntax_self.specs.Selves.{replaced, has_plain_self, have_plain_self}
+use Rattle.educe_syntax_self.specs.Splicing.{replaced_in}
 use Rattle.educe_syntax_self.specs.Visits.{AreReplaced}
 use Rattle.educe_attrs.specs.Lints.{lints}
 use Rattle.educe_bound_traits.specs.declared.traits.Trait.{Trait}
@@ -31,14 +31,8 @@ marked_by (by_order path) ty = Some (record { ty = ty; method = path })
 abbrev pub marked_fields : List Kept → List Marked
 marked_fields kept = filter_map (λ (k : Kept). marked_by k.how k.field.ty) kept
 
--- each `Self` in the generics of the definition, the type of the field and this method is plain, so that the head of the definition may
--- stand in its place
-abbrev pub has_plain_marker : DeriveInput → Field → ExprPath → Bool
-has_plain_marker definition field path =
-    have_plain_self definition.generics && (has_plain_self field.ty.written.tokens && has_plain_self path.written.tokens)
-
 -- A marker for a field: it has the lints of the type, the generics of the impl, the type of the field and its method, each with the
--- head of the definition in place of each `Self`, and these names.
+-- head of the definition in place of each `Self` that a path begins with, and these names.
 pub record IsMarker (which : Trait) (definition : DeriveInput) (generics : Generics) (names : List (List ℕ)) (marked : Marked) (marker : MarkerItem) : Type 0 where
   pub which_is : marker.which ≡ which
   pub attributes_are : written_lexemes marker.attributes ≡ lints definition.attrs
@@ -46,7 +40,7 @@ pub record IsMarker (which : Trait) (definition : DeriveInput) (generics : Gener
   pub head_is : IsHeadFor definition head
   pub generics_are : AreReplaced head generics marker.generics
   pub ty_is : IsReplacedType head marked.ty marker.ty
-  pub method_is : marker.method.written.tokens ≡ replaced head marked.method.written.tokens
+  pub method_is : marker.method.written.tokens ≡ replaced_in expr_path head marked.method.written.tokens
   pub names_are : texts_of marker.names ≡ names
 
 -- one marker for each of these fields that has a method, in their order

@@ -4,11 +4,9 @@ use Rattle.std.specs.Prelude.{ℕ, ◌≡◌, Bool, true, false, List, [], ◌�
 use Rattle.std.specs.List.{AllByRecursion, flat_map}
 use Rattle.educe_tokens.specs.declared.error.EduceError.{EduceError}
 use Rattle.educe_tokens.specs.declared.error.Kind.{Kind}
-use Rattle.educe_tokens.specs.declared.error.Kind.TheVariants.{UnitStructNeedName, UnitVariantNeedName, UnitEnumNeedName, NotBuilt}
+use Rattle.educe_tokens.specs.declared.error.Kind.TheVariants.{UnitStructNeedName, UnitVariantNeedName, UnitEnumNeedName}
 use Rattle.educe_tokens.specs.declared.span.Span.{Span}
-use Rattle.educe_tokens.specs.Refusals.{placeless}
 use Rattle.educe_syntax.specs.DeriveInput.{DeriveInput}
-use Rattle.educe_syntax.specs.ExprPath.{ExprPath}
 use Rattle.educe_syntax.specs.Few.{variants_of}
 use Rattle.educe_syntax.specs.Field.{Field}
 use Rattle.educe_syntax.specs.FieldShape.{FieldShape}
@@ -36,7 +34,6 @@ use Rattle.educe_body_values.specs.declared.shape.ShapeForm.TheVariants as form
 use Rattle.educe_laws.specs.Arms.{is_unit}
 use Rattle.educe_laws.specs.Cases.{fields_in}
 use Rattle.educe_laws.specs.Listed.{listed}
-use Rattle.educe_laws.specs.Markers.{has_plain_marker}
 use Rattle.educe_laws.specs.Rows.{struct_names, variant_names, own_type_name, type_row}
 use Rattle.educe_laws.specs.Settings.{Kept, kept_by, keeps, type_settings, AreSettings, AreFieldSettings}
 
@@ -238,22 +235,13 @@ pub record IsNamelessEnum (definition : DeriveInput) : Type 0 where
   pub is : definition.shape ≡ Enum []
   pub nameless : type_text definition own ≡ []
 
--- the field is shown and has a method, and its marker is not built
-pub record IsUnbuiltEntry (definition : DeriveInput) (named : Bool) (field : Field) : Type 0 where
-  pub all : FieldSettings
-  pub settings : AreEntrySettings definition named field all
-  pub shown : keeps all ≡ true
-  pub path : ExprPath
-  pub method : all.values.method ≡ Some path
-  pub unplain : has_plain_marker definition field path ≡ false
-
 -- the error for a name that is needed
 abbrev pub name_needed : Kind → Span → EduceError
 name_needed kind place = record { kind = kind; span = place; words = [] }
 
 -- why `Debug` is refused: what the type says of it is; what a variant or a field says of it is, by the forms that are allowed there;
--- neither a name nor a field is shown of a struct, or of a variant that has brackets; no name is shown of a unit variant, or of an
--- enum without variants; or a marker is not built yet
+-- neither a name nor a field is shown of a struct, or of a variant that has brackets; or no name is shown of a unit variant, or of an
+-- enum without variants
 pub data IsShownCause (definition : DeriveInput) : EduceError → Type 0 where
   by_type : {e : EduceError} → IsSaidCause Debug (type_row Debug definition) definition.attrs e → IsShownCause definition e
   by_variant : {e : EduceError} (variant : Variant) → IsAmong variant (variants_of definition) → IsSaidCause Debug (naming_row variant) variant.attrs e
@@ -266,5 +254,3 @@ pub data IsShownCause (definition : DeriveInput) : EduceError → Type 0 where
   by_unit_variant : (variant : Variant) (case : ShownCase) → IsVariantCase definition variant case → case.unit ≡ true → case.name ≡ []
       → IsShownCause definition (name_needed UnitVariantNeedName variant.span)
   by_empty_enum : IsNamelessEnum definition → IsShownCause definition (name_needed UnitEnumNeedName definition.ident.span)
-  by_marker : (case : ShownCase) (field : Field) → IsCase definition case → IsAmong field case.fields → IsUnbuiltEntry definition case.named field
-      → IsShownCause definition (placeless NotBuilt)

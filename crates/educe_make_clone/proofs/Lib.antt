@@ -2,5 +2,4 @@ pub mod KeptLists
 pub mod Matched
 pub mod Bitwise
 pub mod Assigning
-pub mod CloneMarked
 pub mod Variants

@@ -40,7 +40,7 @@ use educe_handlers::{
     Header, Ranked, SeenTypes, Task, TraitHandlerContext, body_of, bound_of_type, function,
     header_of, impl_item, is_copied, no_types, settings_of_cases,
 };
-use educe_make_markers::{check_markers, has_custom_method, method_markers};
+use educe_make_markers::{has_custom_method, method_markers};
 use educe_syntax::{DeriveInput, Duplicate, Generics, Predicates};
 use educe_tokens::{Seq, Word};
 use std::alloc::{AllocError, Global};
@@ -148,8 +148,8 @@ fn clone_items(
 }
 
 /// The block of `Clone`, and the predicates that its impl adds. It is refused exactly where an `educe`
-/// list, an attribute of `Clone`, or where it is listed one of `Copy` at the type, is wrong, a marker is
-/// not built, or memory fails.
+/// list, an attribute of `Clone`, or where it is listed one of `Copy` at the type, is wrong, or memory
+/// fails.
 fn block(
     alloc: Global,
     ast: &DeriveInput,
@@ -174,7 +174,6 @@ fn block(
     let methods = has_custom_method(settings);
     let copies = can_use_bitwise_copy(alloc, task, methods)?;
     let kept = all_kept(alloc, task, settings)?;
-    check_markers(alloc, ast, &kept)?;
     let names = CloneNames::choose(alloc, ast)?;
     let copied = is_copied(alloc, ast)?;
     let mut types = no_types(alloc);

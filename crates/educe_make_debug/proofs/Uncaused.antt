@@ -1,6 +1,6 @@
 -- Why the handler of `Debug` does not refuse a definition.
-use Rattle.std.proofs.Common.{◌≡◌, ◌∙◌, ℕ, Bool, true, false, not, ◌&&◌, ◌||◌, List, [], ◌∷◌, map, inl, inr, refl, ap, sym, subst}
-use Rattle.std.specs.List.{AllByRecursion, list_any, list_all}
+use Rattle.std.proofs.Common.{◌≡◌, ◌∙◌, Bool, true, false, ◌||◌, List, [], ◌∷◌, map, inl, inr, refl, ap, sym, subst}
+use Rattle.std.specs.List.{AllByRecursion, list_any}
 use Rattle.std.proofs.lemmas.Bool.{true≢false}
 use Rattle.educe_tokens.specs.declared.error.EduceError.{EduceError}
 use Rattle.educe_syntax.specs.DeriveInput.{DeriveInput}
@@ -11,9 +11,7 @@ use Rattle.educe_syntax.specs.Shape.TheVariants.{Struct, Enum}
 use Rattle.educe_syntax.specs.Variant.{Variant}
 use Rattle.educe_bound_traits.specs.declared.traits.Trait.TheVariants.{Debug}
 use Rattle.educe_bound_traits.specs.Traits.{is_listed}
-use Rattle.educe_attrs.specs.Among.{IsAmong}
 use Rattle.educe_attrs.specs.Causes.{NoCause}
-use Rattle.educe_attrs.specs.FieldSettings.{FieldSettings}
 use Rattle.educe_attrs.specs.Laws.{lawful_settings}
 use Rattle.educe_attrs.specs.Phases.{OfHandler}
 use Rattle.educe_attrs.specs.Places.{OfPlace, OfField}
@@ -26,18 +24,12 @@ use Rattle.educe_laws.specs.Handled.{handling}
 use Rattle.educe_laws.specs.Listed.{listed}
 use Rattle.educe_laws.specs.Rows.{type_row}
 use Rattle.educe_laws.specs.Settings.{keeps, type_settings}
-use Rattle.educe_laws.specs.Shown.{naming_row, entry_row, naming_values, entry_settings, type_text, ShownCase, struct_case, variant_case, struct_shown, variant_shown, cases_for, shown_cases, all_shown, IsCaseRead, AreTypeSettings, AreNamingSettings, IsStructCase, IsVariantCase, IsCase, IsIgnored, IsNameless, IsUnbuiltEntry, IsShownCause}
+use Rattle.educe_laws.specs.Shown.{naming_row, entry_row, naming_values, entry_settings, type_text, ShownCase, struct_case, variant_case, struct_shown, variant_shown, cases_for, shown_cases, IsCaseRead, AreTypeSettings, AreNamingSettings, IsStructCase, IsVariantCase, IsCase, IsIgnored, IsNameless, IsShownCause}
 use Rattle.educe_laws.proofs.Elements.{In, In-all, In-mapped}
 use Rattle.educe_laws.proofs.Facts.{unit_has_none}
 use Rattle.educe_make_debug.specs.Cases.{IsNamingRead, AreRead}
 use Rattle.educe_make_debug.specs.Texts.{is_shown}
 use Rattle.educe_make_debug.proofs.Enough.{shows_of, HasEnough}
-use Rattle.educe_make_markers.specs.MarkerChecks.{marks}
-use Rattle.educe_make_markers.proofs.Unbuilt.{IsUnbuiltField, none_unbuilt}
-
--- what the attributes of a field of a case say
-abbrev pub said_in : DeriveInput → ShownCase → Field → FieldSettings
-said_in d case = entry_settings case.named d
 
 -- ---- settings are what they say, and nothing else
 
@@ -84,8 +76,7 @@ none_kept d named (f ∷ fs) each =
 
 -- ---- why no cause stands
 
-module _ (d : DeriveInput) (lists : is_listed (listed d) Debug ≡ true) (own_read : NoCause (OfPlace Debug (type_row Debug d) (listed d) d.attrs)) (read : AreRead d) (enough : HasEnough d)
-    (built : list_all (marks d) (all_shown d) ≡ true) where
+module _ (d : DeriveInput) (lists : is_listed (listed d) Debug ≡ true) (own_read : NoCause (OfPlace Debug (type_row Debug d) (listed d) d.attrs)) (read : AreRead d) (enough : HasEnough d) where
   -- no field of a case has a cause
   field_clear : (case : ShownCase) → In case (shown_cases d) → (f : Field) → In f case.fields → NoCause (OfField Debug (entry_row case.named) (listed d) f.attrs)
   field_clear case found f inner =
@@ -114,17 +105,6 @@ module _ (d : DeriveInput) (lists : is_listed (listed d) Debug ≡ true) (own_re
       let none : case.fields ≡ [] = ap (λ (c : ShownCase). c.fields) is.case_is ∙ unit_has_none v is_one in
       some_shown case (variant_among d v case is) nameless (ap (λ fields. list_any keeps (map (entry_settings case.named d) fields)) none)
 
-  marker_clear : (case : ShownCase) → In case (shown_cases d) → (f : Field) → In f case.fields → IsUnbuiltEntry d case.named f → ⊥
-  marker_clear case found f inner unbuilt =
-      let row = entry_row case.named in
-      let same : unbuilt.all ≡ entry_settings case.named d f = lawful_settings.field_only Debug row (listed d) f.attrs unbuilt.settings.read unbuilt.all unbuilt.settings.said in
-      none_unbuilt d (said_in d) (λ (c : ShownCase). c.fields) (shown_cases d) built case found f inner (record {
-        kept = sym (ap keeps same) ∙ unbuilt.shown;
-        path = unbuilt.path;
-        method = sym (ap (λ (s : FieldSettings). s.values.method) same) ∙ unbuilt.method;
-        unplain = unbuilt.unplain;
-      })
-
   own_clear : (e : EduceError) → IsShownCause d e → ⊥
   own_clear e (IsShownCause.by_type said) = own_read.none_stands e (inr (lists, said))
   own_clear e (IsShownCause.by_variant v among said) = (naming_clear v (among_in v (variants_of d) among)).none_stands e (inr (lists, said))
@@ -135,9 +115,8 @@ module _ (d : DeriveInput) (lists : is_listed (listed d) Debug ≡ true) (own_re
   own_clear _ (IsShownCause.by_empty_enum none) =
       let name : type_text d (type_settings Debug d) ≡ [] = ap (type_text d) (sym (own_only d none.own none.settings)) ∙ none.nameless in
       true≢false (sym (enough.name (ap (cases_for d) none.is)) ∙ ap is_shown name)
-  own_clear _ (IsShownCause.by_marker case f is among unbuilt) = marker_clear case (case_among d case is) f (among_in f case.fields among) unbuilt
 
-  -- where the attributes have no cause, something is shown of each case, and the markers are built, the handler has none
+  -- where the attributes have no cause, and something is shown of each case, the handler has none
   pub debug_uncaused : NoCause (OfHandler (handling d) Debug)
   debug_uncaused = record {
     none_stands = λ e cause. elim cause [

@@ -35,7 +35,7 @@ use educe_handlers::{
     Header, Ranked, Task, TraitHandlerContext, bound_said, function, header_of, impl_item,
     is_copied, no_types, see_each, type_values,
 };
-use educe_make_markers::{MarkerNames, check_markers, method_markers};
+use educe_make_markers::{MarkerNames, method_markers};
 use educe_syntax::{DeriveInput, Duplicate, Generics, Predicates};
 use educe_tokens::Seq;
 use std::alloc::{AllocError, Global};
@@ -100,7 +100,7 @@ fn debug_items(
 }
 
 /// The block of `Debug`, and the predicates that its impl adds. It is refused exactly where an `educe`
-/// list or an attribute of `Debug` is wrong, a name is needed, a marker is not built, or memory fails.
+/// list or an attribute of `Debug` is wrong, a name is needed, or memory fails.
 fn block(
     alloc: Global,
     ast: &DeriveInput,
@@ -121,7 +121,6 @@ fn block(
     };
     let (shown, bound) = read(alloc, task)?;
     let kept = all_shown(alloc, shown.cases.as_slice())?;
-    check_markers(alloc, ast, &kept)?;
     let names = DebugNames::choose(alloc, ast)?;
     let copied = is_copied(alloc, ast)?;
     let body = body(alloc, &names, &shown, copied)?;

@@ -1,5 +1,5 @@
 -- Fields that take part, and what is said of them.
-use Rattle.std.proofs.Common.{◌≡◌, ◌∙◌, ℕ, ◌+◌, Bool, true, false, List, [], ◌∷◌, ◌++◌, map, inl, inr, refl, ap, sym, subst}
+use Rattle.std.proofs.Common.{◌≡◌, ℕ, ◌+◌, Bool, true, false, List, [], ◌∷◌, ◌++◌, map, inl, inr, refl, ap, sym, subst}
 use Rattle.std.specs.Prelude.{if◌then◌else◌}
 use Rattle.std.specs.List.{flat_map}
 use Rattle.educe_syntax.specs.Field.{Field}
@@ -46,33 +46,6 @@ module _ (said : Field → FieldSettings) where
   from_kept place [] k found = absurd found
   from_kept place (f ∷ fs) k found = by_keeps place f fs (kept_by (place + 1) fs (map said fs)) k (keeps (said f)) refl (from_kept (place + 1) fs k) found
 
-  behind_kept : (first : Kept) (rest : List Kept) (k : Kept) (b : Bool) → In k rest → In k (if b then first ∷ rest else rest)
-  behind_kept first rest k true found = inr found
-  behind_kept first rest k false found = found
-
-  -- the field takes part so
-  pub record IsKeptIn (kept : List Kept) (f : Field) : Type 0 where
-    pub one : Kept
-    pub found : In one kept
-    pub field_is : one.field ≡ f
-    pub how_is : one.how ≡ how_by (said f)
-
-  to_kept : (place : ℕ) (fields : List Field) (f : Field) → In f fields → keeps (said f) ≡ true → IsKeptIn (kept_by place fields (map said fields)) f
-  to_kept place [] f found is = absurd found
-  to_kept place (g ∷ fs) f (inl here) is =
-      let first = kept_with (said g) place g in
-      let rest = kept_by (place + 1) fs (map said fs) in
-      let keeps_it : keeps (said g) ≡ true = ap (λ f. keeps (said f)) here ∙ is in
-      record { one = first; found = subst (λ b. In first (if b then first ∷ rest else rest)) (sym keeps_it) (inl refl); field_is = here; how_is = ap (λ f. how_by (said f)) here }
-  to_kept place (g ∷ fs) f (inr later) is =
-      let there = to_kept (place + 1) fs f later is in
-      record {
-        one = there.one;
-        found = behind_kept (kept_with (said g) place g) (kept_by (place + 1) fs (map said fs)) there.one (keeps (said g)) there.found;
-        field_is = there.field_is;
-        how_is = there.how_is;
-      }
-
 -- ---- the fields of cases
 
 module _ {X : Type 0} (said : X → Field → FieldSettings) (fields_of : X → List Field) where
@@ -83,9 +56,3 @@ module _ {X : Type 0} (said : X → Field → FieldSettings) (fields_of : X → 
   -- what takes part is a field of one of these cases
   pub from_cases : (cases : List X) (k : Kept) → In k (flat_map kept_in cases) → (x : X) × In x cases × IsMadeOf (said x) (fields_of x) k
   from_cases cases k found = let (x, outer, inner) = in_one_of kept_in cases k found in (x, outer, from_kept (said x) 0 (fields_of x) k inner)
-
-  -- and a field of them that is kept takes part
-  pub to_cases : (cases : List X) (x : X) → In x cases → (f : Field) → In f (fields_of x) → keeps (said x f) ≡ true → IsKeptIn (said x) (flat_map kept_in cases) f
-  to_cases cases x outer f inner is =
-      let own = to_kept (said x) 0 (fields_of x) f inner is in
-      record { one = own.one; found = in_flat kept_in cases x own.one outer own.found; field_is = own.field_is; how_is = own.how_is }

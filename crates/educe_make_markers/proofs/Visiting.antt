@@ -1,7 +1,6 @@
 -- What stands in the markers of fields may be visited to replace `Self`.
-use Rattle.std.proofs.Common.{◌≡◌, ◌∙◌, Bool, true, false, ◌&&◌, List, [], ◌∷◌, Option, Some, None, inl, inr, refl, ap, sym, subst}
-use Rattle.std.specs.List.{AllByRecursion, list_all, flat_map}
-use Rattle.std.proofs.lemmas.Bool.{and_parts}
+use Rattle.std.proofs.Common.{◌≡◌, ◌∙◌, Bool, true, false, List, [], ◌∷◌, Option, Some, None, inl, inr, refl, ap, sym, subst}
+use Rattle.std.specs.List.{AllByRecursion, flat_map}
 use Rattle.educe_syntax.specs.DeriveInput.{DeriveInput}
 use Rattle.educe_syntax.specs.ExprPath.{ExprPath}
 use Rattle.educe_syntax.specs.Few.{shape_fields, all_fields}
@@ -10,7 +9,6 @@ use Rattle.educe_syntax.specs.Refusal.{IsDefinition}
 use Rattle.educe_syntax.specs.Shape.{Shape}
 use Rattle.educe_syntax.specs.Shape.TheVariants.{Struct, Enum}
 use Rattle.educe_syntax.specs.Variant.{Variant}
-use Rattle.educe_syntax_self.specs.Selves.{has_plain_self, have_plain_self}
 use Rattle.educe_syntax_self.specs.Visits.{MayVisitType, MayVisitPath, IsOwnField, AreOwnFields}
 use Rattle.educe_syntax_self.proofs.Lawful.{lawful_definitions}
 use Rattle.educe_attrs.specs.Causes.{NoCause}
@@ -20,17 +18,14 @@ use Rattle.educe_attrs.specs.Laws.{lawful_settings}
 use Rattle.educe_attrs.specs.Places.{OfField}
 use Rattle.educe_attrs.specs.Row.{Row}
 use Rattle.educe_bound_traits.specs.declared.traits.Trait.{Trait}
-use Rattle.educe_handlers.proofs.Refused.{in_one_of}
 use Rattle.educe_laws.specs.Cases.{fields_in, shape_cases}
 use Rattle.educe_laws.specs.Listed.{listed}
-use Rattle.educe_laws.specs.Markers.{has_plain_marker, marked_by}
+use Rattle.educe_laws.specs.Markers.{marked_by}
 use Rattle.educe_laws.specs.Settings.{Kept, how_with}
-use Rattle.educe_laws.proofs.Elements.{In, In-all, In-mapped, In-image, each_in, each_joined, each_weaker}
-use Rattle.educe_make_markers.specs.MarkerChecks.{marks_by, marks}
+use Rattle.educe_laws.proofs.Elements.{In, In-all, In-image, each_in, each_joined, each_weaker}
 use Rattle.educe_make_markers.specs.Marking.{MayVisitMarked, MayMark}
 use Rattle.educe_make_markers.proofs.KeptFields.{in_flat, IsMadeOf, kept_in, from_cases}
 use Rattle.educe_make_markers.proofs.OwnMethods.{method_own}
-use Rattle.educe_make_markers.proofs.Unbuilt.{in_passes}
 
 -- ---- fields that are their own
 
@@ -41,11 +36,6 @@ in_case (Struct shape) fields f (inr later) inner = absurd later
 in_case (Enum variants) fields f found inner =
     let (v, outer, is) = In-image fields_in variants fields found in
     in_flat fields_in variants v f outer (subst (In f) (sym is) inner)
-
--- and a field of all is one of a case
-pub case_in : (shape : Shape) (f : Field) → In f (shape_fields shape) → (fields : List Field) × In fields (shape_cases shape) × In f fields
-case_in (Struct shape) f found = (shape.fields, inl refl, found)
-case_in (Enum variants) f found = let (v, outer, inner) = in_one_of fields_in variants f found in (fields_in v, In-mapped fields_in variants v outer, inner)
 
 variants_own : (variants : List Variant) → AllByRecursion (λ (v : Variant). AllByRecursion IsOwnField v.fields.fields) variants → AllByRecursion IsOwnField (flat_map fields_in variants)
 variants_own [] own = tt
@@ -67,39 +57,35 @@ module _ (which : Trait) (row : Row) (d : DeriveInput) (f : Field) (own : IsOwnF
   said = settings_at which row (listed d) f
 
   -- the type of the field and its method may be visited
-  both : (path : ExprPath) → said.values.method ≡ Some path → has_plain_marker d f path ≡ true → MayVisitType f.ty × MayVisitPath path
-  both path method built =
-      let plain = and_parts (has_plain_self f.ty.written.tokens) (has_plain_self path.written.tokens)
-      (and_parts (have_plain_self d.generics) (has_plain_self f.ty.written.tokens && has_plain_self path.written.tokens) built).1 in
-      let own_method = method_own which row (listed d) f.attrs said path (lawful_settings.field_said which row (listed d) f.attrs none) method in
-      (record { reads = own; plain = plain.0 }, record { reads = own_method; plain = plain.1 })
+  both : (path : ExprPath) → said.values.method ≡ Some path → MayVisitType f.ty × MayVisitPath path
+  both path method =
+      (record { reads = own }, record { reads = method_own which row (listed d) f.attrs said path (lawful_settings.field_said which row (listed d) f.attrs none) method })
 
-  -- so it is with what stands in the marker, if there is one
-  with_method : (ordering : Bool) (method : Option ExprPath) → said.values.method ≡ method → marks_by d f (how_with ordering method) ≡ true → MayVisitMarked (marked_by (how_with ordering method) f.ty)
-  with_method ordering None is built = tt
-  with_method false (Some path) is built = both path is built
-  with_method true (Some path) is built = both path is built
+  -- so may what stands in the marker, if there is one
+  with_method : (ordering : Bool) (method : Option ExprPath) → said.values.method ≡ method → MayVisitMarked (marked_by (how_with ordering method) f.ty)
+  with_method ordering None is = tt
+  with_method false (Some path) is = both path is
+  with_method true (Some path) is = both path is
 
-  made_visit : (fields : List Field) (k : Kept) (made : IsMadeOf (settings_at which row (listed d)) fields k) → made.field ≡ f → marks d k ≡ true → MayMark k
-  made_visit fields k made is built =
+  made_visit : (fields : List Field) (k : Kept) (made : IsMadeOf (settings_at which row (listed d)) fields k) → made.field ≡ f → MayMark k
+  made_visit fields k made is =
       let field_is : k.field ≡ f = made.field_is ∙ is in
       let how_is : k.how ≡ how_with said.method_returns_ordering said.values.method =
       made.how_is ∙ ap (λ (own : Field). how_with (settings_at which row (listed d) own).method_returns_ordering (settings_at which row (listed d) own).values.method) is in
-      let here : marks_by d f (how_with said.method_returns_ordering said.values.method) ≡ true = sym (λ i. marks_by d (field_is i) (how_is i)) ∙ built in
       let both_are : marked_by k.how k.field.ty ≡ marked_by (how_with said.method_returns_ordering said.values.method) f.ty = λ i. marked_by (how_is i) (field_is i).ty in
-      subst MayVisitMarked (sym both_are) (with_method said.method_returns_ordering said.values.method refl here)
+      subst MayVisitMarked (sym both_are) (with_method said.method_returns_ordering said.values.method refl)
 
 module _ (which : Trait) (d : DeriveInput) {X : Type 0} (row_of : X → Row) (fields_of : X → List Field) (cases : List X) where
   -- the fields of these cases that take part
   abbrev pub kept_of_cases : List Kept
   kept_of_cases = flat_map (kept_in (λ x. settings_at which (row_of x) (listed d)) fields_of) cases
 
-  -- where their markers are built, what stands in them may be visited
+  -- what stands in their markers may be visited
   pub markers_visit : ((x : X) → In x cases → (f : Field) → In f (fields_of x) → IsOwnField f × NoCause (OfField which (row_of x) (listed d) f.attrs))
-      → list_all (marks d) kept_of_cases ≡ true → AllByRecursion MayMark kept_of_cases
-  markers_visit each built =
+      → AllByRecursion MayMark kept_of_cases
+  markers_visit each =
       each_weaker (λ k. In k kept_of_cases) MayMark
       (λ k found.
       let (x, outer, made) = from_cases (λ x. settings_at which (row_of x) (listed d)) fields_of cases k found in
       let own = each x outer made.field made.found in
-      made_visit which (row_of x) d made.field own.0 own.1 (fields_of x) k made refl (in_passes (marks d) kept_of_cases k built found)) kept_of_cases (each_in kept_of_cases)
+      made_visit which (row_of x) d made.field own.0 own.1 (fields_of x) k made refl) kept_of_cases (each_in kept_of_cases)

@@ -1,5 +1,4 @@
 -- Which fields have methods.
 pub mod Methods
 -- The markers of fields with methods.
-pub mod MarkerChecks
 pub mod Marking

@@ -38,7 +38,7 @@ pub fn parse_ident(alloc: Global, tokens: &TokenSlice) -> Result<Ident, EduceErr
     // One token is never too deep.
     ensures shallow { IfErr result (λ e. e.kind ≢ Kind.TooDeep) }
 {
-    whole(alloc, tokens, |cursor| name(alloc, cursor))
+    whole(alloc, tokens, |input| name(alloc, input))
 }
 
 /// The path of an expression that the tokens are (Rust Reference, Path expressions).
@@ -49,7 +49,7 @@ pub fn parse_path(alloc: Global, tokens: &TokenSlice) -> Result<ExprPath, EduceE
     ensures err { IfErr result (IsParseCause expressions.expr_path tokens.now) }
     ensures reported { IfErr result (IsReported tokens.now) }
 {
-    whole(alloc, tokens, |cursor| expr_path(alloc, cursor))
+    whole(alloc, tokens, |input| expr_path(alloc, input))
 }
 
 /// The expression that the tokens are (Rust Reference, Expressions).
@@ -60,7 +60,7 @@ pub fn parse_expr(alloc: Global, tokens: &TokenSlice) -> Result<Expr, EduceError
     ensures err { IfErr result (IsParseCause expressions.expression tokens.now) }
     ensures reported { IfErr result (IsReported tokens.now) }
 {
-    whole(alloc, tokens, |cursor| expression(alloc, cursor))
+    whole(alloc, tokens, |input| expression(alloc, input))
 }
 
 /// The predicates of a where clause that the tokens are (Rust Reference, Where clauses).
@@ -71,7 +71,7 @@ pub fn parse_predicates(alloc: Global, tokens: &TokenSlice) -> Result<Predicates
     ensures err { IfErr result (IsParseCause generics.predicates tokens.now) }
     ensures reported { IfErr result (IsReported tokens.now) }
 {
-    whole(alloc, tokens, |cursor| predicates(alloc, cursor))
+    whole(alloc, tokens, |input| predicates(alloc, input))
 }
 
 /// The metas of an attribute that the tokens are (Rust Reference, Attributes).
@@ -83,7 +83,7 @@ pub fn parse_metas(alloc: Global, tokens: &TokenSlice) -> Result<Metas, EduceErr
     ensures err { IfErr result (IsParseCause attributes.metas tokens.now) }
     ensures reported { IfErr result (IsReported tokens.now) }
 {
-    whole(alloc, tokens, |cursor| metas(alloc, cursor))
+    whole(alloc, tokens, |input| metas(alloc, input))
 }
 
 /// The definition that the tokens are, whatever names it gives twice.
@@ -91,7 +91,7 @@ fn read_definition(alloc: Global, tokens: &TokenSlice) -> Result<DeriveInput, Ed
     ensures found { IfOk result (λ x. IsWhole definitions.definition tokens.now x) }
     ensures err { IfErr result (IsParseCause definitions.definition tokens.now) }
 {
-    whole(alloc, tokens, |cursor| definition(alloc, cursor))
+    whole(alloc, tokens, |input| definition(alloc, input))
 }
 
 /// The error of a definition in which a name is given twice; none where the names are apart.

@@ -4,12 +4,12 @@ ghost use Rattle.educe_grammar.specs.Definitions as definitions;
 ghost use Rattle.educe_grammar.specs.Expressions as spec;
 ghost use Rattle.educe_grammar.specs.Generics as generics;
 ghost use Rattle.educe_grammar.specs.Parsed.{depth_limit};
-ghost use Rattle.educe_grammar.specs.Reads.{read, readers};
+ghost use Rattle.educe_grammar.specs.NotedReads.{read, readers};
 ghost use Rattle.educe_grammar.specs.Rules.{types, plains, exprs};
 ghost use Rattle.educe_grammar.specs.Steps.{Gives};
 
 use crate::readers::Readers;
-use educe_grammar::{Cursor, ParseError, Parts, Typed};
+use educe_grammar::{ParseError, ParseStream, Parts, Typed};
 use educe_tokens::NESTING;
 use educe_tree::{DeriveInput, Expr, ExprPath, Metas, Predicates, Ty};
 use std::alloc::Global;
@@ -33,63 +33,63 @@ macro_rules! parts {
 
 /// A type (Rust Reference, Types).
 #[cycle(knot)]
-#[tactic(auto, using(educe_grammar::proofs::Unrolling::readers_unroll))]
-fn ty(alloc: Global, cursor: &mut Cursor<'_>, budget: u8) -> Result<Ty, ParseError>
-    ensures { Gives (readers budget types cursor.old) result cursor.new }
+#[tactic(auto, using(educe_grammar::proofs::NotedUnrolling::readers_unroll))]
+fn ty(alloc: Global, input: &mut ParseStream<'_>, budget: u8) -> Result<Ty, ParseError>
+    ensures { Gives (readers budget types input.old) result input.new }
 {
-    educe_parser_types::any_type(&parts!(alloc), cursor, budget)
+    educe_parser_types::any_type(&parts!(alloc), input, budget)
 }
 
 /// A type whose `dyn` has one bound (Rust Reference, Type expressions).
 #[cycle(knot)]
-#[tactic(auto, using(educe_grammar::proofs::Unrolling::readers_unroll))]
-fn plain(alloc: Global, cursor: &mut Cursor<'_>, budget: u8) -> Result<Typed, ParseError>
-    ensures { Gives (readers budget plains cursor.old) result cursor.new }
+#[tactic(auto, using(educe_grammar::proofs::NotedUnrolling::readers_unroll))]
+fn plain(alloc: Global, input: &mut ParseStream<'_>, budget: u8) -> Result<Typed, ParseError>
+    ensures { Gives (readers budget plains input.old) result input.new }
 {
-    educe_parser_types::plain_type(&parts!(alloc), cursor, budget)
+    educe_parser_types::plain_type(&parts!(alloc), input, budget)
 }
 
 /// An expression (Rust Reference, Expressions).
 #[cycle(knot)]
-#[tactic(auto, using(educe_grammar::proofs::Unrolling::readers_unroll))]
-fn expr(alloc: Global, cursor: &mut Cursor<'_>, budget: u8) -> Result<Expr, ParseError>
-    ensures { Gives (readers budget exprs cursor.old) result cursor.new }
+#[tactic(auto, using(educe_grammar::proofs::NotedUnrolling::readers_unroll))]
+fn expr(alloc: Global, input: &mut ParseStream<'_>, budget: u8) -> Result<Expr, ParseError>
+    ensures { Gives (readers budget exprs input.old) result input.new }
 {
-    educe_parser_expressions::expression(&parts!(alloc), cursor, budget)
+    educe_parser_expressions::expression(&parts!(alloc), input, budget)
 }
 
 /// The path of an expression, with the whole budget (Rust Reference, Path expressions).
-pub fn expr_path(alloc: Global, cursor: &mut Cursor<'_>) -> Result<ExprPath, ParseError>
-    ensures { Gives (read depth_limit spec.expr_path cursor.old) result cursor.new }
+pub fn expr_path(alloc: Global, input: &mut ParseStream<'_>) -> Result<ExprPath, ParseError>
+    ensures { Gives (read depth_limit spec.expr_path input.old) result input.new }
 {
-    educe_parser_expressions::expr_path(&parts!(alloc), cursor, DEPTH_LIMIT)
+    educe_parser_expressions::expr_path(&parts!(alloc), input, DEPTH_LIMIT)
 }
 
 /// An expression, with the whole budget (Rust Reference, Expressions).
-pub fn expression(alloc: Global, cursor: &mut Cursor<'_>) -> Result<Expr, ParseError>
-    ensures { Gives (read depth_limit spec.expression cursor.old) result cursor.new }
+pub fn expression(alloc: Global, input: &mut ParseStream<'_>) -> Result<Expr, ParseError>
+    ensures { Gives (read depth_limit spec.expression input.old) result input.new }
 {
-    educe_parser_expressions::expression(&parts!(alloc), cursor, DEPTH_LIMIT)
+    educe_parser_expressions::expression(&parts!(alloc), input, DEPTH_LIMIT)
 }
 
 /// The predicates of a where clause, with the whole budget (Rust Reference, Where clauses).
-pub fn predicates(alloc: Global, cursor: &mut Cursor<'_>) -> Result<Predicates, ParseError>
-    ensures { Gives (read depth_limit generics.predicates cursor.old) result cursor.new }
+pub fn predicates(alloc: Global, input: &mut ParseStream<'_>) -> Result<Predicates, ParseError>
+    ensures { Gives (read depth_limit generics.predicates input.old) result input.new }
 {
-    educe_parser_definitions::predicates(&parts!(alloc), cursor, DEPTH_LIMIT)
+    educe_parser_definitions::predicates(&parts!(alloc), input, DEPTH_LIMIT)
 }
 
 /// The items of a list in an attribute, with the whole budget (Rust Reference, Meta item attribute
 /// syntax).
-pub fn metas(alloc: Global, cursor: &mut Cursor<'_>) -> Result<Metas, ParseError>
-    ensures { Gives (read depth_limit attributes.metas cursor.old) result cursor.new }
+pub fn metas(alloc: Global, input: &mut ParseStream<'_>) -> Result<Metas, ParseError>
+    ensures { Gives (read depth_limit attributes.metas input.old) result input.new }
 {
-    educe_parser_definitions::metas(&parts!(alloc), cursor, DEPTH_LIMIT)
+    educe_parser_definitions::metas(&parts!(alloc), input, DEPTH_LIMIT)
 }
 
 /// A definition, with the whole budget (Rust Reference, Items).
-pub fn definition(alloc: Global, cursor: &mut Cursor<'_>) -> Result<DeriveInput, ParseError>
-    ensures { Gives (read depth_limit definitions.definition cursor.old) result cursor.new }
+pub fn definition(alloc: Global, input: &mut ParseStream<'_>) -> Result<DeriveInput, ParseError>
+    ensures { Gives (read depth_limit definitions.definition input.old) result input.new }
 {
-    educe_parser_definitions::definition(&parts!(alloc), cursor, DEPTH_LIMIT)
+    educe_parser_definitions::definition(&parts!(alloc), input, DEPTH_LIMIT)
 }

@@ -1,6 +1,6 @@
 //! Function values that read the parts which stand inside of others.
 
-use educe_grammar::{Cursor, Inside, ParseError, Typed};
+use educe_grammar::{Cursor, Inside, ParseError, ParseStream, Typed};
 use educe_tree::{Expr, Ty};
 use std::alloc::Global;
 
@@ -13,9 +13,9 @@ pub struct Readers<T, P, E> {
 }
 
 impl<
-    T: Fn(Global, &mut Cursor<'_>, u8) -> Result<Ty, ParseError>,
-    P: Fn(Global, &mut Cursor<'_>, u8) -> Result<Typed, ParseError>,
-    E: Fn(Global, &mut Cursor<'_>, u8) -> Result<Expr, ParseError>,
+    T: Fn(Global, &mut ParseStream<'_>, u8) -> Result<Ty, ParseError>,
+    P: Fn(Global, &mut ParseStream<'_>, u8) -> Result<Typed, ParseError>,
+    E: Fn(Global, &mut ParseStream<'_>, u8) -> Result<Expr, ParseError>,
 > Inside for Readers<T, P, E> {
     ghost use Rattle.educe_parser.specs.Nests.{Nests, fewer_nest};
 
@@ -23,20 +23,25 @@ impl<
 
     ghost fewer = { λ readers bound nests. fewer_nest nests };
 
-    fn ty(&self, alloc: Global, cursor: &mut Cursor<'_>, budget: u8) -> Result<Ty, ParseError> {
-        (self.types)(alloc, cursor, budget)
+    fn ty(&self, alloc: Global, input: &mut ParseStream<'_>, budget: u8) -> Result<Ty, ParseError> {
+        (self.types)(alloc, input, budget)
     }
 
     fn plain(
         &self,
         alloc: Global,
-        cursor: &mut Cursor<'_>,
+        input: &mut ParseStream<'_>,
         budget: u8,
     ) -> Result<Typed, ParseError> {
-        (self.plains)(alloc, cursor, budget)
+        (self.plains)(alloc, input, budget)
     }
 
-    fn expr(&self, alloc: Global, cursor: &mut Cursor<'_>, budget: u8) -> Result<Expr, ParseError> {
-        (self.exprs)(alloc, cursor, budget)
+    fn expr(
+        &self,
+        alloc: Global,
+        input: &mut ParseStream<'_>,
+        budget: u8,
+    ) -> Result<Expr, ParseError> {
+        (self.exprs)(alloc, input, budget)
     }
 }

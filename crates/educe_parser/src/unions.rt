@@ -6,24 +6,24 @@ ghost use Rattle.educe_tokens.specs.Refusals.{placeless};
 ghost use Rattle.educe_grammar.specs.Attributes as attributes;
 ghost use Rattle.educe_grammar.specs.Combining.{unit};
 ghost use Rattle.educe_grammar.specs.Definitions as definitions;
-ghost use Rattle.educe_grammar.specs.Reads.{read};
+ghost use Rattle.educe_grammar.specs.NotedReads.{read};
 ghost use Rattle.educe_grammar.specs.Refusal.{IsUnion, IsUnionWord, union_of};
 ghost use Rattle.educe_grammar.specs.Rules.{both};
 ghost use Rattle.educe_grammar.specs.Steps.{Gives};
 
 use crate::knot::DEPTH_LIMIT;
-use educe_grammar::{Cursor, ParseError};
+use educe_grammar::{ParseError, ParseStream};
 use educe_parser_definitions::{attributes, visibility};
 use educe_tokens::{EduceError, Kind, Token, TokenKind, TokenSlice};
 use std::alloc::{AllocError, Global};
 
 /// What stands before the item of a definition: attributes and a visibility.
-#[tactic(auto, unfolding(educe_grammar::specs::Running::run))]
-fn head(alloc: Global, cursor: &mut Cursor<'_>, budget: u8) -> Result<(), ParseError>
-    ensures { Gives (read budget (unit (both attributes.attributes definitions.visibility)) cursor.old) result cursor.new }
+#[tactic(auto, unfolding(educe_grammar::specs::Noting::run))]
+fn head(alloc: Global, input: &mut ParseStream<'_>, budget: u8) -> Result<(), ParseError>
+    ensures { Gives (read budget (unit (both attributes.attributes definitions.visibility)) input.old) result input.new }
 {
-    attributes(alloc, cursor, budget)?;
-    visibility(alloc, cursor, budget)
+    attributes(alloc, input, budget)?;
+    visibility(alloc, input, budget)
 }
 
 /// Whether the token is the word `union`, which is no keyword (Rust Reference, Keywords).
@@ -56,9 +56,9 @@ pub fn union_word<'a>(
     ensures some { IfOk result (λ found. IfSome found (λ word. IsUnion tokens.now word.now)) }
     ensures none { IfOk result (λ found. IfNone found ((word : Token) → IsUnion tokens.now word → ⊥)) }
 {
-    let mut cursor = Cursor::new(tokens);
-    match head(alloc, &mut cursor, DEPTH_LIMIT) {
-        Ok(()) => Ok(first_union(cursor.rest())),
+    let mut input = ParseStream::new(alloc, tokens);
+    match head(alloc, &mut input, DEPTH_LIMIT) {
+        Ok(()) => Ok(first_union(input.cursor.rest())),
         Err(ParseError::Memory) => Err(AllocError),
         Err(ParseError::Syntax(_)) => Ok(None),
         Err(ParseError::TooDeep(_)) => Ok(None),

@@ -1,10 +1,11 @@
 //! Whole lists of tokens.
 ghost use Rattle.std.specs.Prelude.{◌≡◌};
 ghost use Rattle.educe_grammar.specs.Parsed as spec;
+ghost use Rattle.educe_grammar.specs.Noting.{Noter, Forgets};
 ghost use Rattle.educe_grammar.specs.Steps.{Parser, ReadsAs};
 ghost use Rattle.educe_parser.specs.Answers.{IsAnswer};
 
-use educe_grammar::{Cursor, ParseError};
+use educe_grammar::{ParseError, ParseStream};
 use educe_tokens::{EduceError, Kind, Span, Token, TokenSlice};
 use std::alloc::Global;
 
@@ -43,18 +44,18 @@ fn refusal(alloc: Global, tokens: &[Token], error: ParseError) -> EduceError
 }
 
 /// What is read of all of the tokens.
-pub fn whole<T: Drop, F: Fn(&mut Cursor<'_>) -> Result<T, ParseError>>(
+pub fn whole<T: Drop, F: Fn(&mut ParseStream<'_>) -> Result<T, ParseError>>(
     alloc: Global,
     tokens: &TokenSlice,
     item: F,
 ) -> Result<T, EduceError>
     requires { F.IsAlwaysCallable item }
-    ensures { (program : Parser T) → ReadsAs program (F.post item) → IsAnswer program tokens.now result }
+    ensures { (note : Noter T) (program : Parser T) → ReadsAs note (F.post item) → Forgets note program → IsAnswer program tokens.now result }
 {
-    let mut cursor = Cursor::new(tokens);
-    match item(&mut cursor) {
-        Ok(found) if cursor.at_end() => Ok(found),
-        Ok(_) => Err(refusal(alloc, tokens.as_slice(), cursor.refuse())),
+    let mut input = ParseStream::new(alloc, tokens);
+    match item(&mut input) {
+        Ok(found) if input.cursor.at_end() => Ok(found),
+        Ok(_) => Err(refusal(alloc, tokens.as_slice(), input.cursor.refuse())),
         Err(error) => Err(refusal(alloc, tokens.as_slice(), error)),
     }
 }

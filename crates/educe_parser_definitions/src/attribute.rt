@@ -3,16 +3,17 @@ ghost use Rattle.std.specs.Prelude.{◌≡◌, ◌+◌, ⊤};
 ghost use Rattle.educe_grammar.specs.Attributes as spec;
 ghost use Rattle.educe_grammar.specs.Expressions.{group};
 ghost use Rattle.educe_grammar.specs.Names.{mere_token, simple_path};
-ghost use Rattle.educe_grammar.specs.Reads.{read};
+ghost use Rattle.educe_grammar.specs.NotedReads.{read};
 ghost use Rattle.educe_grammar.specs.Rules as rule;
 ghost use Rattle.educe_grammar.specs.Steps.{Gives, since};
 ghost use Rattle.educe_grammar.specs.declared.terminal.Terminal.TheVariants as terminal;
 
 use crate::lookahead::{AtEnd, at_attribute, at_group};
 use educe_grammar::{
-    Cursor, Inside, ParseError, Parts, Production, Terminal, list, many, nested, path, written,
+    Cursor, Inside, ParseError, ParseStream, Parts, Production, Terminal, list, many, nested, path,
+    written,
 };
-use educe_parser_paths::{group, some_trees, tree};
+use educe_parser_paths::{group, skip_colons, some_trees, tree};
 use educe_tokens::{Bracket, Seq, Span, Written, pair, unit};
 use educe_tree::{Attribute, Attributes, Meta, MetaPath, Metas};
 use std::alloc::Global;
@@ -44,8 +45,8 @@ impl Production<Global> for PathWord {
     ghost reads = { λ budget. read budget (mere_token terminal.AnyWord) };
 
     #[tactic(auto, unfolding(educe_grammar::proofs::Opened::rules, educe_grammar::specs::Names::mere_token))]
-    fn parse(_alloc: &Global, cursor: &mut Cursor<'_>, _budget: u8) -> Result<(), ParseError> {
-        unit(cursor.expect(Terminal::AnyWord))
+    fn parse(_alloc: &Global, input: &mut ParseStream<'_>, _budget: u8) -> Result<(), ParseError> {
+        unit(input.cursor.expect(Terminal::AnyWord))
     }
 }
 
@@ -62,21 +63,21 @@ impl Production<Global> for WordPath {
     #[tactic(auto, unfolding(educe_grammar::proofs::Opened::rules, educe_grammar::specs::Names::simple_path))]
     fn parse(
         alloc: &Global,
-        cursor: &mut Cursor<'_>,
+        input: &mut ParseStream<'_>,
         budget: u8,
     ) -> Result<(bool, Seq<()>), ParseError> {
-        let leading = cursor.eat_pair(':', ':');
-        let segments = path::<Global, PathWord>(alloc, cursor, budget)?;
+        let leading = skip_colons(input);
+        let segments = path::<Global, PathWord>(alloc, input, budget)?;
         Ok((leading, segments))
     }
 }
 
 /// The path that a meta begins with (Rust Reference, Simple paths).
 #[tactic(auto, using(educe_grammar::proofs::Copied::words_copied), unfolding(educe_grammar::proofs::Opened::rules, educe_grammar::specs::Attributes::meta_path))]
-fn meta_path(alloc: Global, cursor: &mut Cursor<'_>, budget: u8) -> Result<MetaPath, ParseError>
-    ensures { Gives (read budget spec.meta_path cursor.old) result cursor.new }
+fn meta_path(alloc: Global, input: &mut ParseStream<'_>, budget: u8) -> Result<MetaPath, ParseError>
+    ensures { Gives (read budget spec.meta_path input.old) result input.new }
 {
-    let (_, written) = written::<Global, WordPath>(&alloc, cursor, budget)?;
+    let (_, written) = written::<Global, WordPath>(&alloc, input, budget)?;
     Ok(MetaPath { written })
 }
 
@@ -91,8 +92,8 @@ impl Production<Global> for Group {
     ghost reads = { λ budget. read budget group };
 
     #[tactic(auto, unfolding(educe_grammar::proofs::Opened::rules))]
-    fn parse(alloc: &Global, cursor: &mut Cursor<'_>, budget: u8) -> Result<(), ParseError> {
-        group(*alloc, cursor, budget)
+    fn parse(alloc: &Global, input: &mut ParseStream<'_>, budget: u8) -> Result<(), ParseError> {
+        group(*alloc, input, budget)
     }
 }
 
@@ -100,12 +101,12 @@ impl Production<Global> for Group {
 #[tactic(auto, using(educe_grammar::proofs::Copied::group_copied), unfolding(educe_grammar::proofs::Opened::rules))]
 fn written_group(
     alloc: Global,
-    cursor: &mut Cursor<'_>,
+    input: &mut ParseStream<'_>,
     budget: u8,
 ) -> Result<((), Written), ParseError>
-    ensures { Gives (read budget (rule.written group) cursor.old) result cursor.new }
+    ensures { Gives (read budget (rule.written group) input.old) result input.new }
 {
-    written::<Global, Group>(&alloc, cursor, budget)
+    written::<Global, Group>(&alloc, input, budget)
 }
 
 /// `=` and tokens that are not read (Rust Reference, Meta item attribute syntax).
@@ -119,10 +120,10 @@ impl Production<Global> for UnreadValue {
     ghost reads = { λ budget. read budget spec.unread_value };
 
     #[tactic(auto, unfolding(educe_grammar::proofs::Opened::rules, educe_grammar::specs::Attributes::unread_value))]
-    fn parse(alloc: &Global, cursor: &mut Cursor<'_>, budget: u8) -> Result<(), ParseError> {
-        cursor.expect(Terminal::Sign('='))?;
-        tree(*alloc, cursor, budget)?;
-        some_trees(*alloc, cursor, budget)
+    fn parse(alloc: &Global, input: &mut ParseStream<'_>, budget: u8) -> Result<(), ParseError> {
+        input.cursor.expect(Terminal::Sign('='))?;
+        tree(*alloc, input, budget)?;
+        some_trees(*alloc, input, budget)
     }
 }
 
@@ -130,12 +131,12 @@ impl Production<Global> for UnreadValue {
 #[tactic(auto, using(educe_grammar::proofs::Copied::unread_value_copied), unfolding(educe_grammar::proofs::Opened::rules))]
 fn written_value(
     alloc: Global,
-    cursor: &mut Cursor<'_>,
+    input: &mut ParseStream<'_>,
     budget: u8,
 ) -> Result<((), Written), ParseError>
-    ensures { Gives (read budget (rule.written spec.unread_value) cursor.old) result cursor.new }
+    ensures { Gives (read budget (rule.written spec.unread_value) input.old) result input.new }
 {
-    written::<Global, UnreadValue>(&alloc, cursor, budget)
+    written::<Global, UnreadValue>(&alloc, input, budget)
 }
 
 /// What an attribute says, with a value that is not read (Rust Reference, Attributes).
@@ -149,16 +150,16 @@ impl Production<Global> for OuterMeta {
     ghost reads = { λ budget. read budget spec.outer_meta };
 
     #[tactic(auto, unfolding(educe_grammar::proofs::Opened::rules, educe_grammar::specs::Attributes::outer_meta, educe_grammar::specs::Attributes::written_group, educe_grammar::specs::Attributes::unread))]
-    fn parse(alloc: &Global, cursor: &mut Cursor<'_>, budget: u8) -> Result<Meta, ParseError> {
-        let start = cursor.mark();
-        let path = meta_path(*alloc, cursor, budget)?;
-        if at_group(cursor) {
-            let (path, (_, tokens)) = pair(path, written_group(*alloc, cursor, budget))?;
-            return Ok(Meta::List(path, tokens, span_since(&start, cursor)));
+    fn parse(alloc: &Global, input: &mut ParseStream<'_>, budget: u8) -> Result<Meta, ParseError> {
+        let start = input.cursor.mark();
+        let path = meta_path(*alloc, input, budget)?;
+        if at_group(&input.cursor) {
+            let (path, (_, tokens)) = pair(path, written_group(*alloc, input, budget))?;
+            return Ok(Meta::List(path, tokens, span_since(&start, &input.cursor)));
         }
-        if cursor.sees(Terminal::Sign('=')) {
-            let (path, (_, tokens)) = pair(path, written_value(*alloc, cursor, budget))?;
-            return Ok(Meta::Unread(path, tokens, span_since(&start, cursor)));
+        if input.cursor.sees(Terminal::Sign('=')) {
+            let (path, (_, tokens)) = pair(path, written_value(*alloc, input, budget))?;
+            return Ok(Meta::Unread(path, tokens, span_since(&start, &input.cursor)));
         }
         Ok(Meta::Word(path))
     }
@@ -166,16 +167,20 @@ impl Production<Global> for OuterMeta {
 
 /// An attribute or a comment of documentation (Rust Reference, Attributes; Doc comments).
 #[tactic(auto, unfolding(educe_grammar::proofs::Opened::rules, educe_grammar::specs::Attributes::attribute))]
-fn attribute(alloc: Global, cursor: &mut Cursor<'_>, budget: u8) -> Result<Attribute, ParseError>
-    ensures { Gives (read budget spec.attribute cursor.old) result cursor.new }
+fn attribute(
+    alloc: Global,
+    input: &mut ParseStream<'_>,
+    budget: u8,
+) -> Result<Attribute, ParseError>
+    ensures { Gives (read budget spec.attribute input.old) result input.new }
 {
-    if cursor.documents() {
-        let comment = cursor.expect_doc()?;
+    if input.cursor.documents() {
+        let comment = input.cursor.expect_doc()?;
         let meta = Meta::Doc(comment.duplicate(alloc)?);
         return Ok(Attribute { meta });
     }
-    cursor.expect(Terminal::Sign('#'))?;
-    let meta = nested::<Global, OuterMeta>(&alloc, cursor, budget, Bracket::Square)?;
+    input.cursor.expect(Terminal::Sign('#'))?;
+    let meta = nested::<Global, OuterMeta>(&alloc, input, budget, Bracket::Square)?;
     Ok(Attribute { meta })
 }
 
@@ -183,16 +188,16 @@ fn attribute(alloc: Global, cursor: &mut Cursor<'_>, budget: u8) -> Result<Attri
 #[tactic(auto, unfolding(educe_grammar::proofs::Opened::rules, educe_grammar::specs::Attributes::attributes))]
 pub fn attributes(
     alloc: Global,
-    cursor: &mut Cursor<'_>,
+    input: &mut ParseStream<'_>,
     budget: u8,
 ) -> Result<Attributes, ParseError>
-    ensures { Gives (read budget spec.attributes cursor.old) result cursor.new }
+    ensures { Gives (read budget spec.attributes input.old) result input.new }
 {
     many(
         alloc,
-        cursor,
+        input,
         at_attribute,
-        |cursor| attribute(alloc, cursor, budget),
+        |input| attribute(alloc, input, budget),
     )
 }
 
@@ -207,16 +212,20 @@ impl<R: Inside> Production<Parts<R>> for MetaItem {
     ghost reads = { λ budget. read budget spec.meta };
 
     #[tactic(auto, unfolding(educe_grammar::proofs::Opened::rules, educe_grammar::specs::Attributes::meta, educe_grammar::specs::Attributes::written_group))]
-    fn parse(parts: &Parts<R>, cursor: &mut Cursor<'_>, budget: u8) -> Result<Meta, ParseError> {
-        let start = cursor.mark();
-        let path = meta_path(parts.alloc, cursor, budget)?;
-        if at_group(cursor) {
-            let (path, (_, tokens)) = pair(path, written_group(parts.alloc, cursor, budget))?;
-            return Ok(Meta::List(path, tokens, span_since(&start, cursor)));
+    fn parse(
+        parts: &Parts<R>,
+        input: &mut ParseStream<'_>,
+        budget: u8,
+    ) -> Result<Meta, ParseError> {
+        let start = input.cursor.mark();
+        let path = meta_path(parts.alloc, input, budget)?;
+        if at_group(&input.cursor) {
+            let (path, (_, tokens)) = pair(path, written_group(parts.alloc, input, budget))?;
+            return Ok(Meta::List(path, tokens, span_since(&start, &input.cursor)));
         }
-        if cursor.eat(Terminal::Sign('=')) {
-            let (path, value) = pair(path, parts.expr(cursor, budget))?;
-            return Ok(Meta::NameValue(path, value, span_since(&start, cursor)));
+        if input.cursor.eat(Terminal::Sign('=')) {
+            let (path, value) = pair(path, parts.expr(input, budget))?;
+            return Ok(Meta::NameValue(path, value, span_since(&start, &input.cursor)));
         }
         Ok(Meta::Word(path))
     }
@@ -226,11 +235,11 @@ impl<R: Inside> Production<Parts<R>> for MetaItem {
 #[tactic(auto, unfolding(educe_grammar::proofs::Opened::rules, educe_grammar::specs::Attributes::metas))]
 pub fn metas<R: Inside>(
     parts: &Parts<R>,
-    cursor: &mut Cursor<'_>,
+    input: &mut ParseStream<'_>,
     budget: u8,
 ) -> Result<Metas, ParseError>
     requires { R.nests parts.now.inside (budget + 1) }
-    ensures { Gives (read budget spec.metas cursor.old) result cursor.new }
+    ensures { Gives (read budget spec.metas input.old) result input.new }
 {
-    list::<Parts<R>, MetaItem, AtEnd>(parts, cursor, budget, Terminal::Sign(','))
+    list::<Parts<R>, MetaItem, AtEnd>(parts, input, budget, Terminal::Sign(','))
 }

@@ -1,13 +1,13 @@
 //! Expressions (Rust Reference, Expressions).
 ghost use Rattle.educe_grammar.specs.Expressions as spec;
-ghost use Rattle.educe_grammar.specs.Reads.{read};
+ghost use Rattle.educe_grammar.specs.NotedReads.{read};
 ghost use Rattle.educe_grammar.specs.Steps.{Gives};
 
 use crate::links::{linked_form, links_fit};
 use crate::lookahead::AtLink;
 use crate::operands::unary;
 use educe_grammar::{
-    Cursor, Inside, Keyword, Link, ParseError, Parts, Production, Terminal, chain, written,
+    Inside, Keyword, Link, ParseError, ParseStream, Parts, Production, Terminal, chain, written,
 };
 use educe_parser_types::plain_type;
 use educe_tree::{Expr, ExprForm};
@@ -24,14 +24,18 @@ impl<R: Inside> Production<Parts<R>> for OperatorLink {
     ghost reads = { λ budget. read budget spec.link };
 
     #[tactic(auto, unfolding(educe_grammar::proofs::Opened::rules, educe_grammar::specs::Expressions::link))]
-    fn parse(parts: &Parts<R>, cursor: &mut Cursor<'_>, budget: u8) -> Result<Link, ParseError> {
-        if cursor.eat(Terminal::Word(Keyword::As)) {
-            let (ty, ending) = plain_type(parts, cursor, budget)?;
+    fn parse(
+        parts: &Parts<R>,
+        input: &mut ParseStream<'_>,
+        budget: u8,
+    ) -> Result<Link, ParseError> {
+        if input.cursor.eat(Terminal::Word(Keyword::As)) {
+            let (ty, ending) = plain_type(parts, input, budget)?;
             drop(ty);
             return Ok(Link::Cast(ending));
         }
-        let operator = cursor.operator()?;
-        unary(parts, cursor, budget)?;
+        let operator = input.cursor.operator()?;
+        unary(parts, input, budget)?;
         Ok(Link::Binary(operator))
     }
 }
@@ -49,13 +53,13 @@ impl<R: Inside> Production<Parts<R>> for Operation {
     #[tactic(auto, unfolding(educe_grammar::proofs::Opened::rules, educe_grammar::specs::Expressions::operation))]
     fn parse(
         parts: &Parts<R>,
-        cursor: &mut Cursor<'_>,
+        input: &mut ParseStream<'_>,
         budget: u8,
     ) -> Result<ExprForm, ParseError> {
-        let operand = unary(parts, cursor, budget)?;
-        let links = chain::<Parts<R>, OperatorLink, AtLink>(parts, cursor, budget)?;
+        let operand = unary(parts, input, budget)?;
+        let links = chain::<Parts<R>, OperatorLink, AtLink>(parts, input, budget)?;
         if !links_fit(links.as_slice()) {
-            return Err(cursor.refuse());
+            return Err(input.cursor.refuse());
         }
         Ok(linked_form(operand, links.as_slice()))
     }
@@ -65,12 +69,12 @@ impl<R: Inside> Production<Parts<R>> for Operation {
 #[tactic(auto, using(educe_grammar::proofs::Copied::operation_copied), unfolding(educe_grammar::proofs::Opened::rules, educe_grammar::specs::Expressions::expression))]
 pub fn expression<R: Inside>(
     parts: &Parts<R>,
-    cursor: &mut Cursor<'_>,
+    input: &mut ParseStream<'_>,
     budget: u8,
 ) -> Result<Expr, ParseError>
     requires { R.nests parts.now.inside budget }
-    ensures { Gives (read budget spec.expression cursor.old) result cursor.new }
+    ensures { Gives (read budget spec.expression input.old) result input.new }
 {
-    let (form, written) = written::<Parts<R>, Operation>(parts, cursor, budget)?;
+    let (form, written) = written::<Parts<R>, Operation>(parts, input, budget)?;
     Ok(Expr { form, written })
 }

@@ -3,7 +3,7 @@ ghost use Rattle.std.specs.Prelude.{◌≡◌, ⊤};
 ghost use Rattle.educe_grammar.specs.Ahead.{is_sign};
 ghost use Rattle.educe_grammar.specs.Combining.{in_round, unit};
 ghost use Rattle.educe_grammar.specs.Expressions as spec;
-ghost use Rattle.educe_grammar.specs.Reads.{read};
+ghost use Rattle.educe_grammar.specs.NotedReads.{read};
 ghost use Rattle.educe_grammar.specs.Rules.{exprs, part};
 ghost use Rattle.educe_grammar.specs.Steps.{Gives};
 
@@ -11,8 +11,8 @@ use crate::expr_paths::expr_path;
 use crate::lookahead::{AtPostfix, AtPrefix};
 use crate::tails::{fits_tail, path_tail, tail_form};
 use educe_grammar::{
-    Cursor, ExprInside, Inside, Keyword, ParseError, Parts, Production, Terminal, chain, in_round,
-    nested,
+    ExprInside, Inside, Keyword, ParseError, ParseStream, Parts, Production, Terminal, chain,
+    in_round, nested,
 };
 use educe_parser_paths::angle_args;
 use educe_tokens::{Bracket, Token, TokenKind, pair, unit};
@@ -41,12 +41,16 @@ impl Production<Global> for Prefix {
     ghost reads = { λ budget. read budget spec.prefix };
 
     #[tactic(auto, unfolding(educe_grammar::proofs::Opened::rules, educe_grammar::specs::Expressions::prefix))]
-    fn parse(_alloc: &Global, cursor: &mut Cursor<'_>, _budget: u8) -> Result<bool, ParseError> {
-        if cursor.eat(Terminal::Sign('&')) {
-            cursor.eat(Terminal::Word(Keyword::Mut));
+    fn parse(
+        _alloc: &Global,
+        input: &mut ParseStream<'_>,
+        _budget: u8,
+    ) -> Result<bool, ParseError> {
+        if input.cursor.eat(Terminal::Sign('&')) {
+            input.cursor.eat(Terminal::Word(Keyword::Mut));
             return Ok(false);
         }
-        let token = cursor.expect(Terminal::PrefixSign)?;
+        let token = input.cursor.expect(Terminal::PrefixSign)?;
         Ok(is_minus(token))
     }
 }
@@ -76,13 +80,13 @@ fn unary_form(prefixes: &[bool], operand: ExprForm, postfixes: &[()]) -> ExprFor
 #[tactic(auto, unfolding(educe_grammar::proofs::Opened::rules))]
 fn round_exprs<R: Inside>(
     parts: &Parts<R>,
-    cursor: &mut Cursor<'_>,
+    input: &mut ParseStream<'_>,
     budget: u8,
 ) -> Result<(), ParseError>
     requires { R.nests parts.now.inside budget }
-    ensures { Gives (read budget (unit (in_round (part exprs))) cursor.old) result cursor.new }
+    ensures { Gives (read budget (unit (in_round (part exprs))) input.old) result input.new }
 {
-    unit(in_round::<Parts<R>, ExprInside>(parts, cursor, budget))
+    unit(in_round::<Parts<R>, ExprInside>(parts, input, budget))
 }
 
 /// A field or a method behind `.` (Rust Reference, Field access expressions; Method-call
@@ -90,19 +94,19 @@ fn round_exprs<R: Inside>(
 #[tactic(auto, unfolding(educe_grammar::proofs::Opened::rules, educe_grammar::specs::Expressions::member))]
 fn member<R: Inside>(
     parts: &Parts<R>,
-    cursor: &mut Cursor<'_>,
+    input: &mut ParseStream<'_>,
     budget: u8,
 ) -> Result<(), ParseError>
     requires { R.nests parts.now.inside budget }
-    ensures { Gives (read budget spec.member cursor.old) result cursor.new }
+    ensures { Gives (read budget spec.member input.old) result input.new }
 {
-    if !cursor.eat(Terminal::Name) {
-        return unit(cursor.expect(Terminal::Int));
+    if !input.cursor.eat(Terminal::Name) {
+        return unit(input.cursor.expect(Terminal::Int));
     }
-    if !cursor.eat_pair(':', ':') {
+    if !input.cursor.eat_pair(':', ':') {
         return Ok(());
     }
-    unit(angle_args(parts, cursor, budget))
+    unit(angle_args(parts, input, budget))
 }
 
 /// A postfix of an operand (Rust Reference, Call expressions; Array and slice indexing
@@ -117,15 +121,15 @@ impl<R: Inside> Production<Parts<R>> for Postfix {
     ghost reads = { λ budget. read budget spec.postfix };
 
     #[tactic(auto, unfolding(educe_grammar::proofs::Opened::rules, educe_grammar::specs::Expressions::postfix))]
-    fn parse(parts: &Parts<R>, cursor: &mut Cursor<'_>, budget: u8) -> Result<(), ParseError> {
-        if cursor.opens(Bracket::Round) {
-            return round_exprs(parts, cursor, budget);
+    fn parse(parts: &Parts<R>, input: &mut ParseStream<'_>, budget: u8) -> Result<(), ParseError> {
+        if input.cursor.opens(Bracket::Round) {
+            return round_exprs(parts, input, budget);
         }
-        if cursor.opens(Bracket::Square) {
-            return unit(nested::<Parts<R>, ExprInside>(parts, cursor, budget, Bracket::Square));
+        if input.cursor.opens(Bracket::Square) {
+            return unit(nested::<Parts<R>, ExprInside>(parts, input, budget, Bracket::Square));
         }
-        cursor.skip_lone('.', '.')?;
-        member(parts, cursor, budget)
+        input.cursor.skip_lone('.', '.')?;
+        member(parts, input, budget)
     }
 }
 
@@ -134,28 +138,28 @@ impl<R: Inside> Production<Parts<R>> for Postfix {
 #[tactic(auto, unfolding(educe_grammar::proofs::Opened::rules, educe_grammar::specs::Expressions::primary))]
 fn primary<R: Inside>(
     parts: &Parts<R>,
-    cursor: &mut Cursor<'_>,
+    input: &mut ParseStream<'_>,
     budget: u8,
 ) -> Result<ExprForm, ParseError>
     requires { R.nests parts.now.inside budget }
-    ensures { Gives (read budget spec.primary cursor.old) result cursor.new }
+    ensures { Gives (read budget spec.primary input.old) result input.new }
 {
-    if cursor.eat(Terminal::Literal) {
+    if input.cursor.eat(Terminal::Literal) {
         return Ok(ExprForm::Literal);
     }
-    if cursor.eat(Terminal::Truth) {
+    if input.cursor.eat(Terminal::Truth) {
         return Ok(ExprForm::Truth);
     }
-    if cursor.opens(Bracket::Round) {
-        round_exprs(parts, cursor, budget)?;
+    if input.cursor.opens(Bracket::Round) {
+        round_exprs(parts, input, budget)?;
         return Ok(ExprForm::Other);
     }
-    let path = expr_path(parts, cursor, budget)?;
-    let (path, tail) = pair(path, path_tail(parts, cursor, budget))?;
+    let path = expr_path(parts, input, budget)?;
+    let (path, tail) = pair(path, path_tail(parts, input, budget))?;
     let fits = fits_tail(&path, tail);
     drop(path);
     if !fits {
-        return Err(cursor.refuse());
+        return Err(input.cursor.refuse());
     }
     Ok(tail_form(tail))
 }
@@ -164,14 +168,14 @@ fn primary<R: Inside>(
 #[tactic(auto, unfolding(educe_grammar::proofs::Opened::rules, educe_grammar::specs::Expressions::unary))]
 pub fn unary<R: Inside>(
     parts: &Parts<R>,
-    cursor: &mut Cursor<'_>,
+    input: &mut ParseStream<'_>,
     budget: u8,
 ) -> Result<ExprForm, ParseError>
     requires { R.nests parts.now.inside budget }
-    ensures { Gives (read budget spec.unary cursor.old) result cursor.new }
+    ensures { Gives (read budget spec.unary input.old) result input.new }
 {
-    let prefixes = chain::<Global, Prefix, AtPrefix>(&parts.alloc, cursor, budget)?;
-    let operand = primary(parts, cursor, budget)?;
-    let postfixes = chain::<Parts<R>, Postfix, AtPostfix>(parts, cursor, budget)?;
+    let prefixes = chain::<Global, Prefix, AtPrefix>(&parts.alloc, input, budget)?;
+    let operand = primary(parts, input, budget)?;
+    let postfixes = chain::<Parts<R>, Postfix, AtPostfix>(parts, input, budget)?;
     Ok(unary_form(prefixes.as_slice(), operand, postfixes.as_slice()))
 }

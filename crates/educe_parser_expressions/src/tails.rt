@@ -2,12 +2,14 @@
 //! (Rust Reference, Struct expressions; Macro invocation).
 ghost use Rattle.std.specs.Prelude.{◌≡◌, ◌+◌};
 ghost use Rattle.educe_grammar.specs.Expressions as spec;
-ghost use Rattle.educe_grammar.specs.Reads.{read};
+ghost use Rattle.educe_grammar.specs.NotedReads.{read};
 ghost use Rattle.educe_grammar.specs.Steps.{Gives};
 
 use crate::expr_paths::is_mod_path;
 use crate::lookahead::{BehindFields, at_value};
-use educe_grammar::{Cursor, Inside, ParseError, Parts, Production, Tail, Terminal, list, nested};
+use educe_grammar::{
+    Cursor, Inside, ParseError, ParseStream, Parts, Production, Tail, Terminal, list, nested,
+};
 use educe_parser_paths::group;
 use educe_tokens::{Bracket, TokenSlice, unit};
 use educe_tree::{ExprForm, ExprPath};
@@ -52,14 +54,14 @@ fn self_begins_paths(group: &TokenSlice) -> bool
 
 /// What a macro is called with (Rust Reference, Macro invocation).
 #[tactic(auto, unfolding(educe_grammar::proofs::Opened::rules, educe_grammar::specs::Expressions::macro_group))]
-fn macro_group(alloc: Global, cursor: &mut Cursor<'_>, budget: u8) -> Result<(), ParseError>
-    ensures { Gives (read budget spec.macro_group cursor.old) result cursor.new }
+fn macro_group(alloc: Global, input: &mut ParseStream<'_>, budget: u8) -> Result<(), ParseError>
+    ensures { Gives (read budget spec.macro_group input.old) result input.new }
 {
-    let start = cursor.mark();
-    group(alloc, cursor, budget)?;
-    let tokens = cursor.since(&start)?;
+    let start = input.cursor.mark();
+    group(alloc, input, budget)?;
+    let tokens = input.cursor.since(&start)?;
     if !self_begins_paths(&tokens) {
-        return Err(cursor.refuse());
+        return Err(input.cursor.refuse());
     }
     Ok(())
 }
@@ -75,13 +77,13 @@ impl<R: Inside> Production<Parts<R>> for FieldInit {
     ghost reads = { λ budget. read budget spec.init };
 
     #[tactic(auto, unfolding(educe_grammar::proofs::Opened::rules, educe_grammar::specs::Expressions::init))]
-    fn parse(parts: &Parts<R>, cursor: &mut Cursor<'_>, budget: u8) -> Result<(), ParseError> {
-        if !at_value(cursor) {
-            return unit(cursor.expect(Terminal::Name));
+    fn parse(parts: &Parts<R>, input: &mut ParseStream<'_>, budget: u8) -> Result<(), ParseError> {
+        if !at_value(&input.cursor) {
+            return unit(input.cursor.expect(Terminal::Name));
         }
-        cursor.expect(Terminal::NameOrIndex)?;
-        cursor.skip_lone(':', ':')?;
-        unit(parts.expr(cursor, budget))
+        input.cursor.expect(Terminal::NameOrIndex)?;
+        input.cursor.skip_lone(':', ':')?;
+        unit(parts.expr(input, budget))
     }
 }
 
@@ -97,13 +99,13 @@ impl<R: Inside> Production<Parts<R>> for FieldInits {
     ghost reads = { λ budget. read budget spec.inits };
 
     #[tactic(auto, unfolding(educe_grammar::proofs::Opened::rules, educe_grammar::specs::Expressions::inits))]
-    fn parse(parts: &Parts<R>, cursor: &mut Cursor<'_>, budget: u8) -> Result<(), ParseError> {
+    fn parse(parts: &Parts<R>, input: &mut ParseStream<'_>, budget: u8) -> Result<(), ParseError> {
         let comma = Terminal::Sign(',');
-        unit(list::<Parts<R>, FieldInit, BehindFields>(parts, cursor, budget, comma))?;
-        if !cursor.eat_pair('.', '.') {
+        unit(list::<Parts<R>, FieldInit, BehindFields>(parts, input, budget, comma))?;
+        if !input.cursor.eat_pair('.', '.') {
             return Ok(());
         }
-        unit(parts.expr(cursor, budget))
+        unit(parts.expr(input, budget))
     }
 }
 
@@ -112,19 +114,19 @@ impl<R: Inside> Production<Parts<R>> for FieldInits {
 #[tactic(auto, unfolding(educe_grammar::proofs::Opened::rules, educe_grammar::specs::Expressions::path_tail))]
 pub fn path_tail<R: Inside>(
     parts: &Parts<R>,
-    cursor: &mut Cursor<'_>,
+    input: &mut ParseStream<'_>,
     budget: u8,
 ) -> Result<Tail, ParseError>
     requires { R.nests parts.now.inside budget }
-    ensures { Gives (read budget spec.path_tail cursor.old) result cursor.new }
+    ensures { Gives (read budget spec.path_tail input.old) result input.new }
 {
-    if cursor.opens(Bracket::Curly) {
-        nested::<Parts<R>, FieldInits>(parts, cursor, budget, Bracket::Curly)?;
+    if input.cursor.opens(Bracket::Curly) {
+        nested::<Parts<R>, FieldInits>(parts, input, budget, Bracket::Curly)?;
         return Ok(Tail::Fields);
     }
-    if !cursor.eat_lone('!', '=') {
+    if !input.cursor.eat_lone('!', '=') {
         return Ok(Tail::Nothing);
     }
-    macro_group(parts.alloc, cursor, budget)?;
+    macro_group(parts.alloc, input, budget)?;
     Ok(Tail::Call)
 }

@@ -8,8 +8,9 @@ use Rattle.educe_tree.specs.declared.ident.Ident.{Ident}
 use Rattle.educe_tree.specs.declared.lifetime.Lifetime.{Lifetime}
 use Rattle.educe_grammar.specs.declared.terminal.Terminal.TheVariants as terminal
 use Rattle.educe_grammar.specs.Names.{word_kind, lifetime_kind, name_of, segment_name_of, lifetime_of, name, segment_name, lifetime}
-use Rattle.educe_grammar.specs.Reads.{read}
-use Rattle.educe_grammar.specs.Running.{run}
+use Rattle.educe_grammar.specs.NotedReads.{read}
+use Rattle.educe_grammar.specs.Noting.{run}
+use Rattle.educe_grammar.specs.declared.parse_stream.ParseStream.{ParseStream}
 use Rattle.educe_grammar.specs.Steps.{Tokens, expect}
 use Rattle.educe_grammar.specs.Terminals.{some_words, segment_words, accepts}
 use Rattle.educe_grammar.proofs.Steps.{IsTrue-prop}
@@ -46,28 +47,28 @@ unfolding accepts
 lifetime_kind_of t passes = lifetime_kind t.kind t.spelling passes
 
 -- a name is read where its token is taken
-pub read_name : (budget : ℕ) (ts rest : Tokens) (t : Token) (passes : IsTrue (accepts terminal.Name t)) (found : Ident)
-    → expect (accepts terminal.Name) ts ≡ Ok (record { token = t; passes = passes }, rest) → found.text ≡ t.spelling → found.span ≡ t.span
-    → read budget name ts ≡ Ok (found, rest)
+pub read_name : (budget : ℕ) (s : ParseStream) (rest : Tokens) (t : Token) (passes : IsTrue (accepts terminal.Name t)) (found : Ident)
+    → expect (accepts terminal.Name) s.cursor ≡ Ok (record { token = t; passes = passes }, rest) → found.text ≡ t.spelling → found.span ≡ t.span
+    → read budget name s ≡ Ok (found, record { cursor = rest; selves = s.selves })
 unfolding run name
-read_name budget ts rest t passes found taken text span =
-    rw taken (λ i. Ok (ident_same (name_of (record { token = t; passes = passes })) found (sym text) (sym span) i, rest))
+read_name budget s rest t passes found taken text span =
+    rw taken (λ i. Ok (ident_same (name_of (record { token = t; passes = passes })) found (sym text) (sym span) i, record { cursor = rest; selves = s.selves }))
 
 -- the name of a segment is read where its token is taken
-pub read_segment_name : (budget : ℕ) (ts rest : Tokens) (t : Token) (passes : IsTrue (accepts terminal.PathSegment t)) (found : Ident)
-    → expect (accepts terminal.PathSegment) ts ≡ Ok (record { token = t; passes = passes }, rest) → found.text ≡ t.spelling → found.span ≡ t.span
-    → read budget segment_name ts ≡ Ok (found, rest)
+pub read_segment_name : (budget : ℕ) (s : ParseStream) (rest : Tokens) (t : Token) (passes : IsTrue (accepts terminal.PathSegment t)) (found : Ident)
+    → expect (accepts terminal.PathSegment) s.cursor ≡ Ok (record { token = t; passes = passes }, rest) → found.text ≡ t.spelling → found.span ≡ t.span
+    → read budget segment_name s ≡ Ok (found, record { cursor = rest; selves = s.selves })
 unfolding run segment_name
-read_segment_name budget ts rest t passes found taken text span =
-    rw taken (λ i. Ok (ident_same (segment_name_of (record { token = t; passes = passes })) found (sym text) (sym span) i, rest))
+read_segment_name budget s rest t passes found taken text span =
+    rw taken (λ i. Ok (ident_same (segment_name_of (record { token = t; passes = passes })) found (sym text) (sym span) i, record { cursor = rest; selves = s.selves }))
 
 -- a lifetime is read where its token is taken
-pub read_lifetime : (budget : ℕ) (ts rest : Tokens) (t : Token) (passes : IsTrue (accepts terminal.Lifetime t)) (found : Lifetime)
-    → expect (accepts terminal.Lifetime) ts ≡ Ok (record { token = t; passes = passes }, rest) → found.text ≡ t.spelling → found.span ≡ t.span
-    → read budget lifetime ts ≡ Ok (found, rest)
+pub read_lifetime : (budget : ℕ) (s : ParseStream) (rest : Tokens) (t : Token) (passes : IsTrue (accepts terminal.Lifetime t)) (found : Lifetime)
+    → expect (accepts terminal.Lifetime) s.cursor ≡ Ok (record { token = t; passes = passes }, rest) → found.text ≡ t.spelling → found.span ≡ t.span
+    → read budget lifetime s ≡ Ok (found, record { cursor = rest; selves = s.selves })
 unfolding run lifetime
-read_lifetime budget ts rest t passes found taken text span =
-    rw taken (λ i. Ok (lifetime_same (lifetime_of (record { token = t; passes = passes })) found (sym text) (sym span) i, rest))
+read_lifetime budget s rest t passes found taken text span =
+    rw taken (λ i. Ok (lifetime_same (lifetime_of (record { token = t; passes = passes })) found (sym text) (sym span) i, record { cursor = rest; selves = s.selves }))
 
 -- what a token of this kind is spelled stays one
 pub ident_spelled : (t : Token) (text : List ℕ) → t.kind ≡ kind.Ident → text ≡ t.spelling → IsTrue (spells kind.Ident text)

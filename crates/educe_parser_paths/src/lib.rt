@@ -10,7 +10,8 @@ mod trees;
 
 pub use names::{lifetime, name, segment_name, skip_lifetime};
 pub use paths::{
-    Constant, angle_args, is_scope, output, qualified, qualified_path, qualified_self, type_path,
+    Constant, angle_args, is_scope, output, qualified, qualified_path, qualified_self, skip_colons,
+    type_path,
 };
 pub use trait_bounds::{
     Bound, BoundRead, bound_paths, bounds, for_all, lifetime_bounds, optional_for_all,

@@ -1,9 +1,9 @@
 //! Paths in types and their arguments (Rust Reference, Paths).
-ghost use Rattle.std.specs.Prelude.{◌≡◌, ◌+◌, IfOk, map, not};
-ghost use Rattle.educe_grammar.specs.Combining.{optional, skipping, word, at_arrow, at_word};
+ghost use Rattle.std.specs.Prelude.{◌≡◌, ◌+◌, ℕ, IfOk, map, not};
+ghost use Rattle.educe_grammar.specs.Combining.{optional, skipping, flag, word, colons, at_arrow, at_colons, at_word};
 ghost use Rattle.educe_grammar.specs.declared.terminal.Keyword.TheVariants as keyword;
 ghost use Rattle.educe_grammar.specs.Names as names;
-ghost use Rattle.educe_grammar.specs.Reads.{read};
+ghost use Rattle.educe_grammar.specs.NotedReads.{read};
 ghost use Rattle.educe_grammar.specs.Rules.{types, plains, both, made, lone, arrow, part};
 ghost use Rattle.educe_grammar.specs.Steps.{Gives};
 ghost use Rattle.educe_grammar.specs.Types as spec;
@@ -11,7 +11,7 @@ ghost use Rattle.educe_grammar.specs.Types as spec;
 use crate::lookahead::{at_angle_args, at_binding, at_constant};
 use crate::names::{lifetime, name, segment_name};
 use educe_grammar::{
-    Cursor, Ending, ExprInside, Inside, Keyword, ParseError, Parts, Production, Terminal,
+    Ending, ExprInside, Inside, Keyword, ParseError, ParseStream, Parts, Production, Terminal,
     TypeInside, Typed, angled, in_angles, in_round, nested, optional_behind, path, written,
 };
 use educe_tokens::{Boxed, Bracket, Seq, pair, terminated, unit};
@@ -181,17 +181,17 @@ impl<R: Inside> Production<Parts<R>> for Constant {
     ghost reads = { λ budget. read budget spec.constant };
 
     #[tactic(auto, unfolding(educe_grammar::proofs::Opened::rules, educe_grammar::specs::Types::constant))]
-    fn parse(parts: &Parts<R>, cursor: &mut Cursor<'_>, budget: u8) -> Result<(), ParseError> {
-        if cursor.eat(Terminal::Literal) {
+    fn parse(parts: &Parts<R>, input: &mut ParseStream<'_>, budget: u8) -> Result<(), ParseError> {
+        if input.cursor.eat(Terminal::Literal) {
             return Ok(());
         }
-        if cursor.eat(Terminal::Sign('-')) {
-            return unit(cursor.expect(Terminal::Int));
+        if input.cursor.eat(Terminal::Sign('-')) {
+            return unit(input.cursor.expect(Terminal::Int));
         }
-        if cursor.eat(Terminal::Truth) {
+        if input.cursor.eat(Terminal::Truth) {
             return Ok(());
         }
-        unit(nested::<Parts<R>, ExprInside>(parts, cursor, budget, Bracket::Curly))
+        unit(nested::<Parts<R>, ExprInside>(parts, input, budget, Bracket::Curly))
     }
 }
 
@@ -199,15 +199,15 @@ impl<R: Inside> Production<Parts<R>> for Constant {
 #[tactic(auto, unfolding(educe_grammar::proofs::Opened::rules))]
 fn binding<R: Inside>(
     parts: &Parts<R>,
-    cursor: &mut Cursor<'_>,
+    input: &mut ParseStream<'_>,
     budget: u8,
 ) -> Result<AngleArg, ParseError>
     requires { R.nests parts.now.inside (budget + 1) }
-    ensures { Gives (read budget (made spec.binding_of (both names.name (lone 61 61 (part types)))) cursor.old) result cursor.new }
+    ensures { Gives (read budget (made spec.binding_of (both names.name (lone 61 61 (part types)))) input.old) result input.new }
 {
-    let name = name(parts.alloc, cursor)?;
-    let name = terminated(name, cursor.skip_lone('=', '='))?;
-    let (name, ty) = pair(name, parts.ty(cursor, budget))?;
+    let name = name(parts.alloc, input)?;
+    let name = terminated(name, input.cursor.skip_lone('=', '='))?;
+    let (name, ty) = pair(name, parts.ty(input, budget))?;
     Ok(AngleArg::Binding(name, ty))
 }
 
@@ -224,20 +224,20 @@ impl<R: Inside> Production<Parts<R>> for GenericArg {
     #[tactic(auto, using(educe_grammar::proofs::Copied::constant_copied), unfolding(educe_grammar::proofs::Opened::rules, educe_grammar::specs::Types::angle_arg))]
     fn parse(
         parts: &Parts<R>,
-        cursor: &mut Cursor<'_>,
+        input: &mut ParseStream<'_>,
         budget: u8,
     ) -> Result<AngleArg, ParseError> {
-        if cursor.sees(Terminal::Lifetime) {
-            return Ok(AngleArg::Lifetime(lifetime(parts.alloc, cursor)?));
+        if input.cursor.sees(Terminal::Lifetime) {
+            return Ok(AngleArg::Lifetime(lifetime(parts.alloc, input)?));
         }
-        if at_constant(cursor) {
-            let (_, tokens) = written::<Parts<R>, Constant>(parts, cursor, budget)?;
+        if at_constant(&input.cursor) {
+            let (_, tokens) = written::<Parts<R>, Constant>(parts, input, budget)?;
             return Ok(AngleArg::Constant(tokens));
         }
-        if at_binding(cursor) {
-            return binding(parts, cursor, budget);
+        if at_binding(&input.cursor) {
+            return binding(parts, input, budget);
         }
-        Ok(AngleArg::Plain(parts.ty(cursor, budget)?))
+        Ok(AngleArg::Plain(parts.ty(input, budget)?))
     }
 }
 
@@ -245,63 +245,63 @@ impl<R: Inside> Production<Parts<R>> for GenericArg {
 #[tactic(auto, unfolding(educe_grammar::proofs::Opened::rules, educe_grammar::specs::Types::angle_args))]
 pub fn angle_args<R: Inside>(
     parts: &Parts<R>,
-    cursor: &mut Cursor<'_>,
+    input: &mut ParseStream<'_>,
     budget: u8,
 ) -> Result<AngleArgs, ParseError>
     requires { R.nests parts.now.inside budget }
-    ensures { Gives (read budget spec.angle_args cursor.old) result cursor.new }
+    ensures { Gives (read budget spec.angle_args input.old) result input.new }
 {
-    in_angles::<Parts<R>, GenericArg>(parts, cursor, budget)
+    in_angles::<Parts<R>, GenericArg>(parts, input, budget)
 }
 
 /// The type behind `->`, where there is one (Rust Reference, Function pointer types).
 #[tactic(auto, unfolding(educe_grammar::proofs::Opened::rules))]
 pub fn output<R: Inside>(
     parts: &Parts<R>,
-    cursor: &mut Cursor<'_>,
+    input: &mut ParseStream<'_>,
     budget: u8,
 ) -> Result<Option<Typed>, ParseError>
     requires { R.nests parts.now.inside budget }
-    ensures { Gives (read budget (optional at_arrow (arrow (part plains))) cursor.old) result cursor.new }
+    ensures { Gives (read budget (optional at_arrow (arrow (part plains))) input.old) result input.new }
 {
-    if !cursor.begins_pair('-', '>') {
+    if !input.cursor.begins_pair('-', '>') {
         return Ok(None);
     }
-    let below = cursor.open_arrow(budget)?;
-    Ok(Some(parts.plain(cursor, below)?))
+    let below = input.cursor.open_arrow(budget)?;
+    Ok(Some(parts.plain(input, below)?))
 }
 
 /// `(A, B) -> C`
 #[tactic(auto, unfolding(educe_grammar::proofs::Opened::rules, educe_grammar::specs::Types::round_args))]
 fn round_args<R: Inside>(
     parts: &Parts<R>,
-    cursor: &mut Cursor<'_>,
+    input: &mut ParseStream<'_>,
     budget: u8,
 ) -> Result<(Types, Option<Typed>), ParseError>
     requires { R.nests parts.now.inside budget }
-    ensures { Gives (read budget spec.round_args cursor.old) result cursor.new }
+    ensures { Gives (read budget spec.round_args input.old) result input.new }
 {
-    let inputs = in_round::<Parts<R>, TypeInside>(parts, cursor, budget)?;
-    pair(inputs, output(parts, cursor, budget))
+    let inputs = in_round::<Parts<R>, TypeInside>(parts, input, budget)?;
+    pair(inputs, output(parts, input, budget))
 }
 
 /// The arguments of a segment in a type (Rust Reference, Paths in types).
 #[tactic(auto, unfolding(educe_grammar::proofs::Opened::rules, educe_grammar::specs::Types::type_args))]
 fn type_args<R: Inside>(
     parts: &Parts<R>,
-    cursor: &mut Cursor<'_>,
+    input: &mut ParseStream<'_>,
     budget: u8,
 ) -> Result<ArgsRead, ParseError>
     requires { R.nests parts.now.inside budget }
-    ensures { Gives (read budget spec.type_args cursor.old) result cursor.new }
+    ensures { Gives (read budget spec.type_args input.old) result input.new }
 {
-    if at_angle_args(cursor) {
-        cursor.eat_pair(':', ':');
-        let found = angle_args(parts, cursor, budget)?;
+    if at_angle_args(&input.cursor) {
+        input.cursor.eat_pair(':', ':');
+        let found = angle_args(parts, input, budget)?;
         return Ok((Args::Angle(found), Ending::Arguments, true));
     }
-    if cursor.opens(Bracket::Round) {
-        let (inputs, output) = round_args(parts, cursor, budget)?;
+    if input.cursor.opens(Bracket::Round) {
+        let (inputs, output) = round_args(parts, input, budget)?;
         return Ok(round_read(parts.alloc, inputs, output)?);
     }
     Ok((Args::None, Ending::Name, true))
@@ -320,11 +320,11 @@ impl<R: Inside> Production<Parts<R>> for TypeSegment {
     #[tactic(auto, unfolding(educe_grammar::proofs::Opened::rules, educe_grammar::specs::Types::type_segment))]
     fn parse(
         parts: &Parts<R>,
-        cursor: &mut Cursor<'_>,
+        input: &mut ParseStream<'_>,
         budget: u8,
     ) -> Result<SegmentRead, ParseError> {
-        let ident = segment_name(parts.alloc, cursor)?;
-        let (ident, (args, ending, may_follow)) = pair(ident, type_args(parts, cursor, budget))?;
+        let ident = segment_name(parts.alloc, input)?;
+        let (ident, (args, ending, may_follow)) = pair(ident, type_args(parts, input, budget))?;
         Ok((Segment { ident, args }, ending, may_follow))
     }
 }
@@ -333,34 +333,42 @@ impl<R: Inside> Production<Parts<R>> for TypeSegment {
 #[tactic(auto, unfolding(educe_grammar::proofs::Opened::rules, educe_grammar::specs::Types::type_segments))]
 fn type_segments<R: Inside>(
     parts: &Parts<R>,
-    cursor: &mut Cursor<'_>,
+    input: &mut ParseStream<'_>,
     budget: u8,
 ) -> Result<Seq<SegmentRead>, ParseError>
     requires { R.nests parts.now.inside budget }
-    ensures { Gives (read budget spec.type_segments cursor.old) result cursor.new }
+    ensures { Gives (read budget spec.type_segments input.old) result input.new }
 {
-    let found = path::<Parts<R>, TypeSegment>(parts, cursor, budget)?;
+    let found = path::<Parts<R>, TypeSegment>(parts, input, budget)?;
     if !may_follow(found.as_slice()) {
-        return Err(cursor.refuse());
+        return Err(input.cursor.refuse());
     }
     Ok(found)
+}
+
+/// `::`, if it comes next (Rust Reference, Paths).
+#[tactic(auto, unfolding(educe_grammar::proofs::Opened::rules))]
+pub fn skip_colons(input: &mut ParseStream<'_>) -> bool
+    ensures { (budget : ℕ) → read budget (flag at_colons colons) input.old ≡ Ok (result, input.new) }
+{
+    input.cursor.eat_pair(':', ':')
 }
 
 /// A path in a type (Rust Reference, Paths in types).
 #[tactic(auto, unfolding(educe_grammar::proofs::Opened::rules, educe_grammar::specs::Types::type_path))]
 pub fn type_path<R: Inside>(
     parts: &Parts<R>,
-    cursor: &mut Cursor<'_>,
+    input: &mut ParseStream<'_>,
     budget: u8,
 ) -> Result<(Path, Ending), ParseError>
     requires { R.nests parts.now.inside budget }
-    ensures { Gives (read budget spec.type_path cursor.old) result cursor.new }
+    ensures { Gives (read budget spec.type_path input.old) result input.new }
 {
-    let leading = cursor.eat_pair(':', ':');
-    let found = type_segments(parts, cursor, budget)?;
+    let leading = skip_colons(input);
+    let found = type_segments(parts, input, budget)?;
     let (path, ending) = path_read(parts.alloc, leading, found)?;
     if is_scope(&path) {
-        return Err(cursor.refuse());
+        return Err(input.cursor.refuse());
     }
     Ok((path, ending))
 }
@@ -377,10 +385,10 @@ impl<R: Inside> Production<Parts<R>> for TraitPath {
 
     fn parse(
         parts: &Parts<R>,
-        cursor: &mut Cursor<'_>,
+        input: &mut ParseStream<'_>,
         budget: u8,
     ) -> Result<(Path, Ending), ParseError> {
-        type_path(parts, cursor, budget)
+        type_path(parts, input, budget)
     }
 }
 
@@ -397,14 +405,14 @@ impl<R: Inside> Production<Parts<R>> for SelfAndTrait {
     #[tactic(auto, unfolding(educe_grammar::proofs::Opened::rules))]
     fn parse(
         parts: &Parts<R>,
-        cursor: &mut Cursor<'_>,
+        input: &mut ParseStream<'_>,
         budget: u8,
     ) -> Result<(Ty, SelfTrait), ParseError> {
-        let self_type = parts.ty(cursor, budget)?;
+        let self_type = parts.ty(input, budget)?;
         let word = Terminal::Word(Keyword::As);
         pair(
             self_type,
-            optional_behind::<Parts<R>, TraitPath>(parts, cursor, budget, word),
+            optional_behind::<Parts<R>, TraitPath>(parts, input, budget, word),
         )
     }
 }
@@ -413,27 +421,27 @@ impl<R: Inside> Production<Parts<R>> for SelfAndTrait {
 #[tactic(auto, unfolding(educe_grammar::proofs::Opened::rules, educe_grammar::specs::Types::qualified_self))]
 pub fn qualified_self<R: Inside>(
     parts: &Parts<R>,
-    cursor: &mut Cursor<'_>,
+    input: &mut ParseStream<'_>,
     budget: u8,
 ) -> Result<(Ty, SelfTrait), ParseError>
     requires { R.nests parts.now.inside budget }
-    ensures { Gives (read budget spec.qualified_self cursor.old) result cursor.new }
+    ensures { Gives (read budget spec.qualified_self input.old) result input.new }
 {
-    angled::<Parts<R>, SelfAndTrait>(parts, cursor, budget)
+    angled::<Parts<R>, SelfAndTrait>(parts, input, budget)
 }
 
 /// A qualified path (Rust Reference, Qualified paths).
 #[tactic(auto, unfolding(educe_grammar::proofs::Opened::rules, educe_grammar::specs::Types::qualified))]
 pub fn qualified<R: Inside>(
     parts: &Parts<R>,
-    cursor: &mut Cursor<'_>,
+    input: &mut ParseStream<'_>,
     budget: u8,
 ) -> Result<(TypeForm, Ending), ParseError>
     requires { R.nests parts.now.inside budget }
-    ensures { Gives (read budget spec.qualified cursor.old) result cursor.new }
+    ensures { Gives (read budget spec.qualified input.old) result input.new }
 {
-    let head = qualified_self(parts, cursor, budget)?;
-    let head = terminated(head, cursor.skip_pair(':', ':'))?;
-    let (head, found) = pair(head, type_segments(parts, cursor, budget))?;
+    let head = qualified_self(parts, input, budget)?;
+    let head = terminated(head, input.cursor.skip_pair(':', ':'))?;
+    let (head, found) = pair(head, type_segments(parts, input, budget))?;
     Ok(qualified_read(parts.alloc, head, found)?)
 }

@@ -1,9 +1,9 @@
 //! Bounds (Rust Reference, Trait and lifetime bounds).
-ghost use Rattle.std.specs.Prelude.{◌≡◌, IfOk, ⊤};
-ghost use Rattle.educe_grammar.specs.Combining.{flag, at_word};
+ghost use Rattle.std.specs.Prelude.{◌≡◌, ℕ, IfOk, ⊤};
+ghost use Rattle.educe_grammar.specs.Combining.{flag, sign, at_sign, at_word};
 ghost use Rattle.educe_grammar.specs.declared.terminal.Keyword.TheVariants as keyword;
 ghost use Rattle.educe_grammar.specs.Names as names;
-ghost use Rattle.educe_grammar.specs.Reads.{read};
+ghost use Rattle.educe_grammar.specs.NotedReads.{read};
 ghost use Rattle.educe_grammar.specs.Steps.{Gives};
 ghost use Rattle.educe_grammar.specs.Types as spec;
 
@@ -11,7 +11,7 @@ use crate::lookahead::BehindType;
 use crate::names::lifetime;
 use crate::paths::type_path;
 use educe_grammar::{
-    Cursor, Ending, Inside, Keyword, ParseError, Parts, Production, Terminal, in_angles, list,
+    Ending, Inside, Keyword, ParseError, ParseStream, Parts, Production, Terminal, in_angles, list,
     nested,
 };
 use educe_tokens::{Bracket, Seq, unit};
@@ -31,18 +31,26 @@ impl Production<Global> for LifetimeBound {
 
     ghost reads = { λ budget. read budget names.lifetime };
 
-    fn parse(alloc: &Global, cursor: &mut Cursor<'_>, _budget: u8) -> Result<Lifetime, ParseError> {
-        lifetime(*alloc, cursor)
+    fn parse(
+        alloc: &Global,
+        input: &mut ParseStream<'_>,
+        _budget: u8,
+    ) -> Result<Lifetime, ParseError> {
+        lifetime(*alloc, input)
     }
 }
 
 /// Lifetimes with `+` between (Rust Reference, Lifetime bounds).
 #[tactic(auto, unfolding(educe_grammar::proofs::Opened::rules, educe_grammar::specs::Types::lifetime_bounds))]
-pub fn lifetime_bounds(alloc: Global, cursor: &mut Cursor<'_>, budget: u8) -> Result<(), ParseError>
-    ensures { Gives (read budget spec.lifetime_bounds cursor.old) result cursor.new }
+pub fn lifetime_bounds(
+    alloc: Global,
+    input: &mut ParseStream<'_>,
+    budget: u8,
+) -> Result<(), ParseError>
+    ensures { Gives (read budget spec.lifetime_bounds input.old) result input.new }
 {
     let plus = Terminal::Sign('+');
-    unit(list::<Global, LifetimeBound, BehindType>(&alloc, cursor, budget, plus))
+    unit(list::<Global, LifetimeBound, BehindType>(&alloc, input, budget, plus))
 }
 
 /// A lifetime with its bounds, in `for<'a>` (Rust Reference, Higher-ranked trait bounds).
@@ -56,37 +64,37 @@ impl Production<Global> for ForLifetime {
     ghost reads = { λ budget. read budget spec.for_lifetime };
 
     #[tactic(auto, unfolding(educe_grammar::proofs::Opened::rules, educe_grammar::specs::Types::for_lifetime))]
-    fn parse(alloc: &Global, cursor: &mut Cursor<'_>, budget: u8) -> Result<(), ParseError> {
-        lifetime(*alloc, cursor)?;
-        if !cursor.eat_lone(':', ':') {
+    fn parse(alloc: &Global, input: &mut ParseStream<'_>, budget: u8) -> Result<(), ParseError> {
+        lifetime(*alloc, input)?;
+        if !input.cursor.eat_lone(':', ':') {
             return Ok(());
         }
-        lifetime_bounds(*alloc, cursor, budget)
+        lifetime_bounds(*alloc, input, budget)
     }
 }
 
 /// `for<'a>` (Rust Reference, Higher-ranked trait bounds).
 #[tactic(auto, unfolding(educe_grammar::proofs::Opened::rules, educe_grammar::specs::Types::for_all))]
-pub fn for_all(alloc: Global, cursor: &mut Cursor<'_>, budget: u8) -> Result<(), ParseError>
-    ensures { Gives (read budget spec.for_all cursor.old) result cursor.new }
+pub fn for_all(alloc: Global, input: &mut ParseStream<'_>, budget: u8) -> Result<(), ParseError>
+    ensures { Gives (read budget spec.for_all input.old) result input.new }
 {
-    unit(cursor.expect(Terminal::Word(Keyword::For)))?;
-    unit(in_angles::<Global, ForLifetime>(&alloc, cursor, budget))
+    unit(input.cursor.expect(Terminal::Word(Keyword::For)))?;
+    unit(in_angles::<Global, ForLifetime>(&alloc, input, budget))
 }
 
 /// `for<'a>`, where it comes next.
 #[tactic(auto, unfolding(educe_grammar::proofs::Opened::rules))]
 pub fn optional_for_all(
     alloc: Global,
-    cursor: &mut Cursor<'_>,
+    input: &mut ParseStream<'_>,
     budget: u8,
 ) -> Result<bool, ParseError>
-    ensures { Gives (read budget (flag (at_word keyword.For) spec.for_all) cursor.old) result cursor.new }
+    ensures { Gives (read budget (flag (at_word keyword.For) spec.for_all) input.old) result input.new }
 {
-    if !cursor.sees(Terminal::Word(Keyword::For)) {
+    if !input.cursor.sees(Terminal::Word(Keyword::For)) {
         return Ok(false);
     }
-    for_all(alloc, cursor, budget)?;
+    for_all(alloc, input, budget)?;
     Ok(true)
 }
 
@@ -103,6 +111,14 @@ pub fn bound_paths(alloc: Global, found: Seq<BoundRead>) -> Result<Paths, AllocE
     Ok(paths)
 }
 
+/// `?`, if it comes next (Rust Reference, Trait and lifetime bounds).
+#[tactic(auto, unfolding(educe_grammar::proofs::Opened::rules))]
+fn skip_question(input: &mut ParseStream<'_>) -> bool
+    ensures { (budget : ℕ) → read budget (flag (at_sign 63) (sign 63)) input.old ≡ Ok (result, input.new) }
+{
+    input.cursor.eat(Terminal::Sign('?'))
+}
+
 /// `?`, `for<'a>` and a path (Rust Reference, Trait and lifetime bounds).
 struct BoundPath;
 
@@ -116,12 +132,12 @@ impl<R: Inside> Production<Parts<R>> for BoundPath {
     #[tactic(auto, unfolding(educe_grammar::proofs::Opened::rules, educe_grammar::specs::Types::bound_path))]
     fn parse(
         parts: &Parts<R>,
-        cursor: &mut Cursor<'_>,
+        input: &mut ParseStream<'_>,
         budget: u8,
     ) -> Result<(Path, Ending), ParseError> {
-        cursor.eat(Terminal::Sign('?'));
-        optional_for_all(parts.alloc, cursor, budget)?;
-        type_path(parts, cursor, budget)
+        skip_question(input);
+        optional_for_all(parts.alloc, input, budget)?;
+        type_path(parts, input, budget)
     }
 }
 
@@ -138,17 +154,17 @@ impl<R: Inside> Production<Parts<R>> for Bound {
     #[tactic(auto, unfolding(educe_grammar::proofs::Opened::rules, educe_grammar::specs::Types::bound, educe_grammar::specs::Names::lifetime))]
     fn parse(
         parts: &Parts<R>,
-        cursor: &mut Cursor<'_>,
+        input: &mut ParseStream<'_>,
         budget: u8,
     ) -> Result<BoundRead, ParseError> {
-        if cursor.eat(Terminal::Lifetime) {
+        if input.cursor.eat(Terminal::Lifetime) {
             return Ok((None, Ending::Closed));
         }
-        if cursor.opens(Bracket::Round) {
-            let (path, _) = nested::<Parts<R>, BoundPath>(parts, cursor, budget, Bracket::Round)?;
+        if input.cursor.opens(Bracket::Round) {
+            let (path, _) = nested::<Parts<R>, BoundPath>(parts, input, budget, Bracket::Round)?;
             return Ok((Some(path), Ending::Closed));
         }
-        let (path, ending) = BoundPath::parse(parts, cursor, budget)?;
+        let (path, ending) = BoundPath::parse(parts, input, budget)?;
         Ok((Some(path), ending))
     }
 }
@@ -157,11 +173,11 @@ impl<R: Inside> Production<Parts<R>> for Bound {
 #[tactic(auto, unfolding(educe_grammar::proofs::Opened::rules, educe_grammar::specs::Types::bounds))]
 pub fn bounds<R: Inside>(
     parts: &Parts<R>,
-    cursor: &mut Cursor<'_>,
+    input: &mut ParseStream<'_>,
     budget: u8,
 ) -> Result<Seq<BoundRead>, ParseError>
     requires { R.nests parts.now.inside budget }
-    ensures { Gives (read budget spec.bounds cursor.old) result cursor.new }
+    ensures { Gives (read budget spec.bounds input.old) result input.new }
 {
-    list::<Parts<R>, Bound, BehindType>(parts, cursor, budget, Terminal::Sign('+'))
+    list::<Parts<R>, Bound, BehindType>(parts, input, budget, Terminal::Sign('+'))
 }

@@ -5,7 +5,7 @@ ghost use Rattle.educe_grammar.specs.declared.ending.Ending.TheVariants.{Closed}
 ghost use Rattle.educe_tokens.specs.Bracket.TheVariants.{Round};
 ghost use Rattle.educe_grammar.specs.Ahead.{one, stop};
 ghost use Rattle.educe_grammar.specs.Combining.{optional, skipping, flag, commas, sign, word, at, at_angle, at_sign, at_word};
-ghost use Rattle.educe_grammar.specs.Reads.{read};
+ghost use Rattle.educe_grammar.specs.NotedReads.{read};
 ghost use Rattle.educe_grammar.specs.Rules.{types, exprs, token, empty, both, either, made, part};
 ghost use Rattle.educe_grammar.specs.Steps.{Gives};
 ghost use Rattle.educe_grammar.specs.Types as spec;
@@ -14,8 +14,8 @@ ghost use Rattle.educe_grammar.specs.declared.terminal.Terminal.TheVariants as t
 
 use crate::lookahead::{at_fn, at_fn_param};
 use educe_grammar::{
-    Cursor, Ending, ExprInside, Inside, Keyword, ParseError, Parts, Production, RoundEnd, Terminal,
-    TypeInside, Typed, in_round, list, nested, optional_behind, written,
+    Ending, ExprInside, Inside, Keyword, ParseError, ParseStream, Parts, Production, RoundEnd,
+    Terminal, TypeInside, Typed, in_round, list, nested, optional_behind, written,
 };
 use educe_parser_paths::{
     Bound, BoundRead, bound_paths, bounds, optional_for_all, output, qualified, skip_lifetime,
@@ -56,32 +56,32 @@ fn fn_of(alloc: Global, params: Types, output: Option<Typed>) -> Result<FormRead
 
 /// `unsafe`, if it comes next (Rust Reference, Function pointer types).
 #[tactic(auto, unfolding(educe_grammar::proofs::Opened::rules))]
-fn skip_unsafe(cursor: &mut Cursor<'_>) -> bool
-    ensures { (budget : ℕ) → read budget (flag (at_word keyword.Unsafe) (word keyword.Unsafe)) cursor.old ≡ Ok (result, cursor.new) }
+fn skip_unsafe(input: &mut ParseStream<'_>) -> bool
+    ensures { (budget : ℕ) → read budget (flag (at_word keyword.Unsafe) (word keyword.Unsafe)) input.old ≡ Ok (result, input.new) }
 {
-    cursor.eat(Terminal::Word(Keyword::Unsafe))
+    input.cursor.eat(Terminal::Word(Keyword::Unsafe))
 }
 
 /// `extern "C"`, if it comes next (Rust Reference, Function pointer types).
 #[tactic(auto, unfolding(educe_grammar::proofs::Opened::rules))]
-fn skip_abi(cursor: &mut Cursor<'_>) -> bool
-    ensures { (budget : ℕ) → read budget (flag (at_word keyword.Extern) (both (word keyword.Extern) (flag (at (one terminal.Str)) (token terminal.Str)))) cursor.old ≡ Ok (result, cursor.new) }
+fn skip_abi(input: &mut ParseStream<'_>) -> bool
+    ensures { (budget : ℕ) → read budget (flag (at_word keyword.Extern) (both (word keyword.Extern) (flag (at (one terminal.Str)) (token terminal.Str)))) input.old ≡ Ok (result, input.new) }
 {
-    if !cursor.eat(Terminal::Word(Keyword::Extern)) {
+    if !input.cursor.eat(Terminal::Word(Keyword::Extern)) {
         return false;
     }
-    cursor.eat(Terminal::Str);
+    input.cursor.eat(Terminal::Str);
     true
 }
 
 /// What stands before `fn` (Rust Reference, Function pointer types).
 #[tactic(auto, unfolding(educe_grammar::proofs::Opened::rules, educe_grammar::specs::Types::fn_qualifiers))]
-fn fn_qualifiers(alloc: Global, cursor: &mut Cursor<'_>, budget: u8) -> Result<(), ParseError>
-    ensures { Gives (read budget spec.fn_qualifiers cursor.old) result cursor.new }
+fn fn_qualifiers(alloc: Global, input: &mut ParseStream<'_>, budget: u8) -> Result<(), ParseError>
+    ensures { Gives (read budget spec.fn_qualifiers input.old) result input.new }
 {
-    optional_for_all(alloc, cursor, budget)?;
-    skip_unsafe(cursor);
-    skip_abi(cursor);
+    optional_for_all(alloc, input, budget)?;
+    skip_unsafe(input);
+    skip_abi(input);
     Ok(())
 }
 
@@ -96,8 +96,12 @@ impl<R: Inside> Production<Parts<R>> for CommaTypes {
     ghost reads = { λ budget. read budget (commas (at (stop Round)) (part types)) };
 
     #[tactic(auto, unfolding(educe_grammar::proofs::Opened::rules))]
-    fn parse(parts: &Parts<R>, cursor: &mut Cursor<'_>, budget: u8) -> Result<Types, ParseError> {
-        list::<Parts<R>, TypeInside, RoundEnd>(parts, cursor, budget, Terminal::Sign(','))
+    fn parse(
+        parts: &Parts<R>,
+        input: &mut ParseStream<'_>,
+        budget: u8,
+    ) -> Result<Types, ParseError> {
+        list::<Parts<R>, TypeInside, RoundEnd>(parts, input, budget, Terminal::Sign(','))
     }
 }
 
@@ -105,17 +109,17 @@ impl<R: Inside> Production<Parts<R>> for CommaTypes {
 #[tactic(auto, unfolding(educe_grammar::proofs::Opened::rules))]
 fn some_types<R: Inside>(
     parts: &Parts<R>,
-    cursor: &mut Cursor<'_>,
+    input: &mut ParseStream<'_>,
     budget: u8,
 ) -> Result<(Ty, Option<Types>), ParseError>
     requires { R.nests parts.now.inside (budget + 1) }
-    ensures { Gives (read budget (both (part types) (optional (at_sign 44) (skipping (sign 44) (commas (at (stop Round)) (part types))))) cursor.old) result cursor.new }
+    ensures { Gives (read budget (both (part types) (optional (at_sign 44) (skipping (sign 44) (commas (at (stop Round)) (part types))))) input.old) result input.new }
 {
-    let first = parts.ty(cursor, budget)?;
+    let first = parts.ty(input, budget)?;
     let comma = Terminal::Sign(',');
     pair(
         first,
-        optional_behind::<Parts<R>, CommaTypes>(parts, cursor, budget, comma),
+        optional_behind::<Parts<R>, CommaTypes>(parts, input, budget, comma),
     )
 }
 
@@ -134,13 +138,13 @@ impl<R: Inside> Production<Parts<R>> for RoundInside {
     #[tactic(auto, unfolding(educe_grammar::proofs::Opened::rules))]
     fn parse(
         parts: &Parts<R>,
-        cursor: &mut Cursor<'_>,
+        input: &mut ParseStream<'_>,
         budget: u8,
     ) -> Result<FormRead, ParseError> {
-        if cursor.closes(Bracket::Round) {
+        if input.cursor.closes(Bracket::Round) {
             return Ok((TypeForm::Tuple(Seq::new(parts.alloc)), Ending::Closed));
         }
-        let (first, more) = some_types(parts, cursor, budget)?;
+        let (first, more) = some_types(parts, input, budget)?;
         Ok(round_of(parts.alloc, first, more)?)
     }
 }
@@ -149,29 +153,29 @@ impl<R: Inside> Production<Parts<R>> for RoundInside {
 #[tactic(auto, unfolding(educe_grammar::proofs::Opened::rules, educe_grammar::specs::Types::round_form))]
 fn round_form<R: Inside>(
     parts: &Parts<R>,
-    cursor: &mut Cursor<'_>,
+    input: &mut ParseStream<'_>,
     budget: u8,
 ) -> Result<FormRead, ParseError>
     requires { R.nests parts.now.inside budget }
-    ensures { Gives (read budget spec.round_form cursor.old) result cursor.new }
+    ensures { Gives (read budget spec.round_form input.old) result input.new }
 {
-    nested::<Parts<R>, RoundInside>(parts, cursor, budget, Bracket::Round)
+    nested::<Parts<R>, RoundInside>(parts, input, budget, Bracket::Round)
 }
 
 /// `&'a mut` and a type (Rust Reference, Pointer types).
 #[tactic(auto, unfolding(educe_grammar::proofs::Opened::rules, educe_grammar::specs::Types::reference))]
 fn reference<R: Inside>(
     parts: &Parts<R>,
-    cursor: &mut Cursor<'_>,
+    input: &mut ParseStream<'_>,
     budget: u8,
 ) -> Result<FormRead, ParseError>
     requires { R.nests parts.now.inside budget }
-    ensures { Gives (read budget spec.reference cursor.old) result cursor.new }
+    ensures { Gives (read budget spec.reference input.old) result input.new }
 {
-    let below = cursor.open_under(budget, Terminal::Sign('&'))?;
-    skip_lifetime(cursor);
-    let mutable = cursor.eat(Terminal::Word(Keyword::Mut));
-    let (target, ending) = parts.plain(cursor, below)?;
+    let below = input.cursor.open_under(budget, Terminal::Sign('&'))?;
+    skip_lifetime(input);
+    let mutable = input.cursor.eat(Terminal::Word(Keyword::Mut));
+    let (target, ending) = parts.plain(input, below)?;
     let target = Boxed::new(parts.alloc, target)?;
     Ok((TypeForm::Reference(mutable, target), ending))
 }
@@ -180,15 +184,15 @@ fn reference<R: Inside>(
 #[tactic(auto, unfolding(educe_grammar::proofs::Opened::rules, educe_grammar::specs::Types::pointer))]
 fn pointer<R: Inside>(
     parts: &Parts<R>,
-    cursor: &mut Cursor<'_>,
+    input: &mut ParseStream<'_>,
     budget: u8,
 ) -> Result<FormRead, ParseError>
     requires { R.nests parts.now.inside budget }
-    ensures { Gives (read budget spec.pointer cursor.old) result cursor.new }
+    ensures { Gives (read budget spec.pointer input.old) result input.new }
 {
-    let below = cursor.open_under(budget, Terminal::Sign('*'))?;
-    cursor.expect(Terminal::PointerWord)?;
-    let (target, ending) = parts.plain(cursor, below)?;
+    let below = input.cursor.open_under(budget, Terminal::Sign('*'))?;
+    input.cursor.expect(Terminal::PointerWord)?;
+    let (target, ending) = parts.plain(input, below)?;
     Ok((TypeForm::Pointer(Boxed::new(parts.alloc, target)?), ending))
 }
 
@@ -216,14 +220,14 @@ impl<R: Inside> Production<Parts<R>> for SquareInside {
     #[tactic(auto, unfolding(educe_grammar::proofs::Opened::rules))]
     fn parse(
         parts: &Parts<R>,
-        cursor: &mut Cursor<'_>,
+        input: &mut ParseStream<'_>,
         budget: u8,
     ) -> Result<(Ty, Option<Expr>), ParseError> {
-        let item = parts.ty(cursor, budget)?;
+        let item = parts.ty(input, budget)?;
         let semicolon = Terminal::Sign(';');
         pair(
             item,
-            optional_behind::<Parts<R>, ExprInside>(parts, cursor, budget, semicolon),
+            optional_behind::<Parts<R>, ExprInside>(parts, input, budget, semicolon),
         )
     }
 }
@@ -232,13 +236,13 @@ impl<R: Inside> Production<Parts<R>> for SquareInside {
 #[tactic(auto, unfolding(educe_grammar::proofs::Opened::rules, educe_grammar::specs::Types::square_form))]
 fn square_form<R: Inside>(
     parts: &Parts<R>,
-    cursor: &mut Cursor<'_>,
+    input: &mut ParseStream<'_>,
     budget: u8,
 ) -> Result<FormRead, ParseError>
     requires { R.nests parts.now.inside budget }
-    ensures { Gives (read budget spec.square_form cursor.old) result cursor.new }
+    ensures { Gives (read budget spec.square_form input.old) result input.new }
 {
-    let (item, length) = nested::<Parts<R>, SquareInside>(parts, cursor, budget, Bracket::Square)?;
+    let (item, length) = nested::<Parts<R>, SquareInside>(parts, input, budget, Bracket::Square)?;
     Ok(square_of(parts.alloc, item, length)?)
 }
 
@@ -253,12 +257,12 @@ impl<R: Inside> Production<Parts<R>> for FnParam {
     ghost reads = { λ budget. read budget spec.fn_param };
 
     #[tactic(auto, unfolding(educe_grammar::proofs::Opened::rules, educe_grammar::specs::Types::fn_param))]
-    fn parse(parts: &Parts<R>, cursor: &mut Cursor<'_>, budget: u8) -> Result<Ty, ParseError> {
-        if at_fn_param(cursor) {
-            cursor.expect(Terminal::NameOrUnderscore)?;
-            cursor.skip_lone(':', ':')?;
+    fn parse(parts: &Parts<R>, input: &mut ParseStream<'_>, budget: u8) -> Result<Ty, ParseError> {
+        if at_fn_param(&input.cursor) {
+            input.cursor.expect(Terminal::NameOrUnderscore)?;
+            input.cursor.skip_lone(':', ':')?;
         }
-        parts.ty(cursor, budget)
+        parts.ty(input, budget)
     }
 }
 
@@ -266,16 +270,16 @@ impl<R: Inside> Production<Parts<R>> for FnParam {
 #[tactic(auto, unfolding(educe_grammar::proofs::Opened::rules, educe_grammar::specs::Types::fn_pointer))]
 fn fn_pointer<R: Inside>(
     parts: &Parts<R>,
-    cursor: &mut Cursor<'_>,
+    input: &mut ParseStream<'_>,
     budget: u8,
 ) -> Result<FormRead, ParseError>
     requires { R.nests parts.now.inside budget }
-    ensures { Gives (read budget spec.fn_pointer cursor.old) result cursor.new }
+    ensures { Gives (read budget spec.fn_pointer input.old) result input.new }
 {
-    fn_qualifiers(parts.alloc, cursor, budget)?;
-    cursor.expect(Terminal::Word(Keyword::Fn))?;
-    let params = in_round::<Parts<R>, FnParam>(parts, cursor, budget)?;
-    let (params, output) = pair(params, output(parts, cursor, budget))?;
+    fn_qualifiers(parts.alloc, input, budget)?;
+    input.cursor.expect(Terminal::Word(Keyword::Fn))?;
+    let params = in_round::<Parts<R>, FnParam>(parts, input, budget)?;
+    let (params, output) = pair(params, output(parts, input, budget))?;
     Ok(fn_of(parts.alloc, params, output)?)
 }
 
@@ -284,19 +288,19 @@ fn fn_pointer<R: Inside>(
 #[tactic(auto, unfolding(educe_grammar::proofs::Opened::rules))]
 fn named_form<R: Inside>(
     parts: &Parts<R>,
-    cursor: &mut Cursor<'_>,
+    input: &mut ParseStream<'_>,
     budget: u8,
 ) -> Result<FormRead, ParseError>
     requires { R.nests parts.now.inside budget }
-    ensures { Gives (read budget (either at_angle spec.qualified (either spec.at_fn spec.fn_pointer (made spec.path_form spec.type_path))) cursor.old) result cursor.new }
+    ensures { Gives (read budget (either at_angle spec.qualified (either spec.at_fn spec.fn_pointer (made spec.path_form spec.type_path))) input.old) result input.new }
 {
-    if cursor.begins_lone('<', '=') {
-        return qualified(parts, cursor, budget);
+    if input.cursor.begins_lone('<', '=') {
+        return qualified(parts, input, budget);
     }
-    if at_fn(cursor) {
-        return fn_pointer(parts, cursor, budget);
+    if at_fn(&input.cursor) {
+        return fn_pointer(parts, input, budget);
     }
-    let (path, ending) = type_path(parts, cursor, budget)?;
+    let (path, ending) = type_path(parts, input, budget)?;
     Ok((TypeForm::Path(None, path), ending))
 }
 
@@ -304,28 +308,28 @@ fn named_form<R: Inside>(
 #[tactic(auto, unfolding(educe_grammar::proofs::Opened::rules, educe_grammar::specs::Types::plain_form))]
 fn plain_form<R: Inside>(
     parts: &Parts<R>,
-    cursor: &mut Cursor<'_>,
+    input: &mut ParseStream<'_>,
     budget: u8,
 ) -> Result<FormRead, ParseError>
     requires { R.nests parts.now.inside budget }
-    ensures { Gives (read budget spec.plain_form cursor.old) result cursor.new }
+    ensures { Gives (read budget spec.plain_form input.old) result input.new }
 {
-    if cursor.opens(Bracket::Round) {
-        return round_form(parts, cursor, budget);
+    if input.cursor.opens(Bracket::Round) {
+        return round_form(parts, input, budget);
     }
-    if cursor.eat(Terminal::Sign('!')) {
+    if input.cursor.eat(Terminal::Sign('!')) {
         return Ok((TypeForm::Never, Ending::Closed));
     }
-    if cursor.sees(Terminal::Sign('&')) {
-        return reference(parts, cursor, budget);
+    if input.cursor.sees(Terminal::Sign('&')) {
+        return reference(parts, input, budget);
     }
-    if cursor.sees(Terminal::Sign('*')) {
-        return pointer(parts, cursor, budget);
+    if input.cursor.sees(Terminal::Sign('*')) {
+        return pointer(parts, input, budget);
     }
-    if cursor.opens(Bracket::Square) {
-        return square_form(parts, cursor, budget);
+    if input.cursor.opens(Bracket::Square) {
+        return square_form(parts, input, budget);
     }
-    named_form(parts, cursor, budget)
+    named_form(parts, input, budget)
 }
 
 /// `dyn` with this bound.
@@ -351,14 +355,16 @@ impl<R: Inside> Production<Parts<R>> for OneBoundForm {
     #[tactic(auto, unfolding(educe_grammar::proofs::Opened::rules, educe_grammar::specs::Types::one_bound_form))]
     fn parse(
         parts: &Parts<R>,
-        cursor: &mut Cursor<'_>,
+        input: &mut ParseStream<'_>,
         budget: u8,
     ) -> Result<FormRead, ParseError> {
-        if !cursor.sees(Terminal::Word(Keyword::Dyn)) {
-            return plain_form(parts, cursor, budget);
+        if !input.cursor.sees(Terminal::Word(Keyword::Dyn)) {
+            return plain_form(parts, input, budget);
         }
-        let below = cursor.open_under(budget, Terminal::Word(Keyword::Dyn))?;
-        let found = Bound::parse(parts, cursor, below)?;
+        let below = input
+            .cursor
+            .open_under(budget, Terminal::Word(Keyword::Dyn))?;
+        let found = Bound::parse(parts, input, below)?;
         Ok(one_bound_object(parts.alloc, found)?)
     }
 }
@@ -376,16 +382,18 @@ impl<R: Inside> Production<Parts<R>> for AnyBoundsForm {
     #[tactic(auto, unfolding(educe_grammar::proofs::Opened::rules, educe_grammar::specs::Types::any_bounds_form))]
     fn parse(
         parts: &Parts<R>,
-        cursor: &mut Cursor<'_>,
+        input: &mut ParseStream<'_>,
         budget: u8,
     ) -> Result<FormRead, ParseError> {
-        if !cursor.sees(Terminal::Word(Keyword::Dyn)) {
-            return plain_form(parts, cursor, budget);
+        if !input.cursor.sees(Terminal::Word(Keyword::Dyn)) {
+            return plain_form(parts, input, budget);
         }
-        let below = cursor.open_under(budget, Terminal::Word(Keyword::Dyn))?;
-        let found = bounds(parts, cursor, below)?;
+        let below = input
+            .cursor
+            .open_under(budget, Terminal::Word(Keyword::Dyn))?;
+        let found = bounds(parts, input, below)?;
         if found.len() == 0 {
-            return Err(cursor.refuse());
+            return Err(input.cursor.refuse());
         }
         let paths = bound_paths(parts.alloc, found)?;
         Ok((TypeForm::TraitObject(paths), Ending::Closed))
@@ -396,13 +404,13 @@ impl<R: Inside> Production<Parts<R>> for AnyBoundsForm {
 #[tactic(auto, using(educe_grammar::proofs::Copied::one_bound_form_copied), unfolding(educe_grammar::proofs::Opened::rules, educe_grammar::specs::Types::plain_type))]
 pub fn plain_type<R: Inside>(
     parts: &Parts<R>,
-    cursor: &mut Cursor<'_>,
+    input: &mut ParseStream<'_>,
     budget: u8,
 ) -> Result<Typed, ParseError>
     requires { R.nests parts.now.inside budget }
-    ensures { Gives (read budget spec.plain_type cursor.old) result cursor.new }
+    ensures { Gives (read budget spec.plain_type input.old) result input.new }
 {
-    let ((form, ending), written) = written::<Parts<R>, OneBoundForm>(parts, cursor, budget)?;
+    let ((form, ending), written) = written::<Parts<R>, OneBoundForm>(parts, input, budget)?;
     Ok((Ty { form, written }, ending))
 }
 
@@ -410,12 +418,12 @@ pub fn plain_type<R: Inside>(
 #[tactic(auto, using(educe_grammar::proofs::Copied::any_bounds_form_copied), unfolding(educe_grammar::proofs::Opened::rules, educe_grammar::specs::Types::any_type))]
 pub fn any_type<R: Inside>(
     parts: &Parts<R>,
-    cursor: &mut Cursor<'_>,
+    input: &mut ParseStream<'_>,
     budget: u8,
 ) -> Result<Ty, ParseError>
     requires { R.nests parts.now.inside budget }
-    ensures { Gives (read budget spec.any_type cursor.old) result cursor.new }
+    ensures { Gives (read budget spec.any_type input.old) result input.new }
 {
-    let ((form, _), written) = written::<Parts<R>, AnyBoundsForm>(parts, cursor, budget)?;
+    let ((form, _), written) = written::<Parts<R>, AnyBoundsForm>(parts, input, budget)?;
     Ok(Ty { form, written })
 }

@@ -34,7 +34,7 @@ use Rattle.educe_grammar.proofs.TokenKinds.{sign_token}
 use Rattle.educe_grammar.proofs.Unrolling.{parts_roll}
 use Rattle.educe_syntax_self.specs.Heads.{is_a, is_argument, ends_arguments, is_arguments, is_head, IsHead}
 use Rattle.educe_syntax_self.proofs.Copyable.{set_copied}
-use Rattle.educe_syntax_self.proofs.SameTokens.{IsNamed}
+use Rattle.educe_syntax_self.proofs.Starts.{IsNamed}
 
 -- ---- names
 
@@ -260,12 +260,18 @@ looks (t ∷ a ∷ b ∷ c ∷ d ∷ more) h =
     let both = and_parts (is_a terminal.Name (lexeme_of t)) (is_arguments (lexemes (a ∷ b ∷ c ∷ d ∷ more))) h in
     Head.applied t a b c d more both.0 (opened a b c d more both.1)
 
--- it begins with a name
-head_named : (head : Tokens) → Head head → IsNamed head
-head_named head (Head.alone t is) = record { first = t; rest = []; is = refl; named = name_ident t is; other = name_no_for t is }
-head_named head (Head.applied t a b c d more is h) = record { first = t; rest = a ∷ b ∷ c ∷ d ∷ more; is = refl; named = name_ident t is; other = name_no_for t is }
+-- It begins with a name.
+pub record BeginsNamed (head : Tokens) : Type 0 where
+  pub first : Token
+  pub rest : Tokens
+  pub is : head ≡ first ∷ rest
+  pub named : IsNamed first
 
-pub named : (head : Tokens) → IsHead head → IsNamed head
+head_named : (head : Tokens) → Head head → BeginsNamed head
+head_named head (Head.alone t is) = record { first = t; rest = []; is = refl; named = record { named = name_ident t is; other = name_no_for t is } }
+head_named head (Head.applied t a b c d more is h) = record { first = t; rest = a ∷ b ∷ c ∷ d ∷ more; is = refl; named = record { named = name_ident t is; other = name_no_for t is } }
+
+pub named : (head : Tokens) → IsHead head → BeginsNamed head
 named head h = head_named head (looks head h)
 
 -- it is read

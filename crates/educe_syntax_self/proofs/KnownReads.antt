@@ -1,40 +1,107 @@
--- Tokens that have a value are read to that value, unless memory fails.
-use Rattle.std.proofs.Common.{◌≡◌, ℕ, refl, sym, subst, ◌∙◌, Result, Ok, Err, arith}
-use Rattle.std.specs.Prelude.{IfOk, IfErr}
+-- Tokens that have a value are read to that value, unless memory fails, and what is noted of them is known.
+use Rattle.std.proofs.Common.{◌≡◌, ◌≢◌, ℕ, List, [], ◌∷◌, refl, sym, ap, subst, ◌∙◌, Result, Ok, Err, Option, Some, None, arith}
+use Rattle.std.specs.Prelude.{IfOk, IfErr, unwrap_or}
 use Rattle.std.specs.declared.alloc.AllocError.{AllocError}
 use Rattle.educe_grammar.specs.declared.parse_error.ParseError.{ParseError}
 use Rattle.educe_grammar.specs.declared.parse_error.ParseError.TheVariants.{Memory, Syntax, TooDeep}
+use Rattle.educe_grammar.specs.declared.parse_stream.ParseStream.{ParseStream}
+use Rattle.educe_grammar.specs.declared.parse_stream.SelfPath.{SelfPath}
 use Rattle.educe_grammar.specs.Ahead.{sees_any, sees, at_end, begins_lone}
-use Rattle.educe_grammar.specs.Reads.{Reads, read}
+use Rattle.educe_grammar.specs.NotedReads.{read}
+use Rattle.educe_grammar.specs.Noting.{Noted, forget}
+use Rattle.educe_grammar.specs.Parsed.{depth_limit, IsWhole}
+use Rattle.educe_grammar.specs.Reads.{Reads}
 use Rattle.educe_grammar.specs.Rules.{Rule}
 use Rattle.educe_grammar.specs.Steps.{Tokens, Gives}
 use Rattle.educe_grammar.specs.Types.{any_type}
+use Rattle.educe_grammar.proofs.Decided.{whole_if_read}
+use Rattle.educe_grammar.proofs.Forgetting.{forget_read}
 use Rattle.educe_grammar.proofs.Knot.{known, read_whole}
 use Rattle.educe_grammar.proofs.ReadsAgain.{ReadsAgain}
 use Rattle.educe_grammar.proofs.Steps.{ok_pair}
 use Rattle.educe_grammar.proofs.TypesAgain.{again_any_type}
+use Rattle.educe_syntax_self.specs.Splicing.{noted_before, noted_in, whole_notes, notes_of}
+use Rattle.educe_syntax_self.proofs.NotedSteps.{both_same}
 
 -- a type is read to its end
 pub type_reads_again : ReadsAgain any_type
 unfolding sees_any sees at_end begins_lone
 type_reads_again budget tokens x h = read_whole any_type budget (again_any_type (known budget) budget (omega arith)) tokens x h refl
 
-module _ {A : Type 0} (g : Rule A) (again : ReadsAgain g) (budget : ℕ) (tokens : Tokens) (y : A) (is : Reads budget g tokens y) where
-  -- no other error comes
-  only_error : (e : ParseError) (new : Tokens) → Gives (read budget g tokens) (Err e) new → e ≡ Memory
-  only_error Memory new gives = refl
-  only_error (Syntax left) new gives = absurd (let read = gives (λ h. cc) in let value = again budget tokens y is in cc)
-  only_error (TooDeep left) new gives = absurd (let read = gives (λ h. cc) in let value = again budget tokens y is in cc)
+-- the tokens, of which nothing is noted yet
+abbrev pub unread : Tokens → ParseStream
+unread tokens = record { cursor = tokens; selves = [] }
 
-  pub only_memory : (result : Result A ParseError) (new : Tokens) → Gives (read budget g tokens) result new → IfErr result (λ e. e ≡ Memory)
-  only_memory (Ok x) new gives = tt
-  only_memory (Err e) new gives = only_error e new gives
+module _ {A : Type 0} (g : Rule A) (again : ReadsAgain g) (budget : ℕ) (tokens : Tokens) (y : A) (is : Reads budget g tokens y) where
+  -- what is read of them, with what is noted
+  pub read_so : (notes : List SelfPath) × (read budget g (unread tokens) ≡ Ok (y, record { cursor = []; selves = notes }))
+  read_so = step (read budget g (unread tokens)) refl (forget_read budget g (unread tokens) ∙ again budget tokens y is)
+    where
+      step : (o : Noted A) → read budget g (unread tokens) ≡ o → forget o ≡ Ok (y, []) → (notes : List SelfPath) × (read budget g (unread tokens) ≡ Ok (y, record { cursor = []; selves = notes }))
+      step (Ok p) found e = let same = ok_pair e in (p.1.selves, found ∙ (λ i. Ok (same.0 i, record { cursor = same.1 i; selves = p.1.selves })))
+      step (Err error) found e = absurd (cc)
+
+  -- the same of a stream that is these tokens
+  read_from : (s : ParseStream) → s.cursor ≡ tokens → s.selves ≡ [] → read budget g s ≡ Ok (y, record { cursor = []; selves = read_so.0 })
+  read_from s at none = ap (read budget g) (λ i. record { cursor = at i; selves = none i }) ∙ read_so.1
+
+  -- no other error comes
+  only_error : (s new : ParseStream) (e : ParseError) → s.cursor ≡ tokens → s.selves ≡ [] → Gives (read budget g s) (Err e) new → e ≡ Memory
+  only_error s new Memory at none gives = refl
+  only_error s new (Syntax left) at none gives = absurd (let read = gives (λ h. cc) in let value = read_from s at none in cc)
+  only_error s new (TooDeep left) at none gives = absurd (let read = gives (λ h. cc) in let value = read_from s at none in cc)
+
+  pub only_memory : (s new : ParseStream) (result : Result A ParseError) → s.cursor ≡ tokens → s.selves ≡ [] → Gives (read budget g s) result new → IfErr result (λ e. e ≡ Memory)
+  only_memory s new (Ok x) at none gives = tt
+  only_memory s new (Err e) at none gives = only_error s new e at none gives
 
   -- the value is the one that was known
-  read_so : (x : A) (new : Tokens) → Gives (read budget g tokens) (Ok x) new → Reads budget g tokens x
-  read_so x new gives = subst (Reads budget g tokens) (ok_pair (sym (again budget tokens y is) ∙ gives)).0 is
+  pub found_again : (s new : ParseStream) (result : Result A ParseError) (answer : Result A AllocError) → s.cursor ≡ tokens → s.selves ≡ [] → IfOk answer (λ found. result ≡ Ok found)
+      → Gives (read budget g s) result new → IfOk answer (λ found. Reads budget g tokens found)
+  found_again s new result (Ok x) at none same gives =
+      let found = subst (λ (r : Result A ParseError). Gives (read budget g s) r new) same gives in subst (Reads budget g tokens) (both_same (sym (read_from s at none) ∙ found)).0 is
+  found_again s new result (Err e) at none same gives = tt
 
-  pub found_again : (result : Result A ParseError) (answer : Result A AllocError) (new : Tokens) → IfOk answer (λ found. result ≡ Ok found) → Gives (read budget g tokens) result new
-      → IfOk answer (λ found. Reads budget g tokens found)
-  found_again result (Ok x) new same gives = read_so x new (subst (λ (r : Result A ParseError). Gives (read budget g tokens) r new) same gives)
-  found_again result (Err e) new same gives = tt
+-- what is noted of a whole list
+pub notes_known : {A : Type 0} (g : Rule A) → ReadsAgain g → (tokens : Tokens) (x : A) → IsWhole g tokens x → read depth_limit g (unread tokens) ≡ Ok (x, record { cursor = []; selves = notes_of g tokens })
+unfolding whole_notes at_end read_so
+notes_known g again tokens x is =
+    let so = read_so g again depth_limit tokens x is in so.1 ∙ (λ i. Ok (x, record { cursor = []; selves = unwrap_or (sym (ap noted_in so.1) i) [] }))
+
+-- and where it is read
+pub notes_found : {A : Type 0} (g : Rule A) → ReadsAgain g → (tokens : Tokens) (y : A) → IsWhole g tokens y → (s new : ParseStream) (result : Result A ParseError) (x : A) → s.cursor ≡ tokens → s.selves ≡ []
+    → result ≡ Ok x → Gives (read depth_limit g s) result new → new.selves ≡ notes_of g tokens
+notes_found {A = A} g again tokens y is s new result x at none same gives =
+    let found = subst (λ (r : Result A ParseError). Gives (read depth_limit g s) r new) same gives in
+    let own = ap (read depth_limit g) (λ i. record { cursor = at i; selves = none i }) ∙ notes_known g again tokens y is in
+    ap (λ (u : ParseStream). u.selves) (both_same (sym found ∙ own)).1
+
+-- ---- tokens of which it is not known whether they are read
+
+module _ {A : Type 0} (g : Rule A) (tokens : Tokens) (s new : ParseStream) (at : s.cursor ≡ tokens) (none : s.selves ≡ []) where
+  -- the stream is at these tokens
+  at_all : read depth_limit g (unread tokens) ≡ read depth_limit g s
+  at_all = ap (read depth_limit g) (λ i. record { cursor = sym at i; selves = sym none i })
+
+  -- what is noted where something is read
+  pub known_found : (result : Result A ParseError) (x : A) → result ≡ Ok x → Gives (read depth_limit g s) result new → noted_before new.cursor new.selves ≡ whole_notes g tokens
+  unfolding whole_notes
+  known_found result x same gives = sym (ap noted_in (at_all ∙ subst (λ (r : Result A ParseError). Gives (read depth_limit g s) r new) same gives))
+
+  -- where nothing is read, nothing is noted
+  pub known_none : (result : Result A ParseError) (e : ParseError) → result ≡ Err e → e ≢ Memory → Gives (read depth_limit g s) result new → None ≡ whole_notes g tokens
+  unfolding whole_notes
+  known_none result e same other gives = sym (ap noted_in (at_all ∙ subst (λ (r : Result A ParseError). Gives (read depth_limit g s) r new) same gives other))
+
+-- what is noted of a whole list has a value
+pub noted_whole : {A : Type 0} (g : Rule A) → ReadsAgain g → (tokens : Tokens) (notes : List SelfPath) → whole_notes g tokens ≡ Some notes → (x : A) × IsWhole g tokens x
+unfolding whole_notes at_end
+noted_whole {A = A} g again tokens notes is = step (read depth_limit g (unread tokens)) refl is
+  where
+    ended : (p : A × ParseStream) → read depth_limit g (unread tokens) ≡ Ok p → (left : Tokens) → p.1.cursor ≡ left → noted_before left p.1.selves ≡ Some notes → (x : A) × IsWhole g tokens x
+    ended p found [] end some = (p.0, whole_if_read g again tokens p.0 (sym (forget_read depth_limit g (unread tokens)) ∙ ap forget found ∙ (λ i. Ok (p.0, end i))))
+    ended p found (t ∷ ts) end some = absurd (cc)
+
+    step : (o : Noted A) → read depth_limit g (unread tokens) ≡ o → noted_in o ≡ Some notes → (x : A) × IsWhole g tokens x
+    step (Ok p) found some = ended p found p.1.cursor refl some
+    step (Err e) found some = absurd (cc)

@@ -1,8 +1,6 @@
 -- What the laws of visits say.
-use Rattle.std.proofs.Common.{◌≡◌, refl, suc, true, List, [], ◌∷◌}
-use Rattle.std.specs.List.{AllByRecursion, list_all}
-use Rattle.std.proofs.lemmas.Bool.{and_parts}
-use Rattle.educe_tree.specs.Params.{written_of}
+use Rattle.std.proofs.Common.{refl, suc, List, [], ◌∷◌}
+use Rattle.std.specs.List.{AllByRecursion}
 use Rattle.educe_tree.specs.declared.derive.DeriveInput.{DeriveInput}
 use Rattle.educe_tree.specs.declared.expr.ExprPath.{ExprPath}
 use Rattle.educe_tree.specs.declared.generics.GenericParam.{GenericParam}
@@ -18,23 +16,23 @@ use Rattle.educe_grammar.specs.Types.{any_type}
 use Rattle.educe_syntax_self.specs.Heads.{IsNamed, AreNamed, IsHead}
 use Rattle.educe_syntax_self.specs.Laws.{VisitLaws, DefinitionLaws}
 use Rattle.educe_syntax_self.specs.Replacing.{changes_below, Changed}
-use Rattle.educe_syntax_self.specs.Selves.{replaced, has_plain_self, have_plain_self}
+use Rattle.educe_syntax_self.specs.Splicing.{replaced_in}
 use Rattle.educe_syntax_self.specs.Visits.{MayVisit, IsVisited, MayVisitParam, MayVisitPredicate, MayVisitGenerics, IsOwnParam, IsOwnPredicate, AreOwn}
 use Rattle.educe_syntax_self.proofs.OfDefinitions as of_definitions
 use Rattle.educe_syntax_self.proofs.ReplacedReads.{replaces_reads, parts_replaced}
-use Rattle.educe_syntax_self.proofs.WholeTurns.{type_visited, path_visited}
+use Rattle.educe_syntax_self.proofs.Visiting.{type_visit, path_visit}
 
 -- what tokens become is by the rule, with one more of the budget
 pub changed_reads : {A : Type 0} (g : Rule A) (head tokens out : Tokens) (x y : A) → Changed head g tokens x out y → Reads (suc depth_limit) g out y
 changed_reads g head tokens out x y is = replaces_reads head (changes_below head (suc depth_limit)) (parts_replaced head (suc depth_limit)) g depth_limit [] tokens [] x out y is
 
-pub types_visited : (head tokens : Tokens) (x : Ty) → IsHead head → MayVisit any_type tokens x → (y : Ty) × IsVisited head any_type tokens x (replaced head tokens) y
+pub types_visited : (head tokens : Tokens) (x : Ty) → IsHead head → MayVisit any_type tokens x → (y : Ty) × IsVisited head any_type tokens x (replaced_in any_type head tokens) y
 types_visited head tokens x is_head may =
-    let v = type_visited head is_head tokens x may in (v.value, record { tokens = refl; reads = v.reads; changed = v.changed })
+    let v = type_visit head is_head tokens x may.reads in (v.value, record { tokens = refl; reads = v.reads; changed = v.changed })
 
-pub paths_visited : (head tokens : Tokens) (x : ExprPath) → IsHead head → MayVisit expr_path tokens x → (y : ExprPath) × IsVisited head expr_path tokens x (replaced head tokens) y
+pub paths_visited : (head tokens : Tokens) (x : ExprPath) → IsHead head → MayVisit expr_path tokens x → (y : ExprPath) × IsVisited head expr_path tokens x (replaced_in expr_path head tokens) y
 paths_visited head tokens x is_head may =
-    let v = path_visited head is_head tokens x may in (v.value, record { tokens = refl; reads = v.reads; changed = v.changed })
+    let v = path_visit head is_head tokens x may.reads in (v.value, record { tokens = refl; reads = v.reads; changed = v.changed })
 
 -- ---- definitions
 
@@ -50,21 +48,17 @@ pub definition_named : (tokens : Tokens) (d : DeriveInput) → IsWhole definitio
 definition_named tokens d is = let own = definition_own tokens d is in (own.name, all_named d.generics.params own.params)
 
 -- parameters may be visited
-params_may : (ps : List GenericParam) → AllByRecursion IsOwnParam ps → list_all (λ (p : GenericParam). has_plain_self (written_of p).tokens) ps ≡ true → AllByRecursion MayVisitParam ps
-params_may [] own plain = tt
-params_may (p ∷ ps) own plain =
-    let both = and_parts (has_plain_self (written_of p).tokens) _ plain in (record { reads = own.0.1; plain = both.0 }, params_may ps own.1 both.1)
+params_may : (ps : List GenericParam) → AllByRecursion IsOwnParam ps → AllByRecursion MayVisitParam ps
+params_may [] own = tt
+params_may (p ∷ ps) own = (record { reads = own.0.1 }, params_may ps own.1)
 
 -- so may predicates
-predicates_may : (ps : List WherePredicate) → AllByRecursion IsOwnPredicate ps → list_all (λ (p : WherePredicate). has_plain_self p.written.tokens) ps ≡ true → AllByRecursion MayVisitPredicate ps
-predicates_may [] own plain = tt
-predicates_may (p ∷ ps) own plain =
-    let both = and_parts (has_plain_self p.written.tokens) _ plain in (record { reads = own.0; plain = both.0 }, predicates_may ps own.1 both.1)
+predicates_may : (ps : List WherePredicate) → AllByRecursion IsOwnPredicate ps → AllByRecursion MayVisitPredicate ps
+predicates_may [] own = tt
+predicates_may (p ∷ ps) own = (record { reads = own.0 }, predicates_may ps own.1)
 
-pub generics_may : (d : DeriveInput) → AreOwn d → have_plain_self d.generics ≡ true → MayVisitGenerics d.generics
-generics_may d own plain =
-    let both = and_parts (list_all (λ (p : GenericParam). has_plain_self (written_of p).tokens) d.generics.params) _ plain in
-    (params_may d.generics.params own.params both.0, predicates_may d.generics.predicates own.predicates both.1)
+pub generics_may : (d : DeriveInput) → AreOwn d → MayVisitGenerics d.generics
+generics_may d own = (params_may d.generics.params own.params, predicates_may d.generics.predicates own.predicates)
 
 -- ---- laws
 

@@ -9,8 +9,7 @@ use Rattle.educe_grammar.specs.Ahead.{opens, closes}
 use Rattle.educe_grammar.specs.Reading.{Grammar, Parses, Listed, Repeated, Linked, Between}
 use Rattle.educe_grammar.specs.Reads.{rule_of, parts, Reads}
 use Rattle.educe_grammar.specs.Rules.{Rule, token, documentation, empty, both, made, checked, either, prefer, operator, lone, binary, nest, angles, under, arrow, list, many, chain, path, sliced, written, part, Part, TreeOf}
-use Rattle.educe_grammar.proofs.Unrolling.{has_parts_inside, parts_roll, parts_unroll}
-use Rattle.educe_syntax_self.proofs.Unchanged.{part_inside}
+use Rattle.educe_grammar.proofs.Unrolling.{has_parts_inside, part_inside, parts_roll, parts_unroll}
 
 module _ {A : Type 0} (R S : Grammar A) (into : (tokens : Tokens) (x : A) → R tokens x → S tokens x) where
   listed_into : (separates : Token → Bool) {tokens : Tokens} {xs : List A} → Listed R separates tokens xs → Listed S separates tokens xs

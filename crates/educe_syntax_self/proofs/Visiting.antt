@@ -1,8 +1,12 @@
 -- What is read of the tokens of a visit is what a visit answers.
-use Rattle.std.proofs.Common.{◌≡◌, ℕ, suc, List, [], ◌∷◌, ◌++◌, refl, sym, ap, subst, ◌∙◌, length, take, get_or, zero, ◌+◌, ◌<◌, arith}
+use Rattle.std.proofs.Common.{◌≡◌, ℕ, suc, Bool, true, List, [], ◌∷◌, ◌++◌, refl, sym, ap, subst, ◌∙◌, inl, inr, Option, Some, None, length, take, get_or, zero, ◌+◌, ◌<◌, IsTrue, arith}
+use Rattle.std.specs.Prelude.{IfSome, unwrap_or}
 use Rattle.std.specs.List.{AllByRecursion, AllZip}
-use Rattle.std.proofs.lemmas.List.{take_more}
+use Rattle.std.proofs.lemmas.List.{append-nil, append_cancel_left, take_more}
 use Rattle.std.proofs.lemmas.List.Elements.{AllZip-push}
+use Rattle.educe_tokens.specs.Copied.{may_be_copied}
+use Rattle.educe_tokens.specs.Lexes.{lexemes}
+use Rattle.educe_tokens.specs.declared.token.Token.{Token}
 use Rattle.educe_tokens.specs.declared.written.Written.{Written}
 use Rattle.educe_tree.specs.Params.{written_of}
 use Rattle.educe_tree.specs.declared.expr.ExprPath.{ExprPath}
@@ -11,24 +15,32 @@ use Rattle.educe_tree.specs.declared.generics.GenericParam.TheVariants as param
 use Rattle.educe_tree.specs.declared.generics.Generics.{Generics}
 use Rattle.educe_tree.specs.declared.generics.WherePredicate.{WherePredicate}
 use Rattle.educe_tree.specs.declared.ty.Ty.{Ty, out-Ty, out-roll-Ty}
+use Rattle.educe_grammar.specs.declared.parse_stream.SelfPath.{SelfPath}
+use Rattle.educe_grammar.specs.Combining.{at_sign, skipping, flag, sign}
 use Rattle.educe_grammar.specs.Expressions.{expr_path}
-use Rattle.educe_grammar.specs.Generics.{generic_param, predicate}
+use Rattle.educe_grammar.specs.Generics.{any_constant, generic_param, predicate}
 use Rattle.educe_grammar.specs.Parsed.{depth_limit}
 use Rattle.educe_grammar.specs.Reading.{Parses}
-use Rattle.educe_grammar.specs.Reads.{Reads}
-use Rattle.educe_grammar.specs.Rules.{Rule}
+use Rattle.educe_grammar.specs.Reads.{parts, Reads}
+use Rattle.educe_grammar.specs.Rules.{Rule, part, types}
 use Rattle.educe_grammar.specs.Steps.{Tokens}
 use Rattle.educe_grammar.specs.Types.{any_type}
+use Rattle.educe_grammar.proofs.Balanced.{reads_copied}
+use Rattle.educe_grammar.proofs.Keeping.{has_no_documentation}
+use Rattle.educe_grammar.proofs.Productions.{productions}
 use Rattle.educe_grammar.proofs.ReadsAgain.{one_reading, expr_path_again}
 use Rattle.educe_grammar.proofs.Steps.{Written-path}
 use Rattle.educe_syntax_self.specs.Heads.{IsHead}
-use Rattle.educe_syntax_self.specs.Replacing.{Changed}
-use Rattle.educe_syntax_self.specs.Selves.{replaced}
+use Rattle.educe_syntax_self.specs.Replacing.{Changes, Replaces, Changed, changes_below}
+use Rattle.educe_syntax_self.specs.Splicing.{spliced, whole_notes, notes_of, replaced_in}
 use Rattle.educe_syntax_self.specs.Visits.{IsVisited, MayVisitType, IsVisitedType, MayVisitPath, IsVisitedPath, with_written, MayVisitParam, IsVisitedParam, MayVisitPredicate, IsVisitedPredicate, IsReplacedParam, IsReplacedPredicate, AreReplaced, MayVisitGenerics, AreVisitedGenerics}
-use Rattle.educe_syntax_self.proofs.GenericTurns.{ParamTurned, PredicateTurned}
-use Rattle.educe_syntax_self.proofs.KnownReads.{type_reads_again}
+use Rattle.educe_syntax_self.proofs.GenericTurns.{ParamTurned}
+use Rattle.educe_syntax_self.proofs.GenericsKnown.{param_reads_again, predicate_reads_again}
+use Rattle.educe_syntax_self.proofs.KnownReads.{type_reads_again, noted_whole}
 use Rattle.educe_syntax_self.proofs.Turns.{Any}
-use Rattle.educe_syntax_self.proofs.WholeTurns.{Visit, type_visited, path_visited, param_visited, predicate_visited}
+use Rattle.educe_syntax_self.proofs.WholeTurns.{noted, Visit, type_visited, path_visited, param_visited, predicate_visited}
+
+-- ---- tokens
 
 -- a type has the tokens that it is read from
 pub type_tokens : (budget : ℕ) (ts : Tokens) (y : Ty) → Reads budget any_type ts y → (out-Ty y).written.tokens ≡ ts
@@ -40,38 +52,117 @@ path_tokens : (budget : ℕ) (ts : Tokens) (y : ExprPath) → Reads budget expr_
 unfolding Parses expr_path
 path_tokens budget ts y is = ap (λ (p : ExprPath). p.written.tokens) is.1 ∙ is.2.1
 
+module _ (head : Tokens) (changes : Changes) (budget : ℕ) where
+  -- so has what a predicate becomes
+  predicate_tokens : (before tokens behind : Tokens) (x : WherePredicate) (out : Tokens) (y : WherePredicate) → Replaces head parts changes budget predicate before tokens behind x out y → y.written.tokens ≡ out
+  unfolding Replaces predicate
+  predicate_tokens before tokens behind x out y is = ap (λ (p : WherePredicate). p.written.tokens) is.3 ∙ is.4.2
+
+  -- where no default stands none is made
+  flag_nothing : {A : Type 0} (g : Rule A) (before rest behind later : Tokens) (x y : Bool) → rest ≡ [] → Replaces head parts changes budget (flag (at_sign 61) (skipping (sign 61) g)) before rest behind x later y → later ≡ []
+  unfolding Replaces
+  flag_nothing g before rest behind later x y none (inl is) =
+      absurd (filled is.4.4.6.0.token is.4.4.1 (sym none ∙ is.4.4.4 ∙ ap (λ us. us ++ is.4.4.1) is.4.4.6.4.0))
+    where
+      filled : (t : Token) (ts : Tokens) → [] ≡ t ∷ ts → ⊥
+      filled t ts e = cc
+  flag_nothing g before rest behind later x y none (inr is) = is.2
+
+  -- what stands behind all tokens is nothing
+  nothing_behind : (tokens own front rest : Tokens) → own ≡ tokens → own ≡ front → tokens ≡ front ++ rest → rest ≡ []
+  nothing_behind tokens own front rest all same is = append_cancel_left front rest [] (sym is ∙ sym all ∙ same ∙ sym (append-nil front))
+
+  -- a parameter without a default becomes one that has all tokens
+  param_tokens : (before tokens behind : Tokens) (x : GenericParam) (out : Tokens) (y : GenericParam) → (written_of x).tokens ≡ tokens → Replaces head parts changes budget generic_param before tokens behind x out y
+      → (written_of y).tokens ≡ out
+  unfolding Replaces productions
+  param_tokens before tokens behind x out y all (inl is) = ap (λ p. (written_of p).tokens) is.3 ∙ is.4.2
+  param_tokens before tokens behind x out y all (inr (inl is)) =
+      let both = is.4 in
+      let made = both.6 in
+      let front : (written_of x).tokens ≡ both.0 = ap (λ p. (written_of p).tokens) (is.2 ∙ made.2) ∙ made.4.1 in
+      let none = nothing_behind tokens (written_of x).tokens both.0 both.1 all front both.4 in
+      let later = flag_nothing any_constant (before ++ both.0) both.1 behind both.3 is.0.1 is.1.1 none both.7 in
+      ap (λ p. (written_of p).tokens) (is.3 ∙ made.3) ∙ made.4.2 ∙ sym (both.5 ∙ ap (λ us. both.2 ++ us) later ∙ append-nil both.2)
+  param_tokens before tokens behind x out y all (inr (inr is)) =
+      let both = is.4 in
+      let made = both.6 in
+      let front : (written_of x).tokens ≡ both.0 = ap (λ p. (written_of p).tokens) (is.2 ∙ made.2) ∙ made.4.1 in
+      let none = nothing_behind tokens (written_of x).tokens both.0 both.1 all front both.4 in
+      let later = flag_nothing (part types) (before ++ both.0) both.1 behind both.3 is.0.1 is.1.1 none both.7 in
+      ap (λ p. (written_of p).tokens) (is.3 ∙ made.3) ∙ made.4.2 ∙ sym (both.5 ∙ ap (λ us. both.2 ++ us) later ∙ append-nil both.2)
+
+-- ---- visits
+
 module _ (head : Tokens) (is_head : IsHead head) where
+  -- what the visit of a value of a rule is
+  abbrev VisitOf : {A : Type 0} → Rule A → (A → A → Type 0) → Tokens → A → Type 0
+  VisitOf g V tokens x = Visit head g V tokens x (notes_of g tokens)
+
   -- the value is that of the tokens
-  value_visited : {A : Type 0} (g : Rule A) (V : A → A → Type 0) (tokens : Tokens) (x : A) (v : Visit head is_head g V tokens x) (after : Tokens) (y : A) → after ≡ replaced head tokens → v.value ≡ y → IsVisited head g tokens x after y
-  value_visited g V tokens x v after y is same = record {
+  value_visited : {A : Type 0} (g : Rule A) (V : A → A → Type 0) (tokens : Tokens) (x : A) (after : Tokens) (y : A) → after ≡ replaced_in g head tokens → (v : VisitOf g V tokens x) → v.value ≡ y
+      → IsVisited head g tokens x after y
+  value_visited g V tokens x after y is v same = record {
     tokens = is;
     reads = subst (λ z. Reads (suc depth_limit) g after z) same (subst (λ (ts : Tokens). Reads (suc depth_limit) g ts v.value) (sym is) v.reads);
     changed = subst (λ z. Changed head g tokens x after z) same (subst (λ (ts : Tokens). Changed head g tokens x ts v.value) (sym is) v.changed);
   }
 
+  -- what may be visited has a visit
+  pub type_visit : (tokens : Tokens) (x : Ty) → Reads depth_limit any_type tokens x → VisitOf any_type Any tokens x
+  type_visit tokens x reads = type_visited head is_head tokens x (notes_of any_type tokens) (noted any_type type_reads_again tokens x reads)
+
+  pub path_visit : (tokens : Tokens) (x : ExprPath) → Reads depth_limit expr_path tokens x → VisitOf expr_path Any tokens x
+  path_visit tokens x reads = path_visited head is_head tokens x (notes_of expr_path tokens) (noted expr_path expr_path_again tokens x reads)
+
+  param_visit : (tokens : Tokens) (x : GenericParam) → Reads depth_limit generic_param tokens x → VisitOf generic_param ParamTurned tokens x
+  param_visit tokens x reads = param_visited head is_head tokens x (notes_of generic_param tokens) (noted generic_param param_reads_again tokens x reads)
+
+  predicate_visit : (tokens : Tokens) (x : WherePredicate) → Reads depth_limit predicate tokens x → VisitOf predicate Any tokens x
+  predicate_visit tokens x reads = predicate_visited head is_head tokens x (notes_of predicate tokens) (noted predicate predicate_reads_again tokens x reads)
+
+  -- its tokens may be copied
+  pub type_copied : (tokens : Tokens) (x : Ty) → Reads depth_limit any_type tokens x → IsTrue (may_be_copied (lexemes (replaced_in any_type head tokens)))
+  unfolding productions has_no_documentation
+  type_copied tokens x reads = let v = type_visit tokens x reads in reads_copied (suc depth_limit) any_type (replaced_in any_type head tokens) v.value refl v.reads
+
+  pub path_copied : (tokens : Tokens) (x : ExprPath) → Reads depth_limit expr_path tokens x → IsTrue (may_be_copied (lexemes (replaced_in expr_path head tokens)))
+  unfolding productions has_no_documentation
+  path_copied tokens x reads = let v = path_visit tokens x reads in reads_copied (suc depth_limit) expr_path (replaced_in expr_path head tokens) v.value refl v.reads
+
+  pub param_copied : (tokens : Tokens) (x : GenericParam) → Reads depth_limit generic_param tokens x → IsTrue (may_be_copied (lexemes (replaced_in generic_param head tokens)))
+  unfolding productions has_no_documentation
+  param_copied tokens x reads = let v = param_visit tokens x reads in reads_copied (suc depth_limit) generic_param (replaced_in generic_param head tokens) v.value refl v.reads
+
+  pub predicate_copied : (tokens : Tokens) (x : WherePredicate) → Reads depth_limit predicate tokens x → IsTrue (may_be_copied (lexemes (replaced_in predicate head tokens)))
+  unfolding productions has_no_documentation
+  predicate_copied tokens x reads = let v = predicate_visit tokens x reads in reads_copied (suc depth_limit) predicate (replaced_in predicate head tokens) v.value refl v.reads
+
+  -- ---- types and paths
+
   -- the tokens of a visit have a value
-  pub known_type : (x : Ty) → MayVisitType x → (ts : Tokens) → ts ≡ replaced head (out-Ty x).written.tokens → (y : Ty) × Reads (suc depth_limit) any_type ts y
+  pub known_type : (x : Ty) → MayVisitType x → (ts : Tokens) → ts ≡ replaced_in any_type head (out-Ty x).written.tokens → (y : Ty) × Reads (suc depth_limit) any_type ts y
   known_type x may ts is =
-      let v = type_visited head is_head (out-Ty x).written.tokens x may in
+      let v = type_visit (out-Ty x).written.tokens x may.reads in
       (v.value, subst (λ (us : Tokens). Reads (suc depth_limit) any_type us v.value) (sym is) v.reads)
 
-  pub known_path : (x : ExprPath) → MayVisitPath x → (ts : Tokens) → ts ≡ replaced head x.written.tokens → (y : ExprPath) × Reads (suc depth_limit) expr_path ts y
+  pub known_path : (x : ExprPath) → MayVisitPath x → (ts : Tokens) → ts ≡ replaced_in expr_path head x.written.tokens → (y : ExprPath) × Reads (suc depth_limit) expr_path ts y
   known_path x may ts is =
-      let v = path_visited head is_head x.written.tokens x may in
+      let v = path_visit x.written.tokens x may.reads in
       (v.value, subst (λ (us : Tokens). Reads (suc depth_limit) expr_path us v.value) (sym is) v.reads)
 
   -- and what is read of them is the answer
-  pub type_answer : (x : Ty) → MayVisitType x → (ts : Tokens) → ts ≡ replaced head (out-Ty x).written.tokens → (y : Ty) → Reads (suc depth_limit) any_type ts y → IsVisitedType head x y
+  pub type_answer : (x : Ty) → MayVisitType x → (ts : Tokens) → ts ≡ replaced_in any_type head (out-Ty x).written.tokens → (y : Ty) → Reads (suc depth_limit) any_type ts y → IsVisitedType head x y
   type_answer x may ts is y reads =
-      let v = type_visited head is_head (out-Ty x).written.tokens x may in
+      let v = type_visit (out-Ty x).written.tokens x may.reads in
       let own = subst (λ (us : Tokens). Reads (suc depth_limit) any_type us v.value) (sym is) v.reads in
-      value_visited any_type Any (out-Ty x).written.tokens x v (out-Ty y).written.tokens y (type_tokens (suc depth_limit) ts y reads ∙ is) (one_reading any_type type_reads_again (suc depth_limit) ts v.value y own reads)
+      value_visited any_type Any (out-Ty x).written.tokens x (out-Ty y).written.tokens y (type_tokens (suc depth_limit) ts y reads ∙ is) v (one_reading any_type type_reads_again (suc depth_limit) ts v.value y own reads)
 
-  pub path_answer : (x : ExprPath) → MayVisitPath x → (ts : Tokens) → ts ≡ replaced head x.written.tokens → (y : ExprPath) → Reads (suc depth_limit) expr_path ts y → IsVisitedPath head x y
+  pub path_answer : (x : ExprPath) → MayVisitPath x → (ts : Tokens) → ts ≡ replaced_in expr_path head x.written.tokens → (y : ExprPath) → Reads (suc depth_limit) expr_path ts y → IsVisitedPath head x y
   path_answer x may ts is y reads =
-      let v = path_visited head is_head x.written.tokens x may in
+      let v = path_visit x.written.tokens x may.reads in
       let own = subst (λ (us : Tokens). Reads (suc depth_limit) expr_path us v.value) (sym is) v.reads in
-      value_visited expr_path Any x.written.tokens x v y.written.tokens y (path_tokens (suc depth_limit) ts y reads ∙ is) (one_reading expr_path expr_path_again (suc depth_limit) ts v.value y own reads)
+      value_visited expr_path Any x.written.tokens x y.written.tokens y (path_tokens (suc depth_limit) ts y reads ∙ is) v (one_reading expr_path expr_path_again (suc depth_limit) ts v.value y own reads)
 
   -- ---- parameters and predicates
 
@@ -81,26 +172,41 @@ module _ (head : Tokens) (is_head : IsHead head) where
   given (param.TypeParam p) w = refl
   given (param.Const p) w = refl
 
-  pub param_answer : (x : GenericParam) → MayVisitParam x → (w : Written) → w.tokens ≡ replaced head (written_of x).tokens → IsVisitedParam head x (with_written x w)
+  pub param_answer : (x : GenericParam) → MayVisitParam x → (w : Written) → w.tokens ≡ replaced_in generic_param head (written_of x).tokens → IsVisitedParam head x (with_written x w)
   param_answer x may w is =
-      let v = param_visited head is_head x may in
-      let same : written_of v.value ≡ w = Written-path (written_of v.value) w (v.related.tokens ∙ sym is) in
+      let v = param_visit (written_of x).tokens x may.reads in
+      let out = param_tokens head (changes_below head (suc depth_limit)) depth_limit [] (written_of x).tokens [] x (replaced_in generic_param head (written_of x).tokens) v.value refl v.changed in
+      let same : written_of v.value ≡ w = Written-path (written_of v.value) w (out ∙ sym is) in
       let value : v.value ≡ with_written x w = v.related.is ∙ ap (with_written x) same in (
         ap (with_written x) (sym (given x w)),
-        value_visited generic_param (ParamTurned head) (written_of x).tokens x v (written_of (with_written x w)).tokens (with_written x w) (ap (λ (u : Written). u.tokens) (given x w) ∙ is) value,
+        value_visited generic_param ParamTurned (written_of x).tokens x (written_of (with_written x w)).tokens (with_written x w) (ap (λ (u : Written). u.tokens) (given x w) ∙ is) v value,
       )
 
-  pub predicate_answer : (x : WherePredicate) → MayVisitPredicate x → (y : WherePredicate) → y.written.tokens ≡ replaced head x.written.tokens → IsVisitedPredicate head x y
+  pub predicate_answer : (x : WherePredicate) → MayVisitPredicate x → (y : WherePredicate) → y.written.tokens ≡ replaced_in predicate head x.written.tokens → IsVisitedPredicate head x y
   predicate_answer x may y is =
-      let v = predicate_visited head is_head x may in
-      let same : v.value.written ≡ y.written = Written-path v.value.written y.written (v.related ∙ sym is) in
-      value_visited predicate (PredicateTurned head) x.written.tokens x v y.written.tokens y is (ap (λ (w : Written). record { written = w }) same)
+      let v = predicate_visit x.written.tokens x may.reads in
+      let out = predicate_tokens head (changes_below head (suc depth_limit)) depth_limit [] x.written.tokens [] x (replaced_in predicate head x.written.tokens) v.value v.changed in
+      let same : v.value.written ≡ y.written = Written-path v.value.written y.written (out ∙ sym is) in
+      value_visited predicate Any x.written.tokens x y.written.tokens y is v (ap (λ (w : Written). record { written = w }) same)
 
   -- ---- generics
 
   -- a parameter with these tokens is replaced by one with those
-  pub param_replaced : (x : GenericParam) (w : Written) → w.tokens ≡ replaced head (written_of x).tokens → IsReplacedParam head x (with_written x w)
+  pub param_replaced : (x : GenericParam) (w : Written) → w.tokens ≡ replaced_in generic_param head (written_of x).tokens → IsReplacedParam head x (with_written x w)
   param_replaced x w is = record { is = ap (with_written x) (sym (given x w)); tokens = ap (λ (u : Written). u.tokens) (given x w) ∙ is }
+
+  -- what is spliced of the tokens of a parameter or a predicate may be copied
+  pub param_known : (tokens : Tokens) (o : Option (List SelfPath)) → o ≡ whole_notes generic_param tokens → IfSome o (λ notes. IsTrue (may_be_copied (lexemes (spliced head tokens notes))))
+  param_known tokens None is = tt
+  param_known tokens (Some notes) is =
+      let whole = noted_whole generic_param param_reads_again tokens notes (sym is) in
+      subst (λ (o : Option (List SelfPath)). IsTrue (may_be_copied (lexemes (spliced head tokens (unwrap_or o []))))) (sym is) (param_copied tokens whole.0 whole.1)
+
+  pub predicate_known : (tokens : Tokens) (o : Option (List SelfPath)) → o ≡ whole_notes predicate tokens → IfSome o (λ notes. IsTrue (may_be_copied (lexemes (spliced head tokens notes))))
+  predicate_known tokens None is = tt
+  predicate_known tokens (Some notes) is =
+      let whole = noted_whole predicate predicate_reads_again tokens notes (sym is) in
+      subst (λ (o : Option (List SelfPath)). IsTrue (may_be_copied (lexemes (spliced head tokens (unwrap_or o []))))) (sym is) (predicate_copied tokens whole.0 whole.1)
 
   -- what is replaced and may be visited is read again
   params_visited : (xs ys : List GenericParam) → AllByRecursion MayVisitParam xs → AllZip (IsReplacedParam head) xs ys → AllZip (IsVisitedParam head) xs ys

@@ -1,6 +1,7 @@
 pub mod Selves
 pub mod Heads
 pub mod Replacing
+pub mod Splicing
 pub mod Visits
 pub mod Nests
 pub mod Laws

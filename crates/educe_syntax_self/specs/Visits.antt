@@ -1,5 +1,5 @@
--- What the visits answer: the tokens with the head in place of each `Self`, and their value.
-use Rattle.std.specs.Prelude.{◌≡◌, suc, true}
+-- What the visits answer: the tokens with the head in place of each `Self` that a path begins with, and their value.
+use Rattle.std.specs.Prelude.{◌≡◌, suc}
 use Rattle.std.specs.List.{AllByRecursion, AllZip}
 use Rattle.educe_tokens.specs.declared.written.Written.{Written}
 use Rattle.educe_tree.specs.declared.data.Field.{Field}
@@ -22,17 +22,17 @@ use Rattle.educe_grammar.specs.Steps.{Tokens}
 use Rattle.educe_grammar.specs.Types.{any_type}
 use Rattle.educe_syntax_self.specs.Heads.{IsName, IsNamed}
 use Rattle.educe_syntax_self.specs.Replacing.{Changed}
-use Rattle.educe_syntax_self.specs.Selves.{replaced, has_plain_self}
+use Rattle.educe_syntax_self.specs.Splicing.{replaced_in}
 
--- What may be visited: the value of its tokens by the rule, in which each `Self` is plain.
+-- What may be visited: the value of its tokens by the rule, within the limits.
 pub record MayVisit {A : Type 0} (g : Rule A) (tokens : Tokens) (x : A) : Type 0 where
   pub reads : IsWhole g tokens x
-  pub plain : has_plain_self tokens ≡ true
 
--- What a visit answers: its tokens are those before with the head in place of each `Self`; it is their value by the rule,
--- with one more of the budget; and each path that began with `Self`, and no other, begins with the head.
+-- What a visit answers: its tokens are those before with the head in place of each `Self` that was noted where they were
+-- read; it is their value by the rule, with one more of the budget; and each path that began with `Self`, and no other,
+-- begins with the head.
 pub record IsVisited {A : Type 0} (head : Tokens) (g : Rule A) (before : Tokens) (x : A) (after : Tokens) (y : A) : Type 0 where
-  pub tokens : after ≡ replaced head before
+  pub tokens : after ≡ replaced_in g head before
   pub reads : Reads (suc depth_limit) g after y
   pub changed : Changed head g before x after y
 
@@ -72,10 +72,10 @@ MayVisitParam p = MayVisit generic_param (written_of p).tokens p
 abbrev pub IsVisitedParam : Tokens → GenericParam → GenericParam → Type 0
 IsVisitedParam head x y = (y ≡ with_written x (written_of y)) × IsVisited head generic_param (written_of x).tokens x (written_of y).tokens y
 
--- the parameter keeps its name, and its tokens are those before with the head in place of each `Self`
+-- the parameter keeps its name, and has the head in place of each `Self` that a path begins with
 pub record IsReplacedParam (head : Tokens) (x y : GenericParam) : Type 0 where
   pub is : y ≡ with_written x (written_of y)
-  pub tokens : (written_of y).tokens ≡ replaced head (written_of x).tokens
+  pub tokens : (written_of y).tokens ≡ replaced_in generic_param head (written_of x).tokens
 
 -- the predicate may be visited
 abbrev pub MayVisitPredicate : WherePredicate → Type 0
@@ -85,9 +85,9 @@ MayVisitPredicate p = MayVisit predicate p.written.tokens p
 abbrev pub IsVisitedPredicate : Tokens → WherePredicate → WherePredicate → Type 0
 IsVisitedPredicate head x y = IsVisited head predicate x.written.tokens x y.written.tokens y
 
--- the tokens of the predicate are those before with the head in place of each `Self`
+-- the predicate has the head in place of each `Self` that a path begins with
 pub record IsReplacedPredicate (head : Tokens) (x y : WherePredicate) : Type 0 where
-  pub tokens : y.written.tokens ≡ replaced head x.written.tokens
+  pub tokens : y.written.tokens ≡ replaced_in predicate head x.written.tokens
 
 -- so are those of each parameter and of each predicate
 pub record AreReplaced (head : Tokens) (x y : Generics) : Type 0 where

@@ -8,13 +8,13 @@ ghost use Rattle.educe_tree.specs.declared.expr.ExprPath.{ExprPath};
 ghost use Rattle.educe_tree.specs.declared.ty.Ty.{Ty};
 
 use crate::knot::{read_path, read_type};
-use educe_grammar::{Cursor, ParseError};
+use educe_grammar::{ParseError, ParseStream};
 use educe_tokens::TokenSlice;
 use educe_tree::{ExprPath, Ty};
 use std::alloc::{AllocError, Global};
 
 /// What was read, where reading fails for want of memory alone.
-fn unless_memory<T: Drop>(read: Result<T, ParseError>) -> Result<T, AllocError>
+pub(crate) fn unless_memory<T: Drop>(read: Result<T, ParseError>) -> Result<T, AllocError>
     requires { IfErr read (λ error. error ≡ ParseError.Memory) }
     ensures { IfOk result (λ found. read ≡ Ok found) }
 {
@@ -30,8 +30,8 @@ pub(crate) fn type_again(alloc: Global, tokens: &TokenSlice) -> Result<Ty, Alloc
     requires { (ty : Ty) × Reads (suc depth_limit) any_type tokens.now ty }
     ensures { IfOk result (λ found. Reads (suc depth_limit) any_type tokens.now found) }
 {
-    let mut cursor = Cursor::new(tokens);
-    unless_memory(read_type(alloc, &mut cursor))
+    let mut input = ParseStream::new(alloc, tokens);
+    unless_memory(read_type(alloc, &mut input))
 }
 
 /// The path that the tokens are.
@@ -39,6 +39,6 @@ pub(crate) fn path_again(alloc: Global, tokens: &TokenSlice) -> Result<ExprPath,
     requires { (path : ExprPath) × Reads (suc depth_limit) expr_path tokens.now path }
     ensures { IfOk result (λ found. Reads (suc depth_limit) expr_path tokens.now found) }
 {
-    let mut cursor = Cursor::new(tokens);
-    unless_memory(read_path(alloc, &mut cursor))
+    let mut input = ParseStream::new(alloc, tokens);
+    unless_memory(read_path(alloc, &mut input))
 }

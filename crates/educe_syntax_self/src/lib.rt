@@ -3,14 +3,14 @@
 #![tactic(auto)]
 
 mod again;
+mod begins;
 mod head;
 mod knot;
 mod laws;
-mod plain;
+mod notes;
 mod readers;
 mod replace_self;
-mod replaced;
+mod splice;
 
 pub use laws::{definition_laws, visit_laws};
-pub use plain::{has_plain_self, have_plain_self};
 pub use replace_self::ReplaceSelf;

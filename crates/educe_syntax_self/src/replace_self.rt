@@ -1,16 +1,18 @@
 //! `Self` is replaced by the name of the definition.
-ghost use Rattle.std.specs.Prelude.{◌≡◌, IfOk};
+ghost use Rattle.std.specs.Prelude.{◌≡◌, IsTrue, IfOk, IfSome, [], unwrap_or};
 ghost use Rattle.std.specs.List.{AllZip};
 ghost use Rattle.educe_tokens.specs.Appends.{LieNowhere};
+ghost use Rattle.educe_tokens.specs.Copied.{may_be_copied};
 ghost use Rattle.educe_tokens.specs.Lexes.{lexemes};
 ghost use Rattle.educe_syntax_self.specs.Heads.{AreNamed, IsHead, head_for};
-ghost use Rattle.educe_syntax_self.specs.Selves as spec;
+ghost use Rattle.educe_syntax_self.specs.Splicing as spec;
 ghost use Rattle.educe_syntax_self.specs.Visits.{MayVisitType, IsVisitedType, MayVisitPath, IsVisitedPath, IsReplacedParam, IsReplacedPredicate, AreReplaced, MayVisitGenerics, AreVisitedGenerics};
 
 use crate::again::{path_again, type_again};
 use crate::head::push_head;
-use crate::plain::has_self;
-use crate::replaced::replaced;
+use crate::notes::{param_notes, path_notes, predicate_notes, type_notes};
+use crate::splice::spliced;
+use educe_grammar::SelfPath;
 use educe_tokens::{Seq, TokenSlice, TokenStream, Written};
 use educe_tree::{
     AsWritten, ConstParam, DeriveInput, Duplicate, ExprPath, GenericParam, Generics, LifetimeParam,
@@ -37,44 +39,74 @@ impl ReplaceSelf {
         Ok(ReplaceSelf { head })
     }
 
-    /// The tokens, with the head in place of each `Self`. Where there is no `Self`, no token is copied.
-    pub fn visit_written(&self, alloc: Global, written: &Written) -> Result<Written, AllocError>
-        ensures { IfOk result (λ found. found.tokens ≡ spec.replaced self.now.head written.now.tokens) }
+    /// The tokens, with the head in place of each `Self` that was noted. Where nothing was noted, no
+    /// token is copied.
+    fn visit_written(
+        &self,
+        alloc: Global,
+        written: &Written,
+        notes: &[SelfPath],
+    ) -> Result<Written, AllocError>
+        requires { IsTrue (may_be_copied (lexemes (spec.spliced self.now.head written.now.tokens notes.now))) }
+        ensures { IfOk result (λ found. found.tokens ≡ spec.spliced self.now.head written.now.tokens notes.now) }
     {
-        let tokens = written.tokens().as_slice();
-        if !has_self(tokens) {
+        if notes.is_empty() {
             let same = written.duplicate()?;
             return Ok(same);
         }
-        let found = replaced(alloc, self.head.as_slice(), tokens)?;
+        let found = spliced(
+            alloc,
+            self.head.as_slice(),
+            written.tokens().as_slice(),
+            notes,
+        )?;
         Ok(Written::new(TokenSlice::new(alloc, found)?))
     }
 
-    /// The type with the name of the definition in place of each `Self`.
+    /// The same of what was noted where the tokens were read, and else the tokens as they are.
+    fn visit_known(
+        &self,
+        alloc: Global,
+        written: &Written,
+        notes: &Option<Seq<SelfPath>>,
+    ) -> Result<Written, AllocError>
+        requires { IfSome notes.now (λ known. IsTrue (may_be_copied (lexemes (spec.spliced self.now.head written.now.tokens known)))) }
+        ensures { IfOk result (λ found. found.tokens ≡ spec.spliced self.now.head written.now.tokens (unwrap_or notes.now [])) }
+    {
+        match notes {
+            Some(known) => self.visit_written(alloc, written, known.as_slice()),
+            None => written.duplicate(),
+        }
+    }
+
+    /// The type with the name of the definition in place of each `Self` that a path begins with.
     pub fn visit_type(&self, alloc: Global, ty: &Ty) -> Result<Ty, AllocError>
         requires { MayVisitType ty.now }
         ensures { IfOk result (IsVisitedType self.now.head ty.now) }
     {
-        let written = self.visit_written(alloc, &ty.written)?;
+        let notes = type_notes(alloc, ty.written.tokens())?;
+        let written = self.visit_written(alloc, &ty.written, notes.as_slice())?;
         let found = type_again(alloc, written.tokens())?;
         Ok(found)
     }
 
-    /// The path with the name of the definition in place of each `Self`.
+    /// The path with the name of the definition in place of each `Self` that a path begins with.
     pub fn visit_path(&self, alloc: Global, path: &ExprPath) -> Result<ExprPath, AllocError>
         requires { MayVisitPath path.now }
         ensures { IfOk result (IsVisitedPath self.now.head path.now) }
     {
-        let written = self.visit_written(alloc, &path.written)?;
+        let notes = path_notes(alloc, path.written.tokens())?;
+        let written = self.visit_written(alloc, &path.written, notes.as_slice())?;
         let found = path_again(alloc, written.tokens())?;
         Ok(found)
     }
 
-    /// The parameter with the name of the definition in place of each `Self`.
+    /// The parameter with the name of the definition in place of each `Self` that a path begins with.
     fn visit_param(&self, alloc: Global, param: &GenericParam) -> Result<GenericParam, AllocError>
         ensures { IfOk result (IsReplacedParam self.now.head param.now) }
     {
-        let written = self.visit_written(alloc, param.written())?;
+        let notes = param_notes(alloc, param.written().tokens())?;
+        let written = self.visit_known(alloc, param.written(), &notes)?;
         let found = match param {
             GenericParam::Lifetime(param) => {
                 let lifetime = param.lifetime.duplicate(alloc)?;
@@ -92,7 +124,7 @@ impl ReplaceSelf {
         Ok(found)
     }
 
-    /// The predicate with the name of the definition in place of each `Self`.
+    /// The predicate with the name of the definition in place of each `Self` that a path begins with.
     fn visit_predicate(
         &self,
         alloc: Global,
@@ -100,7 +132,8 @@ impl ReplaceSelf {
     ) -> Result<WherePredicate, AllocError>
         ensures { IfOk result (IsReplacedPredicate self.now.head predicate.now) }
     {
-        let written = self.visit_written(alloc, &predicate.written)?;
+        let notes = predicate_notes(alloc, predicate.written.tokens())?;
+        let written = self.visit_known(alloc, &predicate.written, &notes)?;
         Ok(WherePredicate { written })
     }
 
@@ -131,7 +164,8 @@ impl ReplaceSelf {
     }
 
     /// The parameters, without their defaults, and the predicates, each with the name of the
-    /// definition in place of each `Self`. Those that may be visited are then readings of their tokens.
+    /// definition in place of each `Self` that a path begins with. Those that may be visited are then
+    /// readings of their tokens.
     pub fn visit_generics(&self, alloc: Global, generics: &Generics) -> Result<Generics, AllocError>
         ensures replaced { IfOk result (AreReplaced self.now.head generics.now) }
         ensures visited { MayVisitGenerics generics.now → IfOk result (AreVisitedGenerics self.now.head generics.now) }

@@ -2,7 +2,7 @@
 use Rattle.std.specs.Prelude.{◌≡◌, ◌<◌, ℕ, List, [], ◌∷◌, ◌++◌, length, map, codes, encode_utf8_all}
 use Rattle.std.specs.Fmt.{signed_decimal}
 use Rattle.educe_tokens.specs.declared.error.Kind.{Kind}
-use Rattle.educe_tokens.specs.declared.error.Kind.TheVariants.{Syntax, TooDeep, NotCarried, DuplicateName, DeriveAttributeNotSetUpYet, EduceFormatIncorrect, UnsupportedTrait, ReuseATrait, TraitNotUsed, AttributeIncorrectPlace, AttributeIncorrectFormat, ParameterReset, ExpectedValue, ReuseARank, UnitStructNeedName, UnitVariantNeedName, UnitEnumNeedName, MultipleDefaultVariants, NoDefaultVariant, NotBuilt, Alloc}
+use Rattle.educe_tokens.specs.declared.error.Kind.TheVariants.{Syntax, TooDeep, NotCarried, DuplicateName, DeriveAttributeNotSetUpYet, EduceFormatIncorrect, UnsupportedTrait, ReuseATrait, TraitNotUsed, AttributeIncorrectPlace, AttributeIncorrectFormat, ParameterReset, ExpectedValue, ReuseARank, UnitStructNeedName, UnitVariantNeedName, UnitEnumNeedName, MultipleDefaultVariants, NoDefaultVariant, Alloc}
 
 -- the words for an `educe` attribute of a type that is no list
 abbrev pub educe_format : List (List ℕ)
@@ -29,7 +29,6 @@ HasWords UnitVariantNeedName words = words ≡ []
 HasWords UnitEnumNeedName words = words ≡ []
 HasWords MultipleDefaultVariants words = words ≡ []
 HasWords NoDefaultVariant words = words ≡ []
-HasWords NotBuilt words = words ≡ []
 HasWords Alloc words = words ≡ []
 
 -- the first of the words
@@ -80,5 +79,4 @@ message_of UnitVariantNeedName words = codes "a unit variant which doesn't use a
 message_of UnitEnumNeedName words = codes "a unit enum needs to have a name"
 message_of MultipleDefaultVariants words = codes "multiple default variants are set"
 message_of NoDefaultVariant words = codes "there is no variant set as default"
-message_of NotBuilt words = codes "not built yet"
 message_of Alloc words = []

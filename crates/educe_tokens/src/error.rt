@@ -56,8 +56,6 @@ pub enum Kind {
     MultipleDefaultVariants,
     /// No variant is marked as the default.
     NoDefaultVariant,
-    /// The text is not of the form that is built so far.
-    NotBuilt,
     /// Out of memory.
     Alloc,
 }
@@ -125,7 +123,6 @@ fn wordless_message(alloc: Global, kind: Kind) -> Result<String, AllocError>
     match kind {
         Kind::Syntax => String::from_str(alloc, "syntax error"),
         Kind::TooDeep => String::from_str(alloc, "nested too deeply"),
-        Kind::NotBuilt => String::from_str(alloc, "not built yet"),
         Kind::DeriveAttributeNotSetUpYet => String::from_str(
             alloc,
             "you are using `Educe` in the `derive` attribute, but it has not been set up yet",

@@ -16,6 +16,7 @@ mod names;
 mod phases;
 mod ranks;
 mod refusals;
+mod selves;
 
 static EXAMPLES: &str = r##"
 a struct of one field

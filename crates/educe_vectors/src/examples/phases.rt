@@ -1,6 +1,5 @@
-//! Worked examples of texts with several causes of a refusal, and of forms that are not built yet. A
-//! cause of an earlier phase is reported before one of a later phase: the text, the names, what the
-//! type lists, the form, the attributes.
+//! Worked examples of texts with several causes of a refusal. A cause of an earlier phase is reported
+//! before one of a later phase: the text, the names, what the type lists, the attributes.
 
 use educe_vectors_runs::check_table;
 use std::test::Fail;
@@ -83,10 +82,6 @@ then what the type lists
 #[educe(Hash, Hash)] struct S<T> { #[educe(Hash)] a: u8, b: u8 }
 : refused 1:15: the trait `Hash` is used repeatedly
 
-then the form
-#[educe(Eq)] struct S<T> { #[educe(Eq(x))] a: Box<Self<T>>, b: u8 }
-: refused 1:1: not built yet
-
 then the attributes
 #[educe(Ord)] struct S { #[educe(Ord)] a: u8, b: u8 }
 : refused 1:34: you are using an incorrect format of the `Ord` attribute, which should be reformatted as follows:
@@ -120,27 +115,4 @@ a trait twice, of a struct with parameters
 #[test]
 fn one_of_several_causes_is_reported(rt: HostRuntime) -> Result<(), Fail> {
     check_table(rt.alloc(), SEVERAL)
-}
-
-static NOT_BUILT_YET: &str = r#"
-`Self` with arguments, where `Eq` is listed
-#[educe(Eq)] struct S<T>(T, Option<Box<Self<T>>>);
-: refused 1:1: not built yet
-
-`Self` with arguments in the type of a field with a method of `Debug`
-#[educe(Debug)] struct S<T>(T, #[educe(Debug(method = m))] Option<Box<Self<T>>>);
-: refused 1:1: not built yet
-
-`Self` with arguments in the type of a field with a method of `Clone`
-#[educe(Clone)] struct S<T>(T, #[educe(Clone(method = m))] Option<Box<Self<T>>>);
-: refused 1:1: not built yet
-
-`Self` behind `::` in such a method
-#[educe(Clone)] struct S(#[educe(Clone(method = own::Self::m))] u8);
-: refused 1:1: not built yet
-"#;
-
-#[test]
-fn what_is_not_built_yet_is_refused(rt: HostRuntime) -> Result<(), Fail> {
-    check_table(rt.alloc(), NOT_BUILT_YET)
 }

@@ -127,16 +127,14 @@ fn message(alloc: Global, kind: Kind) -> Result<String, Fail> {
         Kind::UnsupportedTrait => citing(alloc, Kind::UnsupportedTrait, "é"),
         Kind::ReuseATrait => citing(alloc, Kind::ReuseATrait, "é"),
         Kind::ReuseARank { rank } => plain(alloc, Kind::ReuseARank { rank }),
-        Kind::NotBuilt => plain(alloc, Kind::NotBuilt),
         _ => Err(Fail::from("it is not in the table")),
     }
 }
 
-static SAYS_WHY: [(Kind, &str); 11] = [
+static SAYS_WHY: [(Kind, &str); 10] = [
     (Kind::Syntax, "syntax error"),
     (Kind::TooDeep, "nested too deeply"),
     (Kind::NotCarried, "`1.5` is not supported"),
-    (Kind::NotBuilt, "not built yet"),
     (
         Kind::DeriveAttributeNotSetUpYet,
         "you are using `Educe` in the `derive` attribute, but it has not been set up yet",

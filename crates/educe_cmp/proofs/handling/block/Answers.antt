@@ -3,11 +3,12 @@ use Rattle.std.specs.Prelude.{IsTrue}
 use Rattle.educe_attrs.specs.Phases.{OfHandler}
 use Rattle.educe_attrs.specs.Places.{OfPlace}
 use Rattle.educe_bound_traits.specs.declared.traits.Trait.{Trait}
-use Rattle.educe_bound_traits.specs.Traits.{is_listed}
+use Rattle.educe_bound_traits.specs.declared.traits.Trait.TheVariants.{Clone}
+use Rattle.educe_bound_traits.specs.Traits.{is_listed, same_trait}
 use Rattle.educe_body_forms.specs.declared.comparison.Comparison.{Comparison}
 use Rattle.educe_body_forms.specs.declared.comparison.Comparison.TheVariants.{PartialEq, PartialOrd, Ord}
 use Rattle.educe_laws.specs.Comparisons.{trait_of}
-use Rattle.educe_laws.specs.Handled.{has_markers, OfShape, handling}
+use Rattle.educe_laws.specs.Handled.{OfShape, handling}
 use Rattle.educe_laws.specs.Headers.{IsHeader}
 use Rattle.educe_laws.specs.Listed.{listed}
 use Rattle.educe_laws.specs.Rows.{is_fieldwise, type_row}
@@ -24,11 +25,11 @@ use Rattle.educe_cmp.proofs.handling.block.Goals as goal
 fieldwise : (which : Comparison) (own : Trait) → own ≡ trait_of which → IsTrue (is_fieldwise own)
 fieldwise which own same = subst (λ of. IsTrue (is_fieldwise of)) (sym same) (comparison_fieldwise which)
 
--- and has no markers
-unmarked : (which : Comparison) → has_markers (trait_of which) ≡ false
-unmarked PartialEq = refl
-unmarked PartialOrd = refl
-unmarked Ord = refl
+-- and is not `Clone`
+apart : (which : Comparison) → same_trait (trait_of which) Clone ≡ false
+apart PartialEq = refl
+apart PartialOrd = refl
+apart Ord = refl
 
 pub returns-in_err-bound-clause-err : goal.returns-in_err-bound-clause-err
 returns-in_err-bound-clause-err c =
@@ -65,5 +66,5 @@ returns-clause-uncaused c =
     let which = c.args.task.which in
     let ast = c.args.task.ast.now in
     let is_one : is_listed (listed ast) which ≡ true = rw (← c.requires.ready.traits_are) c.requires.ready.lists in
-    let clear = other_clear which ast (ap has_markers c.requires.same ∙ unmarked c.args.which) in
+    let clear = other_clear which ast (ap (λ (own : Trait). same_trait own Clone) c.requires.same ∙ apart c.args.which) in
     handler_uncaused which ast c.in_ok-body.ensures.uncaused c.in_ok-bound.ensures.uncaused clear (fieldwise c.args.which which c.requires.same) is_one

@@ -6,10 +6,10 @@ use Rattle.educe_attrs.specs.Causes.{NoCause, OfStop}
 use Rattle.educe_attrs.specs.Phases.{OfHandler}
 use Rattle.educe_attrs.specs.Places.{OfPlace}
 use Rattle.educe_bound_traits.specs.declared.traits.Trait.{Trait}
-use Rattle.educe_bound_traits.specs.declared.traits.Trait.TheVariants.{PartialEq, Eq}
-use Rattle.educe_bound_traits.specs.Traits.{is_listed}
+use Rattle.educe_bound_traits.specs.declared.traits.Trait.TheVariants.{Clone, PartialEq, Eq}
+use Rattle.educe_bound_traits.specs.Traits.{is_listed, same_trait}
 use Rattle.educe_handlers.proofs.Refused.{other_clear, handler_uncaused}
-use Rattle.educe_laws.specs.Handled.{has_markers, OfShape, handling}
+use Rattle.educe_laws.specs.Handled.{OfShape, handling}
 use Rattle.educe_laws.specs.Listed.{listed}
 use Rattle.educe_laws.specs.Rows.{is_fieldwise, type_row}
 use Rattle.educe_laws.proofs.Refused.{type_refused, shape_refused}
@@ -21,9 +21,9 @@ use Rattle.educe_cmp_eq.proofs.eq_handling.block.Goals as goal
 fieldwise : (own : Trait) → own ≡ Eq → IsTrue (is_fieldwise own)
 fieldwise own same = subst (λ of. IsTrue (is_fieldwise of)) (sym same) refl
 
--- and has no markers
-unmarked : (own : Trait) → own ≡ Eq → has_markers own ≡ false
-unmarked own same = ap has_markers same
+-- and is not `Clone`
+apart : (own : Trait) → own ≡ Eq → same_trait own Clone ≡ false
+apart own same = ap (λ (of : Trait). same_trait of Clone) same
 
 pub returns-in_err-bound-clause-err : goal.returns-in_err-bound-clause-err
 returns-in_err-bound-clause-err c =
@@ -52,9 +52,7 @@ eq_items-requires-clause-named c = lawful_checks.named c.args.task.ast.now c.req
 
 pub eq_items-requires-clause-visits : goal.eq_items-requires-clause-visits
 eq_items-requires-clause-visits c =
-    let ready = c.requires.ready in
-    let lists : is_listed (listed c.args.task.ast.now) Eq ≡ true = rw (← ready.traits_are) ready.lists in
-    subst (AllByRecursion MayVisitType) (sym c.in_ok-types.ensures.are.touched_are) (lawful_checks.visits c.args.task.ast.now ready.is_read ready.built lists)
+    subst (AllByRecursion MayVisitType) (sym c.in_ok-types.ensures.are.touched_are) (lawful_checks.visits c.args.task.ast.now c.requires.ready.is_read)
 
 pub returns-clause-uncaused : goal.returns-clause-uncaused
 returns-clause-uncaused c =
@@ -63,4 +61,4 @@ returns-clause-uncaused c =
     let lists : is_listed (listed ast) Eq ≡ true = rw (← c.requires.ready.traits_are) c.requires.ready.lists in
     let own = subst (λ own. is_listed (listed ast) own ≡ true) (sym c.requires.equality) lists in
     subst (λ own. NoCause (OfHandler (handling ast) own)) c.requires.equality
-    (handler_uncaused which ast c.in_ok-check_places.ensures.uncaused c.in_ok-bound.ensures.uncaused (other_clear which ast (unmarked which c.requires.equality)) (fieldwise which c.requires.equality) own)
+    (handler_uncaused which ast c.in_ok-check_places.ensures.uncaused c.in_ok-bound.ensures.uncaused (other_clear which ast (apart which c.requires.equality)) (fieldwise which c.requires.equality) own)

@@ -13,7 +13,6 @@ trait_meta_handler-requires-clause-ready g c = record {
   is_read = c.requires.is_read;
   traits_are = c.requires.listed;
   lists = ap (is_listed c.args.listed.now) (sym c.TRAIT.ensures) ∙ sym c.is_listed.ensures ∙ c.if-is_listed.true;
-  built = c.requires.built;
   uncaused = c.requires.before.uncaused;
   noted_are = c.requires.before.noted_are;
 }

@@ -23,7 +23,6 @@ unfolding text_of_expansion items_of_expansion
 returns-in-Ok-spell-clause-done c = record {
   definition = c.in-Ok.ast;
   defines = c.in-Ok.ensures.defines;
-  built = c.in-Ok-derive_input_handler.ensures.built;
   lists = c.in-Ok-derive_input_handler.ensures.lists;
   uncaused = c.in-Ok-derive_input_handler.ensures.uncaused;
   said = c.in-Ok-derive_input_handler.ensures.said;
@@ -38,7 +37,7 @@ pub returns-in-Ok-spell-clause-invalid : goal.returns-in-Ok-spell-clause-invalid
 returns-in-Ok-spell-clause-invalid c = λ e kind cause.
     let handler = c.in-Ok-derive_input_handler.ensures in
     let valid : IsValid c.args.source.now =
-    record { definition = c.in-Ok.ast; defines = c.in-Ok.ensures.defines; listing = handler.listing; built = handler.built; uncaused = handler.uncaused } in
+    record { definition = c.in-Ok.ast; defines = c.in-Ok.ensures.defines; listing = handler.listing; uncaused = handler.uncaused } in
     uncaused_if_valid c.args.source.now valid e cause kind
 
 pub returns-clause-cause : goal.returns-clause-cause

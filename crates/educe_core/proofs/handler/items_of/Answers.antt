@@ -1,11 +1,7 @@
-use Rattle.std.proofs.Common.{◌∙◌, sym}
-use Rattle.std.proofs.lemmas.Bool.{true≢false}
 use Rattle.educe_laws.specs.Handled.{IsListedCause}
 use Rattle.educe_core.specs.Headline.{IsHandlerCause}
-use Rattle.educe_laws.specs.Built.{IsBuilt}
 use Rattle.educe_laws.specs.Listed.{IsListingCause}
 use Rattle.educe_laws.proofs.Stops.{stop_passed, stop_returned}
-use Rattle.educe_core.proofs.Phased.{form_refused}
 use Rattle.educe_core.proofs.handler.items_of.Goals as goal
 
 pub returns-in_err-listed-clause-err : goal.returns-in_err-listed-clause-err
@@ -13,13 +9,7 @@ returns-in_err-listed-clause-err c =
     stop_passed (IsListingCause c.args.ast.now) (IsHandlerCause c.args.ast.now) (λ e cause. IsHandlerCause.listing cause) c.from_residual.result c.in_err-listed.field-0.0
     c.from_residual.ensures.1 c.in_err-listed.ensures.err
 
-pub returns-then-not-is_built-clause-err : goal.returns-then-not-is_built-clause-err
-returns-then-not-is_built-clause-err c =
-    form_refused c.args.ast.now c.new.result c.new.ensures c.in_ok-listed.ensures.uncaused
-    (λ built. true≢false (sym built ∙ sym c.is_built.ensures ∙ c.if-not-is_built.true))
-
 pub returns-clause-err : goal.returns-clause-err
 returns-clause-err c =
-    let built : IsBuilt c.args.ast.now = sym c.is_built.ensures ∙ c.if-not-is_built.false in
-    stop_returned (IsListedCause c.args.ast.now) (IsHandlerCause c.args.ast.now) (λ e cause. IsHandlerCause.handled c.in_ok-listed.ensures.uncaused built cause) c.blocks-2.result
-    c.blocks-2.ensures.err
+    stop_returned (IsListedCause c.args.ast.now) (IsHandlerCause c.args.ast.now) (λ e cause. IsHandlerCause.handled c.in_ok-listed.ensures.uncaused cause) c.blocks.result
+    c.blocks.ensures.err

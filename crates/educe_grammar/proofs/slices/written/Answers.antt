@@ -3,7 +3,8 @@ use Rattle.educe_tokens.specs.declared.written.Written.{Written}
 use Rattle.educe_tokens.specs.Copied.{may_be_copied}
 use Rattle.educe_tokens.specs.Lexes.{lexemes}
 use Rattle.educe_grammar.specs.Running.{written_if}
-use Rattle.educe_grammar.specs.Steps.{Tokens, and_then, since}
+use Rattle.educe_grammar.specs.Noting.{and_then, onto, plainly}
+use Rattle.educe_grammar.specs.Steps.{Tokens, since}
 use Rattle.educe_grammar.proofs.Steps.{IsTrue-prop}
 use Rattle.educe_grammar.proofs.slices.written.Goals as goal
 
@@ -22,6 +23,6 @@ kept x w rest tokens same = subst (Keeps x w rest) same (kept_if x w rest (may_b
 
 pub returns : goal.returns
 returns g c =
-    let tokens : c.new.result.tokens ≡ since c.args.cursor.now c.parse.new.cursor = c.new.ensures ∙ c.in_ok-tokens.ensures ∙ ap (λ start. since start c.parse.new.cursor) c.mark-start.ensures in
-    ap (λ o. and_then o (λ x rest. written_if x (since c.args.cursor.now rest) rest (may_be_copied (lexemes (since c.args.cursor.now rest))) refl)) c.in_ok-found.ensures
-    ∙ kept c.in_ok-found.found c.new.result c.parse.new.cursor _ tokens
+    let tokens : c.new.result.tokens ≡ since c.args.input.now.cursor c.parse.new.input.cursor = c.new.ensures ∙ c.in_ok-tokens.ensures ∙ ap (λ start. since start c.parse.new.input.cursor) c.mark-start.ensures in
+    ap (λ o. and_then o (λ x. plainly (λ rest. written_if x (since c.args.input.now.cursor rest) rest (may_be_copied (lexemes (since c.args.input.now.cursor rest))) refl))) c.in_ok-found.ensures
+    ∙ ap (onto c.parse.new.input) (kept c.in_ok-found.found c.new.result c.parse.new.input.cursor _ tokens)

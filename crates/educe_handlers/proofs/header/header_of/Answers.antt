@@ -14,7 +14,7 @@ returns-clause-generics c =
       inherited = inherited_from noted (prerequisites which);
       own = adds.own;
       added = c.in_ok-added.added;
-      inherited_are = lawful_traits.inherits which d noted c.requires.ready.built c.requires.ready.noted_are;
+      inherited_are = lawful_traits.inherits which d noted c.requires.ready.noted_are;
       added_are = adds.are;
       predicates_are = c.in_ok-generics.ensures.predicates;
     }
@@ -25,4 +25,4 @@ returns-clause-added c =
     let d = c.args.task.ast.now in
     let noted = c.args.ctx.now in
     let adds = c.in_ok-added.ensures in
-    AreOf.added which (inherited_from noted (prerequisites which)) adds.own (lawful_traits.inherits which d noted c.requires.ready.built c.requires.ready.noted_are) adds.are
+    AreOf.added which (inherited_from noted (prerequisites which)) adds.own (lawful_traits.inherits which d noted c.requires.ready.noted_are) adds.are

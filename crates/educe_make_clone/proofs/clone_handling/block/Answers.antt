@@ -1,11 +1,15 @@
 use Rattle.std.proofs.Common.{◌≡◌, ◌∙◌, Bool, true, List, map, inl, inr, refl, ap, sym, subst}
-use Rattle.std.specs.List.{AllByRecursion, list_all}
+use Rattle.std.specs.List.{AllByRecursion}
 use Rattle.educe_tokens.specs.declared.error.EduceError.{EduceError}
 use Rattle.educe_syntax.specs.DeriveInput.{DeriveInput}
+use Rattle.educe_syntax.specs.Few.{all_fields}
+use Rattle.educe_syntax.specs.Field.{Field}
+use Rattle.educe_syntax.specs.Refusal.{IsDefinition}
 use Rattle.educe_syntax_self.proofs.Lawful.{lawful_definitions}
-use Rattle.educe_attrs.specs.Causes.{OfStop}
+use Rattle.educe_attrs.specs.Causes.{NoCause}
+use Rattle.educe_attrs.specs.Fields.{HaveNoCauses}
 use Rattle.educe_attrs.specs.Phases.{OfHandler}
-use Rattle.educe_attrs.specs.Places.{OfPlace}
+use Rattle.educe_attrs.specs.Places.{OfPlace, OfField}
 use Rattle.educe_attrs.specs.Stop.TheVariants.{Memory}
 use Rattle.educe_bound_traits.specs.declared.traits.Trait.TheVariants.{Clone}
 use Rattle.educe_bound_traits.specs.Traits.{is_listed}
@@ -13,24 +17,33 @@ use Rattle.educe_handlers.specs.Ranked.{kept_of}
 use Rattle.educe_handlers.specs.SeenTypes.{read_of, touched_of}
 use Rattle.educe_handlers.proofs.Refused.{fields_uncaused, handler_uncaused}
 use Rattle.educe_laws.specs.Blocks.{AreCloneFunctions}
+use Rattle.educe_laws.specs.Cases.{cases_of}
 use Rattle.educe_laws.specs.Handled.{IsFieldwiseCause, OfShape, handling}
 use Rattle.educe_laws.specs.Listed.{listed}
-use Rattle.educe_laws.specs.Rows.{type_row}
-use Rattle.educe_laws.specs.Settings.{Kept, all_kept}
+use Rattle.educe_laws.specs.Rows.{type_row, field_row}
+use Rattle.educe_laws.specs.Settings.{all_kept}
 use Rattle.educe_laws.specs.Types.{AreCloneTypes}
+use Rattle.educe_laws.proofs.Elements.{In-all}
 use Rattle.educe_laws.proofs.Refused.{type_refused, shape_refused}
 use Rattle.educe_laws.proofs.Stops.{stop_passed}
 use Rattle.educe_make_clone.specs.Bitwise.{OfCopy}
 use Rattle.educe_make_clone.specs.CloneNames.{names_of}
-use Rattle.educe_make_clone.proofs.CloneMarked.{marker_refused, none_unmarked, kept_visit}
-use Rattle.educe_make_markers.specs.MarkerChecks.{marks, IsUnbuilt}
 use Rattle.educe_make_markers.specs.Marking.{MayMark}
+use Rattle.educe_make_markers.proofs.Visiting.{in_case, own_field, markers_visit}
 use Rattle.educe_make_clone.proofs.clone_handling.block.Goals as goal
 
 -- what the type says of `Copy` is a cause of `Clone`
 copy_refused : (d : DeriveInput) (e : EduceError) → OfCopy d e → OfHandler (handling d) Clone e
 copy_refused d e (lists, inl in_lists) = type_refused Clone refl d e (inl in_lists)
 copy_refused d e (lists, inr said) = inr (IsFieldwiseCause.by_copy refl lists said.1)
+
+-- what stands in the markers may be visited
+kept_visit : (d : DeriveInput) → IsDefinition d.tokens d → HaveNoCauses Clone (field_row Clone) (listed d) (all_fields d) → AllByRecursion MayMark (all_kept Clone d)
+kept_visit d is read =
+    markers_visit Clone d (λ (fields : List Field). field_row Clone) (λ (fields : List Field). fields) (cases_of d)
+    (λ fields outer f inner.
+    let found = in_case d.shape fields f outer inner in
+    (own_field d is f found, In-all (λ (f : Field). NoCause (OfField Clone (field_row Clone) (listed d) f.attrs)) (all_fields d) f read found))
 
 pub returns-in_err-bound-clause-err : goal.returns-in_err-bound-clause-err
 returns-in_err-bound-clause-err c =
@@ -50,13 +63,6 @@ returns-in_err-copies-clause-err c =
     stop_passed (OfCopy ast) (OfHandler (handling ast) Clone) (copy_refused ast)
     c.from_residual-in_err-copies.result c.in_err-copies.field-0.0 c.from_residual-in_err-copies.ensures.1 c.in_err-copies.ensures.err
 
-pub returns-in_err-check_markers-clause-err : goal.returns-in_err-check_markers-clause-err
-returns-in_err-check_markers-clause-err c =
-    let ast = c.args.ast.now in
-    stop_passed (IsUnbuilt ast (all_kept Clone ast)) (OfHandler (handling ast) Clone) (marker_refused ast)
-    c.from_residual-in_err-check_markers.result c.in_err-check_markers.field-0.0 c.from_residual-in_err-check_markers.ensures.1
-    (subst (λ (kept : List Kept). OfStop (IsUnbuilt ast kept) c.in_err-check_markers.field-0.0) (ap (map kept_of) c.deref.ensures.value ∙ c.in_ok-kept.ensures) c.in_err-check_markers.ensures.err)
-
 pub header_of-requires-clause-types : goal.header_of-requires-clause-types
 header_of-requires-clause-types c =
     let types = c.functions.new.types in
@@ -70,14 +76,12 @@ pub clone_items-requires-clause-named : goal.clone_items-requires-clause-named
 clone_items-requires-clause-named c = lawful_definitions.named c.args.ast.now.tokens c.args.ast.now c.requires.is_read.whole
 
 pub clone_items-requires-clause-kept : goal.clone_items-requires-clause-kept
-clone_items-requires-clause-kept c = ap (map kept_of) c.deref-2.ensures.value ∙ c.in_ok-kept.ensures
+clone_items-requires-clause-kept c = ap (map kept_of) c.deref.ensures.value ∙ c.in_ok-kept.ensures
 
 pub clone_items-requires-clause-marks : goal.clone_items-requires-clause-marks
 clone_items-requires-clause-marks c =
     let ast = c.args.ast.now in
-    let built = subst (λ (kept : List Kept). list_all (marks ast) kept ≡ true) (ap (map kept_of) c.deref.ensures.value ∙ c.in_ok-kept.ensures) c.in_ok-check_markers.ensures.built in
-    subst (AllByRecursion MayMark) (sym (ap (map kept_of) c.deref-2.ensures.value ∙ c.in_ok-kept.ensures))
-    (kept_visit ast (fields_uncaused Clone ast c.in_ok-settings.ensures.uncaused) built c.requires.is_read)
+    subst (AllByRecursion MayMark) (sym (ap (map kept_of) c.deref.ensures.value ∙ c.in_ok-kept.ensures)) (kept_visit ast c.requires.is_read (fields_uncaused Clone ast c.in_ok-settings.ensures.uncaused))
 
 pub returns-clause-read : goal.returns-clause-read
 returns-clause-read c = fields_uncaused Clone c.args.ast.now c.in_ok-settings.ensures.uncaused
@@ -86,11 +90,8 @@ pub returns-clause-uncaused : goal.returns-clause-uncaused
 returns-clause-uncaused c =
     let ast = c.args.ast.now in
     let is_one : is_listed (listed ast) Clone ≡ true = rw (← c.requires.traits_are) c.requires.lists in
-    handler_uncaused Clone ast c.in_ok-settings.ensures.uncaused c.in_ok-bound.ensures.uncaused (record {
-      copy = λ e clones lists said. (c.in_ok-copies.ensures.uncaused lists).none_stands e (inr (lists, said));
-      marked = none_unmarked ast (fields_uncaused Clone ast c.in_ok-settings.ensures.uncaused)
-          (subst (λ (kept : List Kept). list_all (marks ast) kept ≡ true) (ap (map kept_of) c.deref.ensures.value ∙ c.in_ok-kept.ensures) c.in_ok-check_markers.ensures.built);
-    }) refl is_one
+    handler_uncaused Clone ast c.in_ok-settings.ensures.uncaused c.in_ok-bound.ensures.uncaused
+    (record { copy = λ e clones lists said. (c.in_ok-copies.ensures.uncaused lists).none_stands e (inr (lists, said)) }) refl is_one
 
 pub returns-in_err-items-clause-err : goal.returns-in_err-items-clause-err
 returns-in_err-items-clause-err c =

@@ -5,7 +5,9 @@ use Rattle.educe_tree.specs.declared.attr.Meta.{Meta}
 use Rattle.educe_grammar.specs.Attributes.{metas}
 use Rattle.educe_grammar.specs.Parsed.{depth_limit, IsWhole}
 use Rattle.educe_grammar.specs.Placed.{AreMetasPlaced}
+use Rattle.educe_grammar.specs.NotedReads.{read as noted_read}
 use Rattle.educe_grammar.specs.Reads.{read}
+use Rattle.educe_grammar.proofs.Forgetting.{forget_read}
 use Rattle.educe_grammar.specs.Steps.{Tokens}
 use Rattle.educe_grammar.proofs.Placed.{metas_stand}
 use Rattle.educe_grammar.proofs.ReadsAgain.{metas_again}
@@ -20,7 +22,7 @@ placed tokens (Err e) whole = tt
 
 pub returns : goal.returns
 returns c =
-    let is = c.whole.ensures (read depth_limit metas) (record { reads = λ old new r p. search rules }) in
+    let is = c.whole.ensures (noted_read depth_limit metas) (read depth_limit metas) (record { reads = λ old new r p. search rules }) (forget_read depth_limit metas) in
     let all = answer_clauses metas metas_again metas_ready c.args.tokens.now c.whole.result is in record {
       found = all.found;
       only = all.only;

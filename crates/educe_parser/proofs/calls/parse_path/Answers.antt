@@ -1,7 +1,9 @@
 use Rattle.std.proofs.Common.{rules}
 use Rattle.educe_grammar.specs.Expressions.{expr_path}
 use Rattle.educe_grammar.specs.Parsed.{depth_limit}
+use Rattle.educe_grammar.specs.NotedReads.{read as noted_read}
 use Rattle.educe_grammar.specs.Reads.{read}
+use Rattle.educe_grammar.proofs.Forgetting.{forget_read}
 use Rattle.educe_grammar.proofs.ReadsAgain.{expr_path_again}
 use Rattle.educe_grammar.proofs.Ready.{expr_path_ready}
 use Rattle.educe_parser.proofs.Answering.{answer_clauses}
@@ -9,7 +11,7 @@ use Rattle.educe_parser.proofs.calls.parse_path.Goals as goal
 
 pub returns : goal.returns
 returns c =
-    let is = c.whole.ensures (read depth_limit expr_path) (record { reads = λ old new r p. search rules }) in
+    let is = c.whole.ensures (noted_read depth_limit expr_path) (read depth_limit expr_path) (record { reads = λ old new r p. search rules }) (forget_read depth_limit expr_path) in
     let all = answer_clauses expr_path expr_path_again expr_path_ready c.args.tokens.now c.whole.result is in record {
       found = all.found;
       only = all.only;

@@ -1,7 +1,9 @@
 use Rattle.std.proofs.Common.{rules}
 use Rattle.educe_grammar.specs.Generics.{predicates}
 use Rattle.educe_grammar.specs.Parsed.{depth_limit}
+use Rattle.educe_grammar.specs.NotedReads.{read as noted_read}
 use Rattle.educe_grammar.specs.Reads.{read}
+use Rattle.educe_grammar.proofs.Forgetting.{forget_read}
 use Rattle.educe_grammar.proofs.ReadsAgain.{predicates_again}
 use Rattle.educe_grammar.proofs.Ready.{predicates_ready}
 use Rattle.educe_parser.proofs.Answering.{answer_clauses}
@@ -9,7 +11,7 @@ use Rattle.educe_parser.proofs.calls.parse_predicates.Goals as goal
 
 pub returns : goal.returns
 returns c =
-    let is = c.whole.ensures (read depth_limit predicates) (record { reads = λ old new r p. search rules }) in
+    let is = c.whole.ensures (noted_read depth_limit predicates) (read depth_limit predicates) (record { reads = λ old new r p. search rules }) (forget_read depth_limit predicates) in
     let all = answer_clauses predicates predicates_again predicates_ready c.args.tokens.now c.whole.result is in record {
       found = all.found;
       only = all.only;

@@ -4,4 +4,4 @@ use Rattle.educe_parser_paths.proofs.names.segment_name.Goals as goal
 pub returns : goal.returns
 returns c = λ budget.
     let taken = c.in_ok-token.ensures.taken in let made = c.in_ok-ident_of.ensures in
-    read_segment_name budget c.args.cursor.now _ c.in_ok-token.token.now taken.0 c.in_ok-ident_of.field-0 taken.1 made.text made.span
+    read_segment_name budget c.args.input.now _ c.in_ok-token.token.now taken.0 c.in_ok-ident_of.field-0 taken.1 made.text made.span

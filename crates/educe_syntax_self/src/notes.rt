@@ -1,0 +1,80 @@
+//! What is noted of the paths that begin with `Self`, where tokens are read that are known to have a
+//! value.
+ghost use Rattle.std.specs.Prelude.{◌≡◌, IfOk};
+ghost use Rattle.educe_grammar.specs.Expressions.{expr_path};
+ghost use Rattle.educe_grammar.specs.Generics.{generic_param, predicate};
+ghost use Rattle.educe_grammar.specs.Parsed.{IsWhole};
+ghost use Rattle.educe_grammar.specs.Types.{any_type};
+ghost use Rattle.educe_tree.specs.declared.expr.ExprPath.{ExprPath};
+ghost use Rattle.educe_tree.specs.declared.ty.Ty.{Ty};
+ghost use Rattle.educe_syntax_self.specs.Splicing.{notes_of, whole_notes, noted_before};
+
+use crate::again::unless_memory;
+use crate::knot::{note_param, note_path, note_predicate, note_type};
+use educe_grammar::{ParseError, ParseStream, SelfPath};
+use educe_tokens::{Seq, TokenSlice};
+use std::alloc::{AllocError, Global};
+
+/// What is noted of a type.
+pub(crate) fn type_notes(alloc: Global, tokens: &TokenSlice) -> Result<Seq<SelfPath>, AllocError>
+    requires { (ty : Ty) × IsWhole any_type tokens.now ty }
+    ensures { IfOk result (λ notes. notes ≡ notes_of any_type tokens.now) }
+{
+    let mut input = ParseStream::new(alloc, tokens);
+    unless_memory(note_type(alloc, &mut input))?;
+    Ok(input.selves)
+}
+
+/// What is noted of a path.
+pub(crate) fn path_notes(alloc: Global, tokens: &TokenSlice) -> Result<Seq<SelfPath>, AllocError>
+    requires { (path : ExprPath) × IsWhole expr_path tokens.now path }
+    ensures { IfOk result (λ notes. notes ≡ notes_of expr_path tokens.now) }
+{
+    let mut input = ParseStream::new(alloc, tokens);
+    unless_memory(note_path(alloc, &mut input))?;
+    Ok(input.selves)
+}
+
+/// What was noted, where no tokens are left.
+#[tactic(auto, unfolding(educe_grammar::specs::Ahead::at_end))]
+fn noted(input: ParseStream<'_>) -> Option<Seq<SelfPath>>
+    ensures { result ≡ noted_before input.entry.cursor input.entry.selves }
+{
+    if input.cursor.at_end() {
+        Some(input.selves)
+    } else {
+        None
+    }
+}
+
+/// What is noted of a generic parameter, where the tokens are one.
+pub(crate) fn param_notes(
+    alloc: Global,
+    tokens: &TokenSlice,
+) -> Result<Option<Seq<SelfPath>>, AllocError>
+    ensures { IfOk result (λ notes. notes ≡ whole_notes generic_param tokens.now) }
+{
+    let mut input = ParseStream::new(alloc, tokens);
+    match note_param(alloc, &mut input) {
+        Ok(_) => Ok(noted(input)),
+        Err(ParseError::Memory) => Err(AllocError),
+        Err(ParseError::Syntax(_)) => Ok(None),
+        Err(ParseError::TooDeep(_)) => Ok(None),
+    }
+}
+
+/// What is noted of a predicate, where the tokens are one.
+pub(crate) fn predicate_notes(
+    alloc: Global,
+    tokens: &TokenSlice,
+) -> Result<Option<Seq<SelfPath>>, AllocError>
+    ensures { IfOk result (λ notes. notes ≡ whole_notes predicate tokens.now) }
+{
+    let mut input = ParseStream::new(alloc, tokens);
+    match note_predicate(alloc, &mut input) {
+        Ok(_) => Ok(noted(input)),
+        Err(ParseError::Memory) => Err(AllocError),
+        Err(ParseError::Syntax(_)) => Ok(None),
+        Err(ParseError::TooDeep(_)) => Ok(None),
+    }
+}
