@@ -382,7 +382,7 @@ impl<R: Inside> Production<Parts<R>> for Predicate {
 }
 
 /// A predicate (Rust Reference, Where clauses).
-pub fn predicate<R: Inside>(
+pub fn where_predicate<R: Inside>(
     parts: &Parts<R>,
     input: &mut ParseStream<'_>,
     budget: u8,

@@ -5,8 +5,9 @@ ghost use Rattle.educe_grammar.specs.declared.ending.Ending.TheVariants.{Closed}
 ghost use Rattle.educe_tokens.specs.Bracket.TheVariants.{Round};
 ghost use Rattle.educe_grammar.specs.Ahead.{one, stop};
 ghost use Rattle.educe_grammar.specs.Combining.{optional, skipping, flag, commas, sign, word, at, at_angle, at_sign, at_word};
+ghost use Rattle.educe_grammar.specs.Names.{lifetime};
 ghost use Rattle.educe_grammar.specs.NotedReads.{read};
-ghost use Rattle.educe_grammar.specs.Rules.{types, exprs, token, empty, both, either, made, part};
+ghost use Rattle.educe_grammar.specs.Rules.{types, plains, exprs, token, empty, both, either, made, part};
 ghost use Rattle.educe_grammar.specs.Steps.{Gives};
 ghost use Rattle.educe_grammar.specs.Types as spec;
 ghost use Rattle.educe_grammar.specs.declared.terminal.Keyword.TheVariants as keyword;
@@ -162,6 +163,21 @@ fn round_form<R: Inside>(
     nested::<Parts<R>, RoundInside>(parts, input, budget, Bracket::Round)
 }
 
+/// The lifetime, the `mut` and the type of a reference (Rust Reference, Pointer types).
+#[tactic(auto, unfolding(educe_grammar::proofs::Opened::rules))]
+fn referred<R: Inside>(
+    parts: &Parts<R>,
+    input: &mut ParseStream<'_>,
+    budget: u8,
+) -> Result<(bool, Typed), ParseError>
+    requires { R.nests parts.now.inside (budget + 1) }
+    ensures { Gives (read budget (skipping (flag (at (one terminal.Lifetime)) lifetime) (both (flag (at_word keyword.Mut) (word keyword.Mut)) (part plains))) input.old) result input.new }
+{
+    skip_lifetime(input);
+    let mutable = input.cursor.eat(Terminal::Word(Keyword::Mut));
+    pair(mutable, parts.plain(input, budget))
+}
+
 /// `&'a mut` and a type (Rust Reference, Pointer types).
 #[tactic(auto, unfolding(educe_grammar::proofs::Opened::rules, educe_grammar::specs::Types::reference))]
 fn reference<R: Inside>(
@@ -173,9 +189,7 @@ fn reference<R: Inside>(
     ensures { Gives (read budget spec.reference input.old) result input.new }
 {
     let below = input.cursor.open_under(budget, Terminal::Sign('&'))?;
-    skip_lifetime(input);
-    let mutable = input.cursor.eat(Terminal::Word(Keyword::Mut));
-    let (target, ending) = parts.plain(input, below)?;
+    let (mutable, (target, ending)) = referred(parts, input, below)?;
     let target = Boxed::new(parts.alloc, target)?;
     Ok((TypeForm::Reference(mutable, target), ending))
 }

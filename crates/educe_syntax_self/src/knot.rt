@@ -107,5 +107,5 @@ pub(crate) fn note_predicate(
 ) -> Result<WherePredicate, ParseError>
     ensures { Gives (read depth_limit predicate input.old) result input.new }
 {
-    educe_parser_definitions::predicate(&parts!(alloc), input, PARSED)
+    educe_parser_definitions::where_predicate(&parts!(alloc), input, PARSED)
 }
