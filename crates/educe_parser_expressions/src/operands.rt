@@ -1,11 +1,13 @@
 //! The operands of an expression (Rust Reference, Expressions).
 ghost use Rattle.std.specs.Prelude.{◌≡◌, ⊤};
-ghost use Rattle.educe_grammar.specs.Ahead.{is_sign};
-ghost use Rattle.educe_grammar.specs.Combining.{in_round, unit};
+ghost use Rattle.educe_grammar.specs.Ahead.{is_sign, start};
+ghost use Rattle.educe_grammar.specs.Combining.{at, in_round, unit};
 ghost use Rattle.educe_grammar.specs.Expressions as spec;
 ghost use Rattle.educe_grammar.specs.NotedReads.{read};
-ghost use Rattle.educe_grammar.specs.Rules.{exprs, part};
+ghost use Rattle.educe_grammar.specs.Rules.{exprs, part, made, checked, both, either};
 ghost use Rattle.educe_grammar.specs.Steps.{Gives};
+ghost use Rattle.educe_tokens.specs.Bracket.TheVariants.{Round};
+ghost use Rattle.educe_tree.specs.declared.expr.ExprForm.TheVariants as form;
 
 use crate::expr_paths::expr_path;
 use crate::lookahead::{AtPostfix, AtPrefix};
@@ -133,6 +135,45 @@ impl<R: Inside> Production<Parts<R>> for Postfix {
     }
 }
 
+/// A path, and what stands behind it where it names a macro or a struct (Rust Reference, Path
+/// expressions).
+#[tactic(auto, unfolding(educe_grammar::proofs::Opened::rules))]
+fn path_operand<R: Inside>(
+    parts: &Parts<R>,
+    input: &mut ParseStream<'_>,
+    budget: u8,
+) -> Result<ExprForm, ParseError>
+    requires { R.nests parts.now.inside budget }
+    ensures { Gives (read budget (made (λ p. spec.tail_form p.1) (checked spec.fits_tail (both spec.expr_path spec.path_tail))) input.old) result input.new }
+{
+    let path = expr_path(parts, input, budget)?;
+    let (path, tail) = pair(path, path_tail(parts, input, budget))?;
+    let fits = fits_tail(&path, tail);
+    drop(path);
+    if !fits {
+        return Err(input.cursor.refuse());
+    }
+    Ok(tail_form(tail))
+}
+
+/// An operand in parentheses, or a path (Rust Reference, Grouped expressions; Tuple expressions; Path
+/// expressions).
+#[tactic(auto, unfolding(educe_grammar::proofs::Opened::rules))]
+fn group_or_path<R: Inside>(
+    parts: &Parts<R>,
+    input: &mut ParseStream<'_>,
+    budget: u8,
+) -> Result<ExprForm, ParseError>
+    requires { R.nests parts.now.inside budget }
+    ensures { Gives (read budget (either (at (start Round)) (made (λ _. form.Other) (in_round (part exprs))) (made (λ p. spec.tail_form p.1) (checked spec.fits_tail (both spec.expr_path spec.path_tail)))) input.old) result input.new }
+{
+    if input.cursor.opens(Bracket::Round) {
+        round_exprs(parts, input, budget)?;
+        return Ok(ExprForm::Other);
+    }
+    path_operand(parts, input, budget)
+}
+
 /// An operand with no prefix and no postfix (Rust Reference, Literal expressions; Path
 /// expressions; Grouped expressions; Tuple expressions).
 #[tactic(auto, unfolding(educe_grammar::proofs::Opened::rules, educe_grammar::specs::Expressions::primary))]
@@ -150,18 +191,7 @@ fn primary<R: Inside>(
     if input.cursor.eat(Terminal::Truth) {
         return Ok(ExprForm::Truth);
     }
-    if input.cursor.opens(Bracket::Round) {
-        round_exprs(parts, input, budget)?;
-        return Ok(ExprForm::Other);
-    }
-    let path = expr_path(parts, input, budget)?;
-    let (path, tail) = pair(path, path_tail(parts, input, budget))?;
-    let fits = fits_tail(&path, tail);
-    drop(path);
-    if !fits {
-        return Err(input.cursor.refuse());
-    }
-    Ok(tail_form(tail))
+    group_or_path(parts, input, budget)
 }
 
 /// An operand with its prefixes and postfixes (Rust Reference, Operator expressions).
