@@ -5,21 +5,22 @@ use Rattle.std.specs.Fn.{Shared}
 use Rattle.std.specs.declared.alloc.Global.{Global}
 use denote.Ref.{MutBor}
 use Rattle.educe_grammar.specs.declared.parse_error.ParseError.{ParseError}
+use Rattle.educe_grammar.specs.declared.parse_stream.ParseStream.{ParseStream}
 use Rattle.educe_tree.specs.declared.expr.Expr.{Expr}
 use Rattle.educe_tree.specs.declared.ty.Ty.{Ty}
 use Rattle.educe_parser.specs.declared.readers.Readers.{Readers}
 use Rattle.educe_grammar.specs.Rules.{Part, TreeOf, Typed, types, plains, exprs}
-use Rattle.educe_grammar.specs.Reads.{readers}
-use Rattle.educe_grammar.specs.Steps.{Tokens, Gives}
+use Rattle.educe_grammar.specs.NotedReads.{readers}
+use Rattle.educe_grammar.specs.Steps.{Gives}
 
 -- the calls of a function value that reads a tree with a budget
 abbrev pub Calls : Type 0 → Type 0 → Type 1
-Calls F A = Shared F (Global × (MutBor Tokens × (ℕ × Unit {0}))) (Result A ParseError × (MutBor Tokens × Unit {0}))
+Calls F A = Shared F (Global × (MutBor ParseStream × (ℕ × Unit {0}))) (Result A ParseError × (MutBor ParseStream × Unit {0}))
 
 -- A function value that reads the part, where the budget is below a bound.
 pub record ReadsBelow {F : Type 0} (p : Part) (calls : Calls F (TreeOf p)) (f : F) (bound : ℕ) : Type 0 where
-  pub callable : (alloc : Global) (old : MutBor Tokens) (budget : ℕ) → budget < bound → calls.pre f (alloc, (old, (budget, tt)))
-  pub reads : (alloc : Global) (old new : MutBor Tokens) (budget : ℕ) (r : Result (TreeOf p) ParseError) → budget < bound
+  pub callable : (alloc : Global) (old : MutBor ParseStream) (budget : ℕ) → budget < bound → calls.pre f (alloc, (old, (budget, tt)))
+  pub reads : (alloc : Global) (old new : MutBor ParseStream) (budget : ℕ) (r : Result (TreeOf p) ParseError) → budget < bound
       → calls.post f (alloc, (old, (budget, tt))) (r, (new, tt)) → Gives (readers budget p old.now) r new.now
 
 -- Function values that read the parts, where the budget is below a bound.

@@ -1,12 +1,15 @@
 //! Unions, which are not supported (Rust Reference, Unions).
-ghost use Rattle.std.specs.Prelude.{◌≡◌, ◌⊎◌, ◌↔◌, List, ◌∷◌, IsTrue, IfOk, IfSome, IfNone};
+ghost use Rattle.std.specs.Prelude.{◌≡◌, ◌≢◌, ◌⊎◌, ◌↔◌, List, ◌∷◌, IsTrue, Ok, Err, IfOk, IfErr, IfSome, IfNone};
 ghost use Rattle.educe_tokens.specs.declared.error.Kind.TheVariants.{Alloc};
 ghost use Rattle.educe_tokens.specs.declared.token.Token.{Token};
 ghost use Rattle.educe_tokens.specs.Refusals.{placeless};
 ghost use Rattle.educe_grammar.specs.Attributes as attributes;
 ghost use Rattle.educe_grammar.specs.Combining.{unit};
+ghost use Rattle.educe_grammar.specs.declared.parse_error.ParseError.TheVariants.{Memory};
 ghost use Rattle.educe_grammar.specs.Definitions as definitions;
 ghost use Rattle.educe_grammar.specs.NotedReads.{read};
+ghost use Rattle.educe_grammar.specs.Parsed.{depth_limit};
+ghost use Rattle.educe_grammar.specs.Reads as plain;
 ghost use Rattle.educe_grammar.specs.Refusal.{IsUnion, IsUnionWord, union_of};
 ghost use Rattle.educe_grammar.specs.Rules.{both};
 ghost use Rattle.educe_grammar.specs.Steps.{Gives};
@@ -24,6 +27,18 @@ fn head(alloc: Global, input: &mut ParseStream<'_>, budget: u8) -> Result<(), Pa
 {
     attributes(alloc, input, budget)?;
     visibility(alloc, input, budget)
+}
+
+/// What stands behind that, which is the item of a definition.
+fn behind_head(alloc: Global, tokens: &TokenSlice) -> Result<&[Token], ParseError>
+    ensures ok { let outcome = plain.read depth_limit (unit (both attributes.attributes definitions.visibility)) tokens.now in
+        IfOk result (λ rest. outcome ≡ Ok (tt, rest.now)) }
+    ensures err { let outcome = plain.read depth_limit (unit (both attributes.attributes definitions.visibility)) tokens.now in
+        IfErr result (λ e. e ≢ Memory → outcome ≡ Err e) }
+{
+    let mut input = ParseStream::new(alloc, tokens);
+    head(alloc, &mut input, DEPTH_LIMIT)?;
+    Ok(input.cursor.rest())
 }
 
 /// Whether the token is the word `union`, which is no keyword (Rust Reference, Keywords).
@@ -56,9 +71,8 @@ pub fn union_word<'a>(
     ensures some { IfOk result (λ found. IfSome found (λ word. IsUnion tokens.now word.now)) }
     ensures none { IfOk result (λ found. IfNone found ((word : Token) → IsUnion tokens.now word → ⊥)) }
 {
-    let mut input = ParseStream::new(alloc, tokens);
-    match head(alloc, &mut input, DEPTH_LIMIT) {
-        Ok(()) => Ok(first_union(input.cursor.rest())),
+    match behind_head(alloc, tokens) {
+        Ok(rest) => Ok(first_union(rest)),
         Err(ParseError::Memory) => Err(AllocError),
         Err(ParseError::Syntax(_)) => Ok(None),
         Err(ParseError::TooDeep(_)) => Ok(None),
