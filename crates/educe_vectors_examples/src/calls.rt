@@ -1,13 +1,13 @@
 //! Calls of functions that are expanded, as in `eq 0(1, 2) 0(1, 3)`.
 
 use crate::outcomes::rendered;
-use crate::rows::{Example, LINE};
+use crate::rows::Example;
 use crate::told::{answers, is_told};
 use crate::values::value;
 use educe_body::{Answers, Body, ImplItem, Item, Items, Scope, Value};
 use educe_body_eval::eval;
 use educe_syntax::DeriveInput;
-use educe_vectors_checks::check_at;
+use educe_vectors_checks::{LINE, check_at};
 use std::alloc::{AllocError, Global};
 use std::test::Fail;
 

@@ -1,8 +1,8 @@
 //! What is found of the tokens of a source, as a text.
 
-use crate::rows::{Example, LINE};
+use crate::rows::Example;
 use educe_tokens::{EduceError, Token, int_value, string_value};
-use educe_vectors_checks::{check_at, lex_answer, lexed, printed_source};
+use educe_vectors_checks::{LINE, check_at, lex_answer, lexed, printed_source};
 use std::alloc::{AllocError, Global};
 use std::test::Fail;
 

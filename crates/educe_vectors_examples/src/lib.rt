@@ -12,5 +12,5 @@ mod values;
 
 pub use calls::check_calls;
 pub use lexing::{check_tokens, cites};
-pub use rows::{Example, LINE, read_example, rows_of, word_of};
+pub use rows::{Example, read_example, word_of};
 pub use told::is_told;

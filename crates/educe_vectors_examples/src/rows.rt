@@ -1,9 +1,7 @@
 //! The rows of a table.
 
+use educe_vectors_checks::LINE;
 use std::test::Fail;
-
-/// What stands in front of each line behind the source of a row.
-pub const LINE: &str = "\n: ";
 
 /// A row of a table: its name, its source, and the lines behind it, which `LINE` keeps apart.
 #[derive(Clone, Copy)]
@@ -11,12 +9,6 @@ pub struct Example<'a> {
     pub name: &'a str,
     pub source: &'a str,
     pub lines: &'a str,
-}
-
-/// The rows of a table, which an empty line keeps apart.
-pub fn rows_of(table: &str) -> Result<&str, Fail> {
-    let behind = table.strip_prefix('\n').ok_or("no line feed in front")?;
-    Ok(behind.strip_suffix('\n').ok_or("no line feed behind")?)
 }
 
 /// The word that a line begins with.

@@ -1,9 +1,10 @@
 //! What lines of a row tell of what calls answer, as rows of the table that bodies are evaluated by.
 
-use crate::rows::{LINE, word_of};
+use crate::rows::word_of;
 use crate::values::number;
 use educe_body::{Answer, Answers, Callee, FieldValue, Row};
 use educe_tokens::{Seq, Spelling};
+use educe_vectors_checks::LINE;
 use std::alloc::Global;
 use std::cmp::Ordering;
 use std::test::Fail;

@@ -43,10 +43,8 @@
 use crate::program::{Case, Outcome, shown};
 use educe_core::{Expansion, expand};
 use educe_tokens::SOURCE_LIMIT;
-use educe_vectors_checks::{check_at, definition, found};
-use educe_vectors_examples::{
-    Example, LINE, check_calls, check_tokens, is_told, read_example, rows_of, word_of,
-};
+use educe_vectors_checks::{LINE, check_at, definition, found, rows_of};
+use educe_vectors_examples::{Example, check_calls, check_tokens, is_told, read_example, word_of};
 use std::alloc::Global;
 use std::test::Fail;
 
