@@ -9,13 +9,9 @@ use educe_attrs::{AttributeBuilder, FieldBuilder, TypeBuilder};
 use educe_bound::Trait;
 use educe_syntax::{Attributes, Duplicate, Meta, parse_metas};
 use educe_tokens::{EduceError, Kind, SOURCE_LIMIT};
-use educe_vectors_checks::{check_at, definition, found, lexed_slice};
+use educe_vectors_checks::{check_rows, definition, found, lexed_slice};
 use std::alloc::Global;
 use std::test::Fail;
-
-/// A text; the place of its refusal, a line and a column, which is empty where it is not refused;
-/// and the message of the refusal, or what the text says.
-pub(crate) type Case = (&'static str, &'static str, &'static str);
 
 /// Whether the message of the kind cites no word.
 fn cites_nothing(kind: Kind) -> bool
@@ -103,22 +99,6 @@ pub(crate) fn answer<A: Worded + Drop>(
     }
 }
 
-/// What the row expects, as `answer` writes it.
-fn expected(alloc: Global, case: &Case) -> Result<String, Fail> {
-    let (_, place, text) = case;
-    if place.is_empty() {
-        Ok(String::from_str(alloc, text)?)
-    } else {
-        Ok(format!(in alloc; "{place}: {text}")?)
-    }
-}
-
-/// What is answered is what the row expects.
-pub(crate) fn check_case(alloc: Global, case: &Case, found: &str) -> Result<(), Fail> {
-    let expected = expected(alloc, case)?;
-    check_at(case.0, found, expected.as_str())
-}
-
 /// Whether the meta has a name.
 fn is_named(meta: &Meta) -> bool
     ensures { IsTrue result → IsNamed meta.now }
@@ -151,19 +131,20 @@ where
     answer(alloc, source, answered)
 }
 
-/// What a builder reads in each meta.
+/// What a builder reads in each meta of a table.
 pub(crate) fn check_metas<B: AttributeBuilder + Drop>(
     alloc: Global,
     builder: B,
-    cases: &[Case],
+    table: &str,
 ) -> Result<(), Fail>
 where
     B::Attribute: Worded,
 {
-    for case in cases {
-        check_case(alloc, case, &read_meta(alloc, &builder, case.0)?)?;
-    }
-    Ok(())
+    check_rows(
+        alloc,
+        |alloc, source| read_meta(alloc, &builder, source),
+        table,
+    )
 }
 
 /// The text of a struct with these attributes.
@@ -177,68 +158,70 @@ pub(crate) fn attributes(alloc: Global, source: &str) -> Result<Attributes, Fail
     Ok(input.attrs)
 }
 
-/// What a builder reads in the attributes of a type or a variant.
+/// What a builder reads in the attributes of a type or a variant, which a text is.
 fn read_type<B: TypeBuilder>(
     alloc: Global,
     builder: &B,
     traits: &[Trait],
-    source: &str,
+    text: &str,
 ) -> Result<String, Fail>
 where
     B::Attribute: Worded,
 {
-    let attributes = attributes(alloc, source)?;
+    let source = with_struct(alloc, text)?;
+    let attributes = attributes(alloc, &source)?;
     let answered = builder.build_from_attributes(alloc, &attributes, traits);
     drop(attributes);
-    answer(alloc, source, answered)
+    answer(alloc, &source, answered)
 }
 
-/// What a builder reads in the attributes of a type or a variant whose type lists these traits.
+/// What a builder reads in attributes of types or variants whose type lists these traits.
 pub(crate) fn check_types<B: TypeBuilder + Drop>(
     alloc: Global,
     builder: B,
     traits: &[Trait],
-    cases: &[Case],
+    table: &str,
 ) -> Result<(), Fail>
 where
     B::Attribute: Worded,
 {
-    for case in cases {
-        let source = with_struct(alloc, case.0)?;
-        check_case(alloc, case, &read_type(alloc, &builder, traits, &source)?)?;
-    }
-    Ok(())
+    check_rows(
+        alloc,
+        |alloc, text| read_type(alloc, &builder, traits, text),
+        table,
+    )
 }
 
-/// What a builder reads in the attributes of a field.
+/// What a builder reads in the attributes of a field, which a text is.
 fn read_field<B: FieldBuilder>(
     alloc: Global,
     builder: &B,
     traits: &[Trait],
-    source: &str,
+    text: &str,
 ) -> Result<String, Fail>
 where
     B::Attribute: Worded,
 {
-    let attributes = attributes(alloc, source)?;
+    let source = with_struct(alloc, text)?;
+    let attributes = attributes(alloc, &source)?;
     let answered = builder.build_from_attributes(alloc, &attributes, traits);
     drop(attributes);
-    answer(alloc, source, answered)
+    answer(alloc, &source, answered)
 }
 
-/// What a builder reads in the attributes of a field whose type lists these traits.
+/// What a builder reads in attributes of fields whose type lists these traits.
 pub(crate) fn check_fields<B: FieldBuilder + Drop>(
     alloc: Global,
     builder: B,
     traits: &[Trait],
-    cases: &[Case],
+    table: &str,
 ) -> Result<(), Fail>
 where
     B::Attribute: Worded,
 {
-    for case in cases {
-        let source = with_struct(alloc, case.0)?;
-        check_case(alloc, case, &read_field(alloc, &builder, traits, &source)?)?;
-    }
-    Ok(())
+    check_rows(
+        alloc,
+        |alloc, text| read_field(alloc, &builder, traits, text),
+        table,
+    )
 }

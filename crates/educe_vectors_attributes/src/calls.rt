@@ -1,9 +1,10 @@
 //! The calls of builders that are named after a trait.
 ghost use Rattle.educe_attrs_values.specs.Metas.{IsNamed};
 
-use crate::answers::{Case, answer, check_case, only_meta};
+use crate::answers::{answer, only_meta};
 use crate::builders::{debug_field, debug_struct, ord_field, partial_ord_field};
 use educe_attrs::{clone, copy, default, eq, hash, ord, partial_eq, partial_ord};
+use educe_attrs_values::path_of;
 use educe_bound::Trait;
 use educe_syntax::Meta;
 use std::alloc::Global;
@@ -233,34 +234,24 @@ fn field_words(alloc: Global, which: Trait, source: &str, meta: &Meta) -> Result
     }
 }
 
-/// What the attribute of a trait says of a type, which is the one meta that a text is.
-fn read_type(alloc: Global, which: Trait, source: &str) -> Result<String, Fail> {
+/// The trait that a meta names.
+fn named_trait(meta: &Meta) -> Result<Trait, Fail> {
+    let path = path_of(meta).ok_or("no name")?;
+    Ok(Trait::from_path(path).ok_or("no trait")?)
+}
+
+/// What the attribute of a trait says of a type. It is the one meta that a text is.
+pub(crate) fn read_type(alloc: Global, source: &str) -> Result<String, Fail> {
     let meta = only_meta(alloc, source)?;
-    let words = type_words(alloc, which, source, &meta);
+    let words = type_words(alloc, named_trait(&meta)?, source, &meta);
     drop(meta);
     words
 }
 
-/// What the attribute of a trait says of a field, which is the one meta that a text is.
-fn read_field(alloc: Global, which: Trait, source: &str) -> Result<String, Fail> {
+/// What the attribute of a trait says of a field. It is the one meta that a text is.
+pub(crate) fn read_field(alloc: Global, source: &str) -> Result<String, Fail> {
     let meta = only_meta(alloc, source)?;
-    let words = field_words(alloc, which, source, &meta);
+    let words = field_words(alloc, named_trait(&meta)?, source, &meta);
     drop(meta);
     words
-}
-
-/// The attribute of each trait says so of a type.
-pub(crate) fn check_type_calls(alloc: Global, cases: &[(Trait, Case)]) -> Result<(), Fail> {
-    for (which, case) in cases {
-        check_case(alloc, case, &read_type(alloc, *which, case.0)?)?;
-    }
-    Ok(())
-}
-
-/// The attribute of each trait says so of a field.
-pub(crate) fn check_field_calls(alloc: Global, cases: &[(Trait, Case)]) -> Result<(), Fail> {
-    for (which, case) in cases {
-        check_case(alloc, case, &read_field(alloc, *which, case.0)?)?;
-    }
-    Ok(())
 }

@@ -1,11 +1,11 @@
 //! What the builder of `Default` at fields answers, to which the type of the field is given.
 
-use crate::answers::{Case, answer, attributes, check_case, only_meta, with_struct};
+use crate::answers::{answer, attributes, only_meta, with_struct};
 use educe_attrs::default::FieldAttributeBuilder;
 use educe_attrs_generated::auto_adjust_expr;
 use educe_bound::Trait;
 use educe_syntax::{Duplicate, Expr, Field, FieldShape, Shape, Ty, parse_expr};
-use educe_vectors_checks::{check_at, definition, found, lexed_slice, printed};
+use educe_vectors_checks::{check_rows, definition, found, lexed_slice, printed};
 use std::alloc::Global;
 use std::test::Fail;
 
@@ -56,76 +56,53 @@ fn read_meta(
     answer(alloc, source, answered)
 }
 
-/// What the builder reads in each meta, for a field of the type.
-fn check_metas(
-    alloc: Global,
-    builder: &FieldAttributeBuilder,
-    ty: &Ty,
-    cases: &[Case],
-) -> Result<(), Fail> {
-    for case in cases {
-        check_case(alloc, case, &read_meta(alloc, builder, ty, case.0)?)?;
-    }
-    Ok(())
-}
-
-/// What the builder reads in each meta, for a field of the type that a text is.
+/// What the builder reads in each meta of a table, for a field of the type that a text is.
 pub(crate) fn check_defaults(
     alloc: Global,
     builder: &FieldAttributeBuilder,
     ty: &str,
-    cases: &[Case],
+    table: &str,
 ) -> Result<(), Fail> {
     let ty = type_of(alloc, ty)?;
-    let checked = check_metas(alloc, builder, &ty, cases);
+    let checked = check_rows(
+        alloc,
+        |alloc, source| read_meta(alloc, builder, &ty, source),
+        table,
+    );
     drop(ty);
     checked
 }
 
-/// What the builder reads in the attributes of a field of the type, where its struct lists these
-/// traits.
+/// What the builder reads in the attributes of a field of the type, which a text is, where its struct
+/// lists these traits.
 fn read_attributes(
     alloc: Global,
     builder: &FieldAttributeBuilder,
     ty: &Ty,
     traits: &[Trait],
-    source: &str,
+    text: &str,
 ) -> Result<String, Fail> {
-    let attributes = attributes(alloc, source)?;
+    let source = with_struct(alloc, text)?;
+    let attributes = attributes(alloc, &source)?;
     let answered = builder.build_from_attributes(alloc, &attributes, traits, ty);
     drop(attributes);
-    answer(alloc, source, answered)
+    answer(alloc, &source, answered)
 }
 
-/// What the builder reads in the attributes of each field of the type.
-fn check_places(
-    alloc: Global,
-    builder: &FieldAttributeBuilder,
-    ty: &Ty,
-    traits: &[Trait],
-    cases: &[Case],
-) -> Result<(), Fail> {
-    for case in cases {
-        let source = with_struct(alloc, case.0)?;
-        check_case(
-            alloc,
-            case,
-            &read_attributes(alloc, builder, ty, traits, &source)?,
-        )?;
-    }
-    Ok(())
-}
-
-/// What the builder reads in the attributes of each field of the type that a text is.
+/// What the builder reads in attributes of fields of the type that a text is.
 pub(crate) fn check_default_places(
     alloc: Global,
     builder: &FieldAttributeBuilder,
     ty: &str,
     traits: &[Trait],
-    cases: &[Case],
+    table: &str,
 ) -> Result<(), Fail> {
     let ty = type_of(alloc, ty)?;
-    let checked = check_places(alloc, builder, &ty, traits, cases);
+    let checked = check_rows(
+        alloc,
+        |alloc, text| read_attributes(alloc, builder, &ty, traits, text),
+        table,
+    );
     drop(ty);
     checked
 }
@@ -141,19 +118,11 @@ fn written_for(alloc: Global, ty: &Ty, value: &str) -> Result<String, Fail> {
     Ok(printed(alloc, written)?)
 }
 
-/// The same for a field of the type that a text is.
-fn written(alloc: Global, ty: &str, value: &str) -> Result<String, Fail> {
+/// The same for the type of a field and its default value, as in `u8 = 1`.
+pub(crate) fn written(alloc: Global, text: &str) -> Result<String, Fail> {
+    let (ty, value) = text.split_once(" = ").ok_or(text)?;
     let ty = type_of(alloc, ty)?;
-    let text = written_for(alloc, &ty, value);
+    let written = written_for(alloc, &ty, value);
     drop(ty);
-    text
-}
-
-/// Each default value is written so for a field of the type.
-pub(crate) fn check_values(alloc: Global, cases: &[(&str, &str, &str)]) -> Result<(), Fail> {
-    for (ty, value, expected) in cases {
-        let found = written(alloc, ty, value)?;
-        check_at((*ty, *value), found.as_str(), *expected)?;
-    }
-    Ok(())
+    written
 }

@@ -11,7 +11,7 @@ use educe_vectors_checks::{check_at, printed};
 use std::alloc::{AllocError, Global};
 use std::test::Fail;
 
-/// What stands behind a token: a blank, unless it is joint with the next.
+/// What stands between a token and the next: a blank, unless they are joint.
 fn gap(kind: TokenKind) -> &'static str {
     if matches!(kind, TokenKind::Punct(_, true)) {
         ""
@@ -20,12 +20,14 @@ fn gap(kind: TokenKind) -> &'static str {
     }
 }
 
-/// The text of tokens, which ends with a blank.
+/// The text of tokens.
 pub(crate) fn spelled(alloc: Global, tokens: &[Token]) -> Result<String, AllocError> {
     let mut text = String::new(alloc);
+    let mut between = "";
     for token in tokens {
+        text.push_str(between)?;
         text.push_str(token.spelling.as_str())?;
-        text.push_str(gap(token.kind))?;
+        between = gap(token.kind);
     }
     Ok(text)
 }
@@ -42,36 +44,21 @@ fn impl_attributes(alloc: Global, attributes: &Attributes) -> Result<String, All
     spelled(alloc, tokens.as_slice())
 }
 
-/// The attributes of a type give these lint attributes, and an impl has them behind its own.
-fn check_given(
-    alloc: Global,
-    source: &str,
-    attributes: &Attributes,
-    expected: &str,
-) -> Result<(), Fail> {
-    check_at(source, lints(alloc, attributes)?.as_str(), expected)?;
-    let all = format!(in alloc; "# [ automatically_derived ] {expected}")?;
-    check_at(
-        source,
-        impl_attributes(alloc, attributes)?.as_str(),
-        all.as_str(),
-    )
+/// The lint attributes for those of a type. An impl has them behind its own.
+fn lints_of(alloc: Global, source: &str, attributes: &Attributes) -> Result<String, Fail> {
+    let lints = lints(alloc, attributes)?;
+    let all = format!(in alloc; "# [ automatically_derived ] {lints}")?;
+    let found = impl_attributes(alloc, attributes)?;
+    check_at(source, found.as_str(), all.as_str().trim_end())?;
+    Ok(lints)
 }
 
-/// The same of the attributes that a text is.
-fn check_lint(alloc: Global, source: &str, expected: &str) -> Result<(), Fail> {
+/// The lint attributes for those of a type, which a text is.
+pub(crate) fn lint_text(alloc: Global, source: &str) -> Result<String, Fail> {
     let attributes = attributes(alloc, &with_struct(alloc, source)?)?;
-    let checked = check_given(alloc, source, &attributes, expected);
+    let lints = lints_of(alloc, source, &attributes);
     drop(attributes);
-    checked
-}
-
-/// Each type has these lint attributes.
-pub(crate) fn check_lints(alloc: Global, cases: &[(&str, &str)]) -> Result<(), Fail> {
-    for (source, expected) in cases {
-        check_lint(alloc, source, expected)?;
-    }
-    Ok(())
+    lints
 }
 
 /// Whether a type with these attributes is packed.
@@ -82,12 +69,14 @@ fn packed(alloc: Global, source: &str) -> Result<bool, Fail> {
     Ok(packed?)
 }
 
-/// Whether each type is packed.
-pub(crate) fn check_packed(alloc: Global, cases: &[(&str, bool)]) -> Result<(), Fail> {
-    for (source, expected) in cases {
-        check_at(*source, packed(alloc, source)?, *expected)?;
-    }
-    Ok(())
+/// The same in words.
+pub(crate) fn packed_words(alloc: Global, source: &str) -> Result<String, Fail> {
+    let words = if packed(alloc, source)? {
+        "packed"
+    } else {
+        "not packed"
+    };
+    Ok(String::from_str(alloc, words)?)
 }
 
 /// The type of the discriminants of an enum with these attributes.
@@ -98,32 +87,20 @@ fn discriminants(alloc: Global, source: &str) -> Result<DiscriminantType, Fail> 
     Ok(ty?)
 }
 
-/// The discriminants of each type have the type of this name.
-pub(crate) fn check_discriminants(alloc: Global, cases: &[(&str, &str)]) -> Result<(), Fail> {
-    for (source, name) in cases {
-        let ty = discriminants(alloc, source)?;
-        check_at(*source, ty.as_str(), *name)?;
-    }
-    Ok(())
+/// The name of the type of the discriminants of an enum with these attributes.
+pub(crate) fn discriminants_name(alloc: Global, source: &str) -> Result<String, Fail> {
+    let ty = discriminants(alloc, source)?;
+    Ok(String::from_str(alloc, ty.as_str())?)
 }
 
-/// Each type is the one of its name, and is printed as a path.
-pub(crate) fn check_types(
-    alloc: Global,
-    cases: &[(DiscriminantType, &str, &str)],
-) -> Result<(), Fail> {
-    for (ty, name, path) in cases {
-        check_at(*name, ty.as_str(), *name)?;
-        check_at(*name, DiscriminantType::parse_str(name), Some(*ty))?;
-        check_at(*name, printed(alloc, *ty)?.as_str(), *path)?;
+/// The type of discriminants that has this name, and the path as which it is printed.
+pub(crate) fn named_type(alloc: Global, name: &str) -> Result<String, Fail> {
+    match DiscriminantType::parse_str(name) {
+        Some(ty) => {
+            check_at(name, ty.as_str(), name)?;
+            let path = printed(alloc, ty)?;
+            Ok(format!(in alloc; "{ty:?}, {path}")?)
+        }
+        None => Ok(String::from_str(alloc, "no type")?),
     }
-    Ok(())
-}
-
-/// The names are those of no type.
-pub(crate) fn check_no_types(names: &[&str]) -> Result<(), Fail> {
-    for name in names {
-        check_at(*name, DiscriminantType::parse_str(name), None)?;
-    }
-    Ok(())
 }

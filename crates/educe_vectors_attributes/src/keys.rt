@@ -50,19 +50,19 @@ fn shown(alloc: Global, key: &IdentOrIndex, value: &str) -> Result<String, Fail>
     Ok(format!(in alloc; "{text} {binding} {initializer}")?)
 }
 
-/// The key of this name or index is shown so.
-fn check_key(alloc: Global, case: &(&str, u32, &str, &str)) -> Result<(), Fail> {
-    let (name, index, value, expected) = case;
-    let found = shown(alloc, &key(alloc, name, *index)?, value)?;
-    check_at((*name, *index), found.as_str(), *expected)?;
-    let found = shown(alloc, &plain(alloc, name, *index)?, value)?;
-    check_at((*name, *index), found.as_str(), *expected)
+/// The key of a field of this name at the place, with a value. That of the name or the place by itself is
+/// shown alike.
+fn shown_alike(alloc: Global, name: &str, index: u32, value: &str) -> Result<String, Fail> {
+    let found = shown(alloc, &key(alloc, name, index)?, value)?;
+    let alike = shown(alloc, &plain(alloc, name, index)?, value)?;
+    check_at((name, index), alike.as_str(), found.as_str())?;
+    Ok(found)
 }
 
-/// Each key is shown so.
-pub(crate) fn check_keys(alloc: Global, cases: &[(&str, u32, &str, &str)]) -> Result<(), Fail> {
-    for case in cases {
-        check_key(alloc, case)?;
-    }
-    Ok(())
+/// The same for the name of a field, if it has one, its place and a value, as in `a 3 = x` and `0 = x`.
+pub(crate) fn shown_key(alloc: Global, text: &str) -> Result<String, Fail> {
+    let (field, value) = text.split_once(" = ").ok_or(text)?;
+    let (name, index) = field.split_once(' ').unwrap_or(("", field));
+    let index = index.parse::<u32>().ok().ok_or(text)?;
+    shown_alike(alloc, name, index, value)
 }

@@ -1,6 +1,6 @@
 //! Which traits types list.
 
-use crate::answers::{Case, attributes, check_case, line, with_struct};
+use crate::answers::{attributes, line, with_struct};
 use educe_attrs_places::type_listing;
 use educe_attrs_values::error_of;
 use educe_bound::Trait;
@@ -9,12 +9,14 @@ use educe_vectors_checks::check_at;
 use std::alloc::{AllocError, Global};
 use std::test::Fail;
 
-/// The names of the traits, with a blank behind each.
+/// The names of the traits.
 fn names(alloc: Global, traits: &[Trait]) -> Result<String, AllocError> {
     let mut names = String::new(alloc);
+    let mut between = "";
     for which in traits {
+        names.push_str(between)?;
         names.push_str(which.name())?;
-        names.push(' ')?;
+        between = " ";
     }
     Ok(names)
 }
@@ -42,25 +44,17 @@ fn end_of(source: &str) -> Result<u32, Fail> {
     }
 }
 
-/// The names of the traits that the type lists, or the line of the refusal.
-fn listing(alloc: Global, source: &str) -> Result<String, Fail> {
-    let end = end_of(source)?;
-    let attributes = attributes(alloc, source)?;
+/// The names of the traits that a type with these attributes lists, or the line of the refusal.
+pub(crate) fn listing(alloc: Global, text: &str) -> Result<String, Fail> {
+    let source = with_struct(alloc, text)?;
+    let end = end_of(&source)?;
+    let attributes = attributes(alloc, &source)?;
     let listed = type_listing(alloc, attributes.as_slice(), end);
     drop(attributes);
     match listed {
         Ok(traits) => Ok(names(alloc, traits.as_slice())?),
-        Err(stop) => line(alloc, source, &with_format(error_of(alloc, stop))),
+        Err(stop) => line(alloc, &source, &with_format(error_of(alloc, stop))),
     }
-}
-
-/// Each text lists these traits.
-pub(crate) fn check_listings(alloc: Global, cases: &[Case]) -> Result<(), Fail> {
-    for case in cases {
-        let source = with_struct(alloc, case.0)?;
-        check_case(alloc, case, &listing(alloc, &source)?)?;
-    }
-    Ok(())
 }
 
 /// The place at which a text that lists no trait is refused.

@@ -1,4 +1,4 @@
-//! The tables: a text, the place of its refusal, and the message or what the text says.
+//! The tables (`educe_vectors_checks`, `rows.rt`): a text, and the place and the message of its refusal, or what it says.
 
 mod bounds;
 mod calls;

@@ -1,16 +1,16 @@
 //! What the readers of values answer.
 ghost use Rattle.educe_attrs_values.specs.Metas.{IsNamed};
 
-use crate::answers::{Case, answer, check_case, only_meta};
-use crate::words::Worded;
+use crate::answers::{answer, only_meta};
+use crate::words::{Worded, span_words};
 use educe_attrs_values::{
     IdentOrBool, ValueKind, meta_2_bool, meta_2_bool_allow_path, meta_2_expr, meta_2_ident,
     meta_2_ident_and_bool, meta_2_isize, meta_2_path,
 };
 use educe_bound::Bound;
 use educe_syntax::{Expr, ExprPath, Ident, Meta, text_of_tree};
-use educe_tokens::{EduceError, Span};
-use educe_vectors_checks::{check_at, found};
+use educe_tokens::EduceError;
+use educe_vectors_checks::{check_rows, found};
 use std::alloc::Global;
 use std::test::Fail;
 
@@ -77,29 +77,17 @@ fn read(alloc: Global, kind: ValueKind, source: &str) -> Result<String, Fail> {
     words
 }
 
-/// Each meta has this value of the kind.
-pub(crate) fn check_values(alloc: Global, kind: ValueKind, cases: &[Case]) -> Result<(), Fail> {
-    for case in cases {
-        check_case(alloc, case, &read(alloc, kind, case.0)?)?;
-    }
-    Ok(())
+/// What each meta of a table has as its value of the kind.
+pub(crate) fn check_values(alloc: Global, kind: ValueKind, table: &str) -> Result<(), Fail> {
+    check_rows(alloc, |alloc, source| read(alloc, kind, source), table)
 }
 
 /// The place of the name that the one meta that a text is has as its value.
-fn read_place(alloc: Global, source: &str) -> Result<Span, Fail> {
+pub(crate) fn read_place(alloc: Global, source: &str) -> Result<String, Fail> {
     let meta = only_meta(alloc, source)?;
     let read = found(meta_2_ident(alloc, &meta));
     drop(meta);
-    Ok(read?.span)
-}
-
-/// The name that each meta has as its value has this place.
-pub(crate) fn check_places(alloc: Global, cases: &[(&str, u32, u32)]) -> Result<(), Fail> {
-    for (source, start, end) in cases {
-        let place = read_place(alloc, source)?;
-        check_at(*source, (place.start, place.end), (*start, *end))?;
-    }
-    Ok(())
+    span_words(alloc, read?.span)
 }
 
 /// The refusal that is answered.
@@ -111,18 +99,9 @@ fn refusal<T: Drop>(answered: Result<T, EduceError>) -> Result<EduceError, Fail>
 }
 
 /// The place at which the one meta that a text is has no name or truth value.
-fn refused_place(alloc: Global, source: &str) -> Result<Span, Fail> {
+pub(crate) fn refused_place(alloc: Global, source: &str) -> Result<String, Fail> {
     let meta = only_meta(alloc, source)?;
     let error = refusal(meta_2_ident_and_bool(alloc, &meta));
     drop(meta);
-    Ok(error?.span)
-}
-
-/// Each meta is refused at this place.
-pub(crate) fn check_refused(alloc: Global, cases: &[(&str, u32, u32)]) -> Result<(), Fail> {
-    for (source, start, end) in cases {
-        let place = refused_place(alloc, source)?;
-        check_at(*source, (place.start, place.end), (*start, *end))?;
-    }
-    Ok(())
+    span_words(alloc, error?.span)
 }

@@ -93,7 +93,7 @@ fn marked(flag: bool) -> &'static str {
 }
 
 /// A place in the text.
-fn span_words(alloc: Global, span: Span) -> Result<String, Fail> {
+pub(crate) fn span_words(alloc: Global, span: Span) -> Result<String, Fail> {
     let Span { start, end } = span;
     Ok(format!(in alloc; "at {start} to {end}")?)
 }

@@ -1,549 +1,296 @@
 //! The attributes of fields by which two values are ordered: ranks, and what one order takes from the
 //! other (documentation of `educe`, PartialOrd; Ord).
 
-use crate::answers::{Case, check_fields, check_metas};
+use crate::answers::{check_fields, check_metas};
 use crate::builders::{ord_field, partial_ord_field};
 use educe_bound::Trait;
 use std::test::Fail;
 
-const ORD_FORMS: &str =
-    "you are using an incorrect format of the `Ord` attribute, which should be reformatted as follows:
+static ORD: &str = r#"
+Ord = false
+Ord(ignore)
+: ignored; no method; rank 7
+
+Ord = true
+: kept; no method; rank 7
+
+Ord(method = f)
+: kept; method f; rank 7
+
+Ord(rank = 1)
+Ord[rank = 1]
+: kept; no method; rank 1 at 4 to 12
+
+Ord{rank(1)}
+Ord(rank[1])
+: kept; no method; rank 1 at 4 to 11
+
+Ord(rank = -1)
+: kept; no method; rank -1 at 4 to 13
+
+Ord(rank(- 7))
+: kept; no method; rank -7 at 4 to 13
+
+Ord(rank = 0)
+: kept; no method; rank 0 at 4 to 12
+
+Ord(rank = -0)
+: kept; no method; rank 0 at 4 to 13
+
+Ord(rank = 0x_Fu8)
+: kept; no method; rank 15 at 4 to 17
+
+Ord(rank = 1_000i64)
+: kept; no method; rank 1000 at 4 to 19
+
+Ord(rank = "-1")
+: kept; no method; rank -1 at 4 to 15
+
+Ord(rank = "+5")
+Ord(rank = r"5")
+: kept; no method; rank 5 at 4 to 15
+
+Ord(rank("007"))
+: kept; no method; rank 7 at 4 to 15
+
+Ord(rank = 9223372036854775807)
+: kept; no method; rank 9223372036854775807 at 4 to 30
+
+Ord(rank = -9223372036854775808)
+: kept; no method; rank -9223372036854775808 at 4 to 31
+
+Ord(rank = "9223372036854775807")
+: kept; no method; rank 9223372036854775807 at 4 to 32
+
+Ord(rank = "-9223372036854775808")
+: kept; no method; rank -9223372036854775808 at 4 to 33
+
+Ord(ignore, rank = 3, method = f)
+: ignored; method f; rank 3 at 12 to 20
+
+Ord
+Ord()
+Ord(bound = false)
+Ord(name = x)
+Ord(r#rank = 1)
+Ord(r#ignore)
+Ord(a::rank = 1)
+Ord(::rank = 1)
+: 1:1: you are using an incorrect format of the `Ord` attribute, which should be reformatted as follows:
     #[educe(Ord = false)]
     #[educe(Ord(ignore))]
     #[educe(Ord(method(path_to_method)))]
-    #[educe(Ord(rank = integer))]";
+    #[educe(Ord(rank = integer))]
 
-const PARTIAL_ORD_FORMS: &str =
-    "you are using an incorrect format of the `PartialOrd` attribute, which should be reformatted as follows:
-    #[educe(PartialOrd = false)]
-    #[educe(PartialOrd(ignore))]
-    #[educe(PartialOrd(method(path_to_method)))]
-    #[educe(PartialOrd(rank = integer))]";
+Ord = 1
+: 1:7: expected `Ord = false`
 
-const NO_RANK: &str = "expected `rank = integer`";
+Ord(rank)
+: 1:5: expected `rank = integer` or `rank(integer)`
 
-static ORD: [Case; 23] = [
-    ("Ord = false", "", "ignored; no method; rank 7"),
-    ("Ord = true", "", "kept; no method; rank 7"),
-    ("Ord(ignore)", "", "ignored; no method; rank 7"),
-    ("Ord(method = f)", "", "kept; method f; rank 7"),
-    ("Ord(rank = 1)", "", "kept; no method; rank 1 at 4 to 12"),
-    ("Ord[rank = 1]", "", "kept; no method; rank 1 at 4 to 12"),
-    ("Ord{rank(1)}", "", "kept; no method; rank 1 at 4 to 11"),
-    ("Ord(rank[1])", "", "kept; no method; rank 1 at 4 to 11"),
-    ("Ord(rank = -1)", "", "kept; no method; rank -1 at 4 to 13"),
-    ("Ord(rank(- 7))", "", "kept; no method; rank -7 at 4 to 13"),
-    ("Ord(rank = 0)", "", "kept; no method; rank 0 at 4 to 12"),
-    ("Ord(rank = -0)", "", "kept; no method; rank 0 at 4 to 13"),
-    (
-        "Ord(rank = 0x_Fu8)",
-        "",
-        "kept; no method; rank 15 at 4 to 17",
-    ),
-    (
-        "Ord(rank = 1_000i64)",
-        "",
-        "kept; no method; rank 1000 at 4 to 19",
-    ),
-    (
-        "Ord(rank = \"-1\")",
-        "",
-        "kept; no method; rank -1 at 4 to 15",
-    ),
-    (
-        "Ord(rank = \"+5\")",
-        "",
-        "kept; no method; rank 5 at 4 to 15",
-    ),
-    (
-        "Ord(rank(\"007\"))",
-        "",
-        "kept; no method; rank 7 at 4 to 15",
-    ),
-    (
-        "Ord(rank = r\"5\")",
-        "",
-        "kept; no method; rank 5 at 4 to 15",
-    ),
-    (
-        "Ord(rank = 9223372036854775807)",
-        "",
-        "kept; no method; rank 9223372036854775807 at 4 to 30",
-    ),
-    (
-        "Ord(rank = -9223372036854775808)",
-        "",
-        "kept; no method; rank -9223372036854775808 at 4 to 31",
-    ),
-    (
-        "Ord(rank = \"9223372036854775807\")",
-        "",
-        "kept; no method; rank 9223372036854775807 at 4 to 32",
-    ),
-    (
-        "Ord(rank = \"-9223372036854775808\")",
-        "",
-        "kept; no method; rank -9223372036854775808 at 4 to 33",
-    ),
-    (
-        "Ord(ignore, rank = 3, method = f)",
-        "",
-        "ignored; method f; rank 3 at 12 to 20",
-    ),
-];
+Ord(rank = 9223372036854775808)
+Ord(rank = -9223372036854775809)
+Ord(rank = a)
+Ord(rank = true)
+Ord(rank = '1')
+Ord(rank = (1))
+Ord(rank = !1)
+Ord(rank = - -1)
+Ord(rank = 1 + 1)
+Ord(rank = "9223372036854775808")
+Ord(rank = "-9223372036854775809")
+Ord(rank = "")
+Ord(rank = " 1")
+Ord(rank = "1 ")
+Ord(rank = "- 1")
+Ord(rank = "+-1")
+Ord(rank = "-")
+Ord(rank = "+")
+Ord(rank = "0x1")
+Ord(rank = "1_0")
+Ord(rank = "1u8")
+Ord(rank = "１")
+Ord(rank = "1.5")
+Ord(rank = "(")
+Ord(rank = -"1")
+: 1:12: expected `rank = integer`
 
-static ORD_OTHER_FORMS: [Case; 8] = [
-    ("Ord", "1:1", ORD_FORMS),
-    ("Ord()", "1:1", ORD_FORMS),
-    ("Ord(bound = false)", "1:1", ORD_FORMS),
-    ("Ord(name = x)", "1:1", ORD_FORMS),
-    ("Ord(r#rank = 1)", "1:1", ORD_FORMS),
-    ("Ord(r#ignore)", "1:1", ORD_FORMS),
-    ("Ord(a::rank = 1)", "1:1", ORD_FORMS),
-    ("Ord(::rank = 1)", "1:1", ORD_FORMS),
-];
+Ord(rank(+ 1))
+Ord(rank(1 2))
+Ord(rank((1)))
+: 1:10: expected `rank = integer`
 
-static ORD_VALUES: [Case; 20] = [
-    ("Ord = 1", "1:7", "expected `Ord = false`"),
-    (
-        "Ord(rank)",
-        "1:5",
-        "expected `rank = integer` or `rank(integer)`",
-    ),
-    ("Ord(rank = 9223372036854775808)", "1:12", NO_RANK),
-    ("Ord(rank = -9223372036854775809)", "1:12", NO_RANK),
-    ("Ord(rank = a)", "1:12", NO_RANK),
-    ("Ord(rank = true)", "1:12", NO_RANK),
-    ("Ord(rank = '1')", "1:12", NO_RANK),
-    ("Ord(rank = (1))", "1:12", NO_RANK),
-    ("Ord(rank = !1)", "1:12", NO_RANK),
-    ("Ord(rank = - -1)", "1:12", NO_RANK),
-    ("Ord(rank = 1 + 1)", "1:12", NO_RANK),
-    ("Ord(rank(+ 1))", "1:10", NO_RANK),
-    ("Ord(rank(1 2))", "1:10", NO_RANK),
-    ("Ord(rank())", "1:9", NO_RANK),
-    ("Ord(rank{})", "1:9", NO_RANK),
-    ("Ord(rank((1)))", "1:10", NO_RANK),
-    (
-        "Ord(rank = 1, rank = 2)",
-        "1:15",
-        "you are trying to reset the `rank` parameter",
-    ),
-    (
-        "Ord(rank = 1, ignore, rank(2))",
-        "1:23",
-        "you are trying to reset the `rank` parameter",
-    ),
-    (
-        "Ord(ignore, method = f, ignore)",
-        "1:25",
-        "you are trying to reset the `ignore` parameter",
-    ),
-    ("Ord(rank = 1 ignore)", "1:14", "syntax error"),
-];
+Ord(rank())
+Ord(rank{})
+: 1:9: expected `rank = integer`
 
-static ORD_STRINGS: [Case; 16] = [
-    ("Ord(rank = \"9223372036854775808\")", "1:12", NO_RANK),
-    ("Ord(rank = \"-9223372036854775809\")", "1:12", NO_RANK),
-    ("Ord(rank = \"\")", "1:12", NO_RANK),
-    ("Ord(rank = \" 1\")", "1:12", NO_RANK),
-    ("Ord(rank = \"1 \")", "1:12", NO_RANK),
-    ("Ord(rank = \"- 1\")", "1:12", NO_RANK),
-    ("Ord(rank = \"+-1\")", "1:12", NO_RANK),
-    ("Ord(rank = \"-\")", "1:12", NO_RANK),
-    ("Ord(rank = \"+\")", "1:12", NO_RANK),
-    ("Ord(rank = \"0x1\")", "1:12", NO_RANK),
-    ("Ord(rank = \"1_0\")", "1:12", NO_RANK),
-    ("Ord(rank = \"1u8\")", "1:12", NO_RANK),
-    ("Ord(rank = \"１\")", "1:12", NO_RANK),
-    ("Ord(rank = \"1.5\")", "1:12", NO_RANK),
-    ("Ord(rank = \"(\")", "1:12", NO_RANK),
-    ("Ord(rank = -\"1\")", "1:12", NO_RANK),
-];
+Ord(rank = 1, rank = 2)
+: 1:15: you are trying to reset the `rank` parameter
 
-static PARTIAL_ORD: [Case; 9] = [
-    ("PartialOrd = false", "", "ignored; no method; rank -3"),
-    ("PartialOrd(method = f)", "", "kept; method f; rank -3"),
-    (
-        "PartialOrd(rank = 1, ignore = true)",
-        "",
-        "ignored; no method; rank 1 at 11 to 19",
-    ),
-    ("PartialOrd", "1:1", PARTIAL_ORD_FORMS),
-    ("PartialOrd()", "1:1", PARTIAL_ORD_FORMS),
-    ("PartialOrd(new)", "1:1", PARTIAL_ORD_FORMS),
-    ("PartialOrd(rank = x)", "1:19", NO_RANK),
-    (
-        "PartialOrd(method)",
-        "1:12",
-        "expected `method = Path` or `method(Path)`",
-    ),
-    (
-        "PartialOrd(method = f, method = g)",
-        "1:24",
-        "you are trying to reset the `method` parameter",
-    ),
-];
+Ord(rank = 1, ignore, rank(2))
+: 1:23: you are trying to reset the `rank` parameter
 
-static WITHOUT_RANK: [Case; 2] = [
-    ("Ord(ignore)", "", "ignored; no method; rank 7"),
-    (
-        "Ord(rank = 1)",
-        "1:1",
-        "you are using an incorrect format of the `Ord` attribute, which should be reformatted as follows:
-    #[educe(Ord = false)]
-    #[educe(Ord(ignore))]
-    #[educe(Ord(method(path_to_method)))]",
-    ),
-];
+Ord(ignore, method = f, ignore)
+: 1:25: you are trying to reset the `ignore` parameter
 
-static ONLY_RANK: [Case; 4] = [
-    (
-        "PartialOrd(rank = 1)",
-        "",
-        "kept; no method; rank 1 at 11 to 19",
-    ),
-    (
-        "PartialOrd = false",
-        "1:1",
-        "you are using an incorrect format of the `PartialOrd` attribute, which should be reformatted as follows:
-    #[educe(PartialOrd(rank = integer))]",
-    ),
-    (
-        "PartialOrd(ignore)",
-        "1:1",
-        "you are using an incorrect format of the `PartialOrd` attribute, which should be reformatted as follows:
-    #[educe(PartialOrd(rank = integer))]",
-    ),
-    (
-        "PartialOrd(method = f)",
-        "1:1",
-        "you are using an incorrect format of the `PartialOrd` attribute, which should be reformatted as follows:
-    #[educe(PartialOrd(rank = integer))]",
-    ),
-];
-
-static NO_SWITCH: [Case; 2] = [
-    (
-        "Ord(rank = 1)",
-        "1:1",
-        "the `Ord` attribute cannot be placed here",
-    ),
-    (
-        "Ord = false",
-        "1:1",
-        "the `Ord` attribute cannot be placed here",
-    ),
-];
-
-static ORD_OR_PARTIAL_ORD: [Case; 14] = [
-    ("", "", "kept; no method; rank 7"),
-    (
-        "#[educe(Ord(rank = 1))]",
-        "",
-        "kept; no method; rank 1 at 12 to 20",
-    ),
-    (
-        "#[educe(PartialOrd = false)]",
-        "",
-        "ignored; no method; rank 7",
-    ),
-    (
-        "#[educe(PartialOrd(ignore))]",
-        "",
-        "ignored; no method; rank 7",
-    ),
-    (
-        "#[educe(PartialOrd(rank = 1))]",
-        "",
-        "kept; no method; rank 1 at 19 to 27",
-    ),
-    (
-        "#[educe(PartialOrd(method = f))]",
-        "",
-        "kept; no method; rank 7",
-    ),
-    (
-        "#[educe(PartialOrd(method = f, rank = -2, ignore))]",
-        "",
-        "ignored; no method; rank -2 at 31 to 40",
-    ),
-    (
-        "#[educe(PartialOrd(ignore), Ord(rank = 1))]",
-        "",
-        "kept; no method; rank 1 at 32 to 40",
-    ),
-    (
-        "#[educe(PartialOrd(rank = 1), Ord = true)]",
-        "",
-        "kept; no method; rank 7",
-    ),
-    (
-        "#[educe(Ord(method = f))] #[educe(PartialOrd(rank = 1))]",
-        "",
-        "kept; method f; rank 7",
-    ),
-    (
-        "#[educe(PartialOrd(foo), Ord(rank = 1))]",
-        "",
-        "kept; no method; rank 1 at 29 to 37",
-    ),
-    (
-        "#[educe(Ord(rank = 1), PartialOrd)]",
-        "",
-        "kept; no method; rank 1 at 12 to 20",
-    ),
-    (
-        "#[educe(Ord(rank = 1), PartialOrd(ignore), PartialOrd(ignore))]",
-        "",
-        "kept; no method; rank 1 at 12 to 20",
-    ),
-    (
-        "#[educe(PartialOrd(ignore))] #[educe(Ord(rank = 1))] #[educe(PartialOrd(1 1))]",
-        "",
-        "kept; no method; rank 1 at 41 to 49",
-    ),
-];
-
-static ORD_OR_PARTIAL_ORD_OTHER_FORMS: [Case; 3] = [
-    ("#[educe(PartialOrd)]", "1:9", PARTIAL_ORD_FORMS),
-    ("#[educe(PartialOrd(foo))]", "1:9", PARTIAL_ORD_FORMS),
-    ("#[educe(PartialOrd(ignore), Ord)]", "1:29", ORD_FORMS),
-];
-
-static ORD_OR_PARTIAL_ORD_VALUES: [Case; 8] = [
-    ("#[educe(PartialOrd(rank = x))]", "1:27", NO_RANK),
-    (
-        "#[educe(PartialOrd(rank))]",
-        "1:20",
-        "expected `rank = integer` or `rank(integer)`",
-    ),
-    (
-        "#[educe(PartialOrd(rank = 1, rank = 1))]",
-        "1:30",
-        "you are trying to reset the `rank` parameter",
-    ),
-    (
-        "#[educe(PartialOrd(rank = 1), PartialOrd(rank = 2))]",
-        "1:31",
-        "the trait `PartialOrd` is used repeatedly",
-    ),
-    (
-        "#[educe(PartialOrd(ignore))] #[educe[PartialOrd(ignore)]]",
-        "1:38",
-        "the trait `PartialOrd` is used repeatedly",
-    ),
-    (
-        "#[educe(Ord(rank = 1), PartialOrd(ignore), Ord(rank = 1))]",
-        "1:44",
-        "the trait `Ord` is used repeatedly",
-    ),
-    (
-        "#[educe(PartialOrd(method = 1))]",
-        "1:29",
-        "expected `method = Path`",
-    ),
-    (
-        "#[educe(PartialOrd(ignore), Ord(rank = x))]",
-        "1:40",
-        NO_RANK,
-    ),
-];
-
-static PARTIAL_ORD_OR_ORD: [Case; 16] = [
-    ("", "", "kept; no method; rank -3"),
-    (
-        "#[educe(PartialOrd(method = f))]",
-        "",
-        "kept; method f; rank -3",
-    ),
-    (
-        "#[educe(Ord(method = f))]",
-        "",
-        "kept; method f of `Ord`; rank -3",
-    ),
-    ("#[educe(Ord(ignore))]", "", "ignored; no method; rank -3"),
-    ("#[educe(Ord = false)]", "", "ignored; no method; rank -3"),
-    (
-        "#[educe(Ord(rank = 5, method = \"a::f\"))]",
-        "",
-        "kept; method a :: f of `Ord`; rank 5 at 12 to 20",
-    ),
-    (
-        "#[educe(PartialOrd(ignore), Ord(rank = 1, method = f))]",
-        "",
-        "ignored; no method; rank -3",
-    ),
-    (
-        "#[educe(Ord(method = f), PartialOrd(method = g))]",
-        "",
-        "kept; method g; rank -3",
-    ),
-    (
-        "#[educe(Ord(foo), PartialOrd(ignore))]",
-        "",
-        "ignored; no method; rank -3",
-    ),
-    (
-        "#[educe(Ord(ignore), Ord(ignore), PartialOrd(ignore))]",
-        "",
-        "ignored; no method; rank -3",
-    ),
-    (
-        "#[educe(PartialOrd(foo), Ord(rank = 1))]",
-        "1:9",
-        PARTIAL_ORD_FORMS,
-    ),
-    ("#[educe(Ord(foo))]", "1:9", ORD_FORMS),
-    ("#[educe(Ord)]", "1:9", ORD_FORMS),
-    (
-        "#[educe(Ord(method = 1))]",
-        "1:22",
-        "expected `method = Path`",
-    ),
-    (
-        "#[educe(Ord(ignore), Ord(rank = 2))]",
-        "1:22",
-        "the trait `Ord` is used repeatedly",
-    ),
-    (
-        "#[educe(PartialOrd(ignore), PartialOrd(ignore))]",
-        "1:29",
-        "the trait `PartialOrd` is used repeatedly",
-    ),
-];
-
-static ORD_ALONE: [Case; 3] = [
-    (
-        "#[educe(Ord(rank = 1))]",
-        "",
-        "kept; no method; rank 1 at 12 to 20",
-    ),
-    (
-        "#[educe(PartialOrd(rank = 1))]",
-        "1:9",
-        "the trait `PartialOrd` is not used",
-    ),
-    (
-        "#[educe(PartialOrd(foo))]",
-        "1:9",
-        "the trait `PartialOrd` is not used",
-    ),
-];
-
-static PARTIAL_ORD_ALONE: [Case; 2] = [
-    (
-        "#[educe(PartialOrd(ignore))]",
-        "",
-        "ignored; no method; rank -3",
-    ),
-    (
-        "#[educe(PartialOrd(ignore), Ord(ignore))]",
-        "1:29",
-        "the trait `Ord` is not used",
-    ),
-];
-
-/// A place whose type lists the other order alone.
-static ORD_WITHOUT_ORD: [Case; 3] = [
-    ("", "", "kept; no method; rank 7"),
-    (
-        "#[educe(PartialOrd(rank = 1))]",
-        "",
-        "kept; no method; rank 7",
-    ),
-    (
-        "#[educe(Ord(rank = 1))]",
-        "1:9",
-        "the trait `Ord` is not used",
-    ),
-];
-
-static ORD_WITHOUT_SWITCHES: [Case; 3] = [
-    ("", "", "kept; no method; rank 7"),
-    (
-        "#[educe(PartialOrd(rank = 1))]",
-        "1:9",
-        "the `PartialOrd` attribute cannot be placed here",
-    ),
-    (
-        "#[educe(Ord(rank = 1))]",
-        "1:9",
-        "the `Ord` attribute cannot be placed here",
-    ),
-];
-
-static PARTIAL_ORD_WITHOUT_METHOD: [Case; 3] = [
-    (
-        "#[educe(Ord(rank = 1))]",
-        "",
-        "kept; no method; rank 1 at 12 to 20",
-    ),
-    (
-        "#[educe(Ord(method = f))]",
-        "1:9",
-        "you are using an incorrect format of the `Ord` attribute, which should be reformatted as follows:
-    #[educe(Ord = false)]
-    #[educe(Ord(ignore))]
-    #[educe(Ord(rank = integer))]",
-    ),
-    (
-        "#[educe(PartialOrd(method = f))]",
-        "1:9",
-        "you are using an incorrect format of the `PartialOrd` attribute, which should be reformatted as follows:
-    #[educe(PartialOrd = false)]
-    #[educe(PartialOrd(ignore))]
-    #[educe(PartialOrd(rank = integer))]",
-    ),
-];
+Ord(rank = 1 ignore)
+: 1:14: syntax error
+"#;
 
 #[test]
 fn ord_at_a_field(rt: HostRuntime) -> Result<(), Fail> {
-    check_metas(rt.alloc(), ord_field(true, true, true), &ORD)
+    check_metas(rt.alloc(), ord_field(true, true, true), ORD)
 }
 
-#[test]
-fn ord_at_a_field_in_other_forms(rt: HostRuntime) -> Result<(), Fail> {
-    check_metas(rt.alloc(), ord_field(true, true, true), &ORD_OTHER_FORMS)
-}
+static PARTIAL_ORD: &str = r#"
+PartialOrd = false
+: ignored; no method; rank -3
 
-#[test]
-fn ord_at_a_field_with_other_values(rt: HostRuntime) -> Result<(), Fail> {
-    check_metas(rt.alloc(), ord_field(true, true, true), &ORD_VALUES)
-}
+PartialOrd(method = f)
+: kept; method f; rank -3
 
-#[test]
-fn ord_at_a_field_with_other_strings(rt: HostRuntime) -> Result<(), Fail> {
-    check_metas(rt.alloc(), ord_field(true, true, true), &ORD_STRINGS)
-}
+PartialOrd(rank = 1, ignore = true)
+: ignored; no method; rank 1 at 11 to 19
+
+PartialOrd
+PartialOrd()
+PartialOrd(new)
+: 1:1: you are using an incorrect format of the `PartialOrd` attribute, which should be reformatted as follows:
+    #[educe(PartialOrd = false)]
+    #[educe(PartialOrd(ignore))]
+    #[educe(PartialOrd(method(path_to_method)))]
+    #[educe(PartialOrd(rank = integer))]
+
+PartialOrd(rank = x)
+: 1:19: expected `rank = integer`
+
+PartialOrd(method)
+: 1:12: expected `method = Path` or `method(Path)`
+
+PartialOrd(method = f, method = g)
+: 1:24: you are trying to reset the `method` parameter
+"#;
 
 #[test]
 fn partial_ord_at_a_field(rt: HostRuntime) -> Result<(), Fail> {
-    check_metas(
-        rt.alloc(),
-        partial_ord_field(true, true, true),
-        &PARTIAL_ORD,
-    )
+    check_metas(rt.alloc(), partial_ord_field(true, true, true), PARTIAL_ORD)
 }
+
+static WITHOUT_RANK: &str = r#"
+Ord(ignore)
+: ignored; no method; rank 7
+
+Ord(rank = 1)
+: 1:1: you are using an incorrect format of the `Ord` attribute, which should be reformatted as follows:
+    #[educe(Ord = false)]
+    #[educe(Ord(ignore))]
+    #[educe(Ord(method(path_to_method)))]
+"#;
 
 #[test]
 fn ord_without_a_rank(rt: HostRuntime) -> Result<(), Fail> {
-    check_metas(rt.alloc(), ord_field(true, true, false), &WITHOUT_RANK)
+    check_metas(rt.alloc(), ord_field(true, true, false), WITHOUT_RANK)
 }
+
+static ONLY_RANK: &str = r#"
+PartialOrd(rank = 1)
+: kept; no method; rank 1 at 11 to 19
+
+PartialOrd = false
+PartialOrd(ignore)
+PartialOrd(method = f)
+: 1:1: you are using an incorrect format of the `PartialOrd` attribute, which should be reformatted as follows:
+    #[educe(PartialOrd(rank = integer))]
+"#;
 
 #[test]
 fn partial_ord_with_a_rank_alone(rt: HostRuntime) -> Result<(), Fail> {
-    check_metas(
-        rt.alloc(),
-        partial_ord_field(false, false, true),
-        &ONLY_RANK,
-    )
+    check_metas(rt.alloc(), partial_ord_field(false, false, true), ONLY_RANK)
 }
+
+static NO_SWITCH: &str = r#"
+Ord(rank = 1)
+Ord = false
+: 1:1: the `Ord` attribute cannot be placed here
+"#;
 
 #[test]
 fn ord_without_switches(rt: HostRuntime) -> Result<(), Fail> {
-    check_metas(rt.alloc(), ord_field(false, false, false), &NO_SWITCH)
+    check_metas(rt.alloc(), ord_field(false, false, false), NO_SWITCH)
 }
+
+static ORD_OR_PARTIAL_ORD: &str = r#"
+∅
+#[educe(PartialOrd(method = f))]
+#[educe(PartialOrd(rank = 1), Ord = true)]
+: kept; no method; rank 7
+
+#[educe(Ord(rank = 1))]
+#[educe(Ord(rank = 1), PartialOrd)]
+#[educe(Ord(rank = 1), PartialOrd(ignore), PartialOrd(ignore))]
+: kept; no method; rank 1 at 12 to 20
+
+#[educe(PartialOrd = false)]
+#[educe(PartialOrd(ignore))]
+: ignored; no method; rank 7
+
+#[educe(PartialOrd(rank = 1))]
+: kept; no method; rank 1 at 19 to 27
+
+#[educe(PartialOrd(method = f, rank = -2, ignore))]
+: ignored; no method; rank -2 at 31 to 40
+
+#[educe(PartialOrd(ignore), Ord(rank = 1))]
+: kept; no method; rank 1 at 32 to 40
+
+#[educe(Ord(method = f))] #[educe(PartialOrd(rank = 1))]
+: kept; method f; rank 7
+
+#[educe(PartialOrd(foo), Ord(rank = 1))]
+: kept; no method; rank 1 at 29 to 37
+
+#[educe(PartialOrd(ignore))] #[educe(Ord(rank = 1))] #[educe(PartialOrd(1 1))]
+: kept; no method; rank 1 at 41 to 49
+
+#[educe(PartialOrd)]
+#[educe(PartialOrd(foo))]
+: 1:9: you are using an incorrect format of the `PartialOrd` attribute, which should be reformatted as follows:
+    #[educe(PartialOrd = false)]
+    #[educe(PartialOrd(ignore))]
+    #[educe(PartialOrd(method(path_to_method)))]
+    #[educe(PartialOrd(rank = integer))]
+
+#[educe(PartialOrd(ignore), Ord)]
+: 1:29: you are using an incorrect format of the `Ord` attribute, which should be reformatted as follows:
+    #[educe(Ord = false)]
+    #[educe(Ord(ignore))]
+    #[educe(Ord(method(path_to_method)))]
+    #[educe(Ord(rank = integer))]
+
+#[educe(PartialOrd(rank = x))]
+: 1:27: expected `rank = integer`
+
+#[educe(PartialOrd(rank))]
+: 1:20: expected `rank = integer` or `rank(integer)`
+
+#[educe(PartialOrd(rank = 1, rank = 1))]
+: 1:30: you are trying to reset the `rank` parameter
+
+#[educe(PartialOrd(rank = 1), PartialOrd(rank = 2))]
+: 1:31: the trait `PartialOrd` is used repeatedly
+
+#[educe(PartialOrd(ignore))] #[educe[PartialOrd(ignore)]]
+: 1:38: the trait `PartialOrd` is used repeatedly
+
+#[educe(Ord(rank = 1), PartialOrd(ignore), Ord(rank = 1))]
+: 1:44: the trait `Ord` is used repeatedly
+
+#[educe(PartialOrd(method = 1))]
+: 1:29: expected `method = Path`
+
+#[educe(PartialOrd(ignore), Ord(rank = x))]
+: 1:40: expected `rank = integer`
+"#;
 
 #[test]
 fn ord_takes_from_partial_ord(rt: HostRuntime) -> Result<(), Fail> {
@@ -551,29 +298,57 @@ fn ord_takes_from_partial_ord(rt: HostRuntime) -> Result<(), Fail> {
         rt.alloc(),
         ord_field(true, true, true),
         &[Trait::PartialOrd, Trait::Ord],
-        &ORD_OR_PARTIAL_ORD,
+        ORD_OR_PARTIAL_ORD,
     )
 }
 
-#[test]
-fn ord_takes_from_partial_ord_in_other_forms(rt: HostRuntime) -> Result<(), Fail> {
-    check_fields(
-        rt.alloc(),
-        ord_field(true, true, true),
-        &[Trait::PartialOrd, Trait::Ord],
-        &ORD_OR_PARTIAL_ORD_OTHER_FORMS,
-    )
-}
+static PARTIAL_ORD_OR_ORD: &str = r#"
+∅
+: kept; no method; rank -3
 
-#[test]
-fn ord_takes_from_partial_ord_with_other_values(rt: HostRuntime) -> Result<(), Fail> {
-    check_fields(
-        rt.alloc(),
-        ord_field(true, true, true),
-        &[Trait::PartialOrd, Trait::Ord],
-        &ORD_OR_PARTIAL_ORD_VALUES,
-    )
-}
+#[educe(PartialOrd(method = f))]
+: kept; method f; rank -3
+
+#[educe(Ord(method = f))]
+: kept; method f of `Ord`; rank -3
+
+#[educe(Ord(ignore))]
+#[educe(Ord = false)]
+#[educe(PartialOrd(ignore), Ord(rank = 1, method = f))]
+#[educe(Ord(foo), PartialOrd(ignore))]
+#[educe(Ord(ignore), Ord(ignore), PartialOrd(ignore))]
+: ignored; no method; rank -3
+
+#[educe(Ord(rank = 5, method = "a::f"))]
+: kept; method a :: f of `Ord`; rank 5 at 12 to 20
+
+#[educe(Ord(method = f), PartialOrd(method = g))]
+: kept; method g; rank -3
+
+#[educe(PartialOrd(foo), Ord(rank = 1))]
+: 1:9: you are using an incorrect format of the `PartialOrd` attribute, which should be reformatted as follows:
+    #[educe(PartialOrd = false)]
+    #[educe(PartialOrd(ignore))]
+    #[educe(PartialOrd(method(path_to_method)))]
+    #[educe(PartialOrd(rank = integer))]
+
+#[educe(Ord(foo))]
+#[educe(Ord)]
+: 1:9: you are using an incorrect format of the `Ord` attribute, which should be reformatted as follows:
+    #[educe(Ord = false)]
+    #[educe(Ord(ignore))]
+    #[educe(Ord(method(path_to_method)))]
+    #[educe(Ord(rank = integer))]
+
+#[educe(Ord(method = 1))]
+: 1:22: expected `method = Path`
+
+#[educe(Ord(ignore), Ord(rank = 2))]
+: 1:22: the trait `Ord` is used repeatedly
+
+#[educe(PartialOrd(ignore), PartialOrd(ignore))]
+: 1:29: the trait `PartialOrd` is used repeatedly
+"#;
 
 #[test]
 fn partial_ord_takes_from_ord(rt: HostRuntime) -> Result<(), Fail> {
@@ -581,9 +356,18 @@ fn partial_ord_takes_from_ord(rt: HostRuntime) -> Result<(), Fail> {
         rt.alloc(),
         partial_ord_field(true, true, true),
         &[Trait::Ord, Trait::Debug, Trait::PartialOrd],
-        &PARTIAL_ORD_OR_ORD,
+        PARTIAL_ORD_OR_ORD,
     )
 }
+
+static ORD_ALONE: &str = r#"
+#[educe(Ord(rank = 1))]
+: kept; no method; rank 1 at 12 to 20
+
+#[educe(PartialOrd(rank = 1))]
+#[educe(PartialOrd(foo))]
+: 1:9: the trait `PartialOrd` is not used
+"#;
 
 #[test]
 fn ord_takes_nothing_where_it_is_alone(rt: HostRuntime) -> Result<(), Fail> {
@@ -591,9 +375,17 @@ fn ord_takes_nothing_where_it_is_alone(rt: HostRuntime) -> Result<(), Fail> {
         rt.alloc(),
         ord_field(true, true, true),
         &[Trait::Ord],
-        &ORD_ALONE,
+        ORD_ALONE,
     )
 }
+
+static PARTIAL_ORD_ALONE: &str = r#"
+#[educe(PartialOrd(ignore))]
+: ignored; no method; rank -3
+
+#[educe(PartialOrd(ignore), Ord(ignore))]
+: 1:29: the trait `Ord` is not used
+"#;
 
 #[test]
 fn partial_ord_takes_nothing_where_it_is_alone(rt: HostRuntime) -> Result<(), Fail> {
@@ -601,9 +393,19 @@ fn partial_ord_takes_nothing_where_it_is_alone(rt: HostRuntime) -> Result<(), Fa
         rt.alloc(),
         partial_ord_field(true, true, true),
         &[Trait::PartialOrd],
-        &PARTIAL_ORD_ALONE,
+        PARTIAL_ORD_ALONE,
     )
 }
+
+/// A place whose type lists the other order alone.
+static ORD_WITHOUT_ORD: &str = r#"
+∅
+#[educe(PartialOrd(rank = 1))]
+: kept; no method; rank 7
+
+#[educe(Ord(rank = 1))]
+: 1:9: the trait `Ord` is not used
+"#;
 
 #[test]
 fn ord_takes_nothing_where_it_is_not_listed(rt: HostRuntime) -> Result<(), Fail> {
@@ -611,9 +413,20 @@ fn ord_takes_nothing_where_it_is_not_listed(rt: HostRuntime) -> Result<(), Fail>
         rt.alloc(),
         ord_field(true, true, true),
         &[Trait::PartialOrd],
-        &ORD_WITHOUT_ORD,
+        ORD_WITHOUT_ORD,
     )
 }
+
+static ORD_WITHOUT_SWITCHES: &str = r#"
+∅
+: kept; no method; rank 7
+
+#[educe(PartialOrd(rank = 1))]
+: 1:9: the `PartialOrd` attribute cannot be placed here
+
+#[educe(Ord(rank = 1))]
+: 1:9: the `Ord` attribute cannot be placed here
+"#;
 
 #[test]
 fn ord_without_switches_takes_nothing(rt: HostRuntime) -> Result<(), Fail> {
@@ -621,9 +434,26 @@ fn ord_without_switches_takes_nothing(rt: HostRuntime) -> Result<(), Fail> {
         rt.alloc(),
         ord_field(false, false, false),
         &[Trait::PartialOrd, Trait::Ord],
-        &ORD_WITHOUT_SWITCHES,
+        ORD_WITHOUT_SWITCHES,
     )
 }
+
+static PARTIAL_ORD_WITHOUT_METHOD: &str = r#"
+#[educe(Ord(rank = 1))]
+: kept; no method; rank 1 at 12 to 20
+
+#[educe(Ord(method = f))]
+: 1:9: you are using an incorrect format of the `Ord` attribute, which should be reformatted as follows:
+    #[educe(Ord = false)]
+    #[educe(Ord(ignore))]
+    #[educe(Ord(rank = integer))]
+
+#[educe(PartialOrd(method = f))]
+: 1:9: you are using an incorrect format of the `PartialOrd` attribute, which should be reformatted as follows:
+    #[educe(PartialOrd = false)]
+    #[educe(PartialOrd(ignore))]
+    #[educe(PartialOrd(rank = integer))]
+"#;
 
 #[test]
 fn partial_ord_without_a_method_takes_none(rt: HostRuntime) -> Result<(), Fail> {
@@ -631,6 +461,6 @@ fn partial_ord_without_a_method_takes_none(rt: HostRuntime) -> Result<(), Fail> 
         rt.alloc(),
         partial_ord_field(true, false, true),
         &[Trait::PartialOrd, Trait::Ord],
-        &PARTIAL_ORD_WITHOUT_METHOD,
+        PARTIAL_ORD_WITHOUT_METHOD,
     )
 }
