@@ -2,7 +2,6 @@
 #![tactic(auto)]
 
 mod handling;
-mod items;
 mod ord;
 mod partial_eq;
 mod partial_ord;

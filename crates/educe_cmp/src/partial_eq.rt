@@ -1,10 +1,10 @@
 //! The handler of `PartialEq`.
-use crate::handling::compare;
+use crate::handling::comparison_block;
 use educe_attrs::Stop;
 use educe_body::{Comparison, Items};
 use educe_bound::Trait;
-use educe_handlers::{EnumPart, StructPart, TraitHandler, TraitHandlerContext};
-use educe_syntax::DeriveInput;
+use educe_handlers::{EnumPart, StructPart, Task, TraitHandler, TraitHandlerContext};
+use educe_syntax::{DeriveInput, Predicates};
 use std::alloc::Global;
 
 /// The handler of `PartialEq`, for structs and for enums.
@@ -20,14 +20,15 @@ impl TraitHandler for PartialEqHandler {
 
     ghost takes = { λ _. true };
 
-    fn trait_meta_handler(
+    fn block(
         alloc: Global,
         ast: &DeriveInput,
-        ctx: &mut TraitHandlerContext,
-        items: &mut Items,
-        traits: &[Trait],
-    ) -> Result<(), Stop> {
-        compare(alloc, Comparison::PartialEq, ast, ctx, items, traits)
+        listed: &[Trait],
+        ctx: &TraitHandlerContext,
+    ) -> Result<(Items, Predicates), Stop> {
+        let which = Trait::PartialEq;
+        let task = Task { which, ast, listed };
+        comparison_block(alloc, Comparison::PartialEq, task, ctx)
     }
 }
 

@@ -1,10 +1,11 @@
 //! The handler of `Eq`.
-use crate::eq_handling::derive_eq;
+use crate::eq_handling::make_eq;
+use crate::eq_types::checked_types;
 use educe_attrs::Stop;
 use educe_body::Items;
 use educe_bound::Trait;
-use educe_handlers::{TraitHandler, TraitHandlerContext};
-use educe_syntax::DeriveInput;
+use educe_handlers::{Task, TraitHandler, TraitHandlerContext, checked_bound};
+use educe_syntax::{DeriveInput, Predicates};
 use std::alloc::Global;
 
 /// The handler of `Eq`, for structs and for enums.
@@ -20,13 +21,16 @@ impl TraitHandler for EqHandler {
 
     ghost takes = { λ _. true };
 
-    fn trait_meta_handler(
+    fn block(
         alloc: Global,
         ast: &DeriveInput,
-        ctx: &mut TraitHandlerContext,
-        items: &mut Items,
-        traits: &[Trait],
-    ) -> Result<(), Stop> {
-        derive_eq(alloc, ast, ctx, items, traits)
+        listed: &[Trait],
+        ctx: &TraitHandlerContext,
+    ) -> Result<(Items, Predicates), Stop> {
+        let which = Trait::Eq;
+        let task = Task { which, ast, listed };
+        let bound = checked_bound(alloc, task)?;
+        let types = checked_types(alloc, task)?;
+        Ok(make_eq(alloc, ast, listed, &bound, &types, ctx)?)
     }
 }

@@ -5,7 +5,8 @@ use Rattle.educe_bound_traits.specs.declared.traits.Trait.{Trait}
 use Rattle.educe_body_forms.specs.declared.body.Body.{Body}
 use Rattle.educe_body_items.specs.declared.items.Function.{Function}
 use Rattle.educe_body_items.specs.declared.items.ImplItem.{ImplItem}
-use Rattle.educe_laws.specs.Blocks.{IsFunction, IsImpl}
+use Rattle.educe_body_items.specs.declared.items.Item.{Item}
+use Rattle.educe_laws.specs.Blocks.{IsFunction, IsImpl, IsImplBlock}
 
 -- the one function with this body, where the body is as it is to be
 pub function_with : (name : List ℕ) (IsRight : Body → Type 0) (body : Body) (functions : List Function) → IsFunction name (λ own. own ≡ body) functions → IsRight body
@@ -28,3 +29,14 @@ impl_with which d AreRight functions item is right = record {
   ident_is = is.ident_is;
   functions_are = subst AreRight (sym is.functions_are) right;
 }
+
+-- the block that is the impl with these functions alone, where they are as they are to be
+pub block_with : (which : Trait) (d : DeriveInput) (AreRight : List Function → Type 0) (functions : List Function) (items : List Item) → IsImplBlock which d (λ own. own ≡ functions) items
+    → AreRight functions → IsImplBlock which d AreRight items
+block_with which d AreRight functions items is right = record { item = is.item; are = is.are; impl_is = impl_with which d AreRight functions is.item is.impl_is right }
+
+-- so it is where their one function has a body that is as it is to be
+pub function_block : (which : Trait) (d : DeriveInput) (name : List ℕ) (IsRight : Body → Type 0) (body : Body) (functions : List Function) (items : List Item)
+    → IsFunction name (λ own. own ≡ body) functions → IsRight body → IsImplBlock which d (λ own. own ≡ functions) items → IsImplBlock which d (IsFunction name IsRight) items
+function_block which d name IsRight body functions items named right is =
+    block_with which d (IsFunction name IsRight) functions items is (function_with name IsRight body functions named right)

@@ -1,35 +1,56 @@
 //! The trait that handlers implement.
-ghost use Rattle.std.specs.Prelude.{◌≡◌, Bool, IsTrue, OnOk, OnErr, IfErr};
+ghost use Rattle.std.specs.Prelude.{◌≡◌, ◌≤◌, ◌^◌, Bool, IsTrue, length, OnOk, OnErr, IfOk, IfErr};
+ghost use Rattle.std.specs.List.{AllByRecursion};
 ghost use Rattle.educe_tokens.specs.Prefix.{HasPrefix};
 ghost use Rattle.educe_syntax.specs.Shape.{Shape};
 ghost use Rattle.educe_syntax.specs.Refusal.{IsDefinition};
+ghost use Rattle.educe_bound.specs.Predicates.{keys_of};
 ghost use Rattle.educe_bound_traits.specs.declared.traits.Trait.{Trait};
 ghost use Rattle.educe_attrs.specs.Causes.{NoCause, OfStop};
 ghost use Rattle.educe_attrs.specs.Phases.{OfHandler};
+ghost use Rattle.educe_laws.specs.Blocks.{IsBlock, EachEvaluates};
 ghost use Rattle.educe_laws.specs.Handled.{handling};
 ghost use Rattle.educe_laws.specs.Handlers.{IsReady, AddsBlock, AddsMeaning, AreNoted, traits_through};
+ghost use Rattle.educe_laws.specs.Headers.{AreOf};
 
 use educe_attrs::Stop;
 use educe_body::Items;
 use educe_bound::Trait;
 use educe_handlers_bounds::TraitHandlerContext;
-use educe_syntax::DeriveInput;
+use educe_syntax::{DeriveInput, Predicates};
 use std::alloc::Global;
 
 /// The handler of a trait, or a part of one, which takes definitions of one shape. It has no values: what
 /// it does depends on the definition and on what is listed alone.
 pub trait TraitHandler {
-    /// The trait whose items are added.
+    /// The trait whose items are made.
     const TRAIT: Trait;
 
     ghost TRAIT: { Trait };
 
     ghost takes: { Shape → Bool };
 
+    /// The items of the trait, and the predicates that its impl adds. A handler writes this function alone.
+    fn block(
+        alloc: Global,
+        ast: &DeriveInput,
+        listed: &[Trait],
+        ctx: &TraitHandlerContext,
+    ) -> Result<(Items, Predicates), Stop>
+        requires ready { IsReady TRAIT ast.now listed.now ctx.now }
+        requires takes { IsTrue (takes ast.now.shape) }
+        ensures block { IfOk result (λ found. IsBlock TRAIT ast.now found.0) }
+        // Its functions evaluate to what the trait means, where the tokens are as few as a `usize` can count.
+        ensures means { IfOk result (λ found. length ast.now.tokens ≤ 2 ^ 64 → AllByRecursion (EachEvaluates ast.now) found.0) }
+        ensures added { IfOk result (λ found. AreOf ast.now TRAIT (keys_of found.1)) }
+        // It refuses exactly where a cause stands, or memory fails.
+        ensures uncaused { IfOk result (λ _. NoCause (OfHandler (handling ast.now) TRAIT)) }
+        ensures err { IfErr result (λ s. OfStop (OfHandler (handling ast.now) TRAIT) s) };
+
     /// Adds the items of the trait behind those that are there, and notes in the context which
     /// predicates its impl adds. Handlers of the listed traits are called in the fixed order. After an error
     /// the items may hold a part of the block behind what they held.
-    fn trait_meta_handler(
+    final fn trait_meta_handler(
         alloc: Global,
         ast: &DeriveInput,
         ctx: &mut TraitHandlerContext,
@@ -47,5 +68,13 @@ pub trait TraitHandler {
         ensures unnoted { OnErr result (ctx.new ≡ ctx.old) }
         // It refuses exactly where a cause stands, or memory fails.
         ensures uncaused { OnOk result (NoCause (OfHandler (handling ast.now) TRAIT)) }
-        ensures err { IfErr result (λ s. OfStop (OfHandler (handling ast.now) TRAIT) s) };
+        ensures err { IfErr result (λ s. OfStop (OfHandler (handling ast.now) TRAIT) s) }
+    {
+        // There are as many tokens as a `usize` can count, so as many fields at the most.
+        let _count = ast.tokens.len();
+        let (own, added) = Self::block(alloc, ast, traits, ctx)?;
+        items.append(own)?;
+        ctx.note_predicates(Self::TRAIT, added)?;
+        Ok(())
+    }
 }

@@ -1,26 +1,22 @@
 //! The headers of impls: their generic parameters and where clauses.
-ghost use Rattle.std.specs.Prelude.{◌≡◌, ◌++◌, ◌&&◌, IfOk, IfErr};
-ghost use Rattle.educe_attrs.specs.Causes.{NoCause, OfStop};
-ghost use Rattle.educe_attrs.specs.Places.{OfPlace};
+ghost use Rattle.std.specs.Prelude.{◌≡◌, ◌++◌, ◌&&◌, IfOk};
 ghost use Rattle.educe_bound.specs.Predicates.{keys_of, exceptions_of, AreByBound, lifetimes_first};
 ghost use Rattle.educe_handlers.specs.Adding.{Adds};
 ghost use Rattle.educe_handlers.specs.SeenTypes.{read_of, touched_of};
 ghost use Rattle.educe_laws.specs.Handlers.{IsReady, inherited_from};
 ghost use Rattle.educe_laws.specs.Headers as spec;
-ghost use Rattle.educe_laws.specs.Listed as listing;
 ghost use Rattle.educe_laws.specs.Rows as rows;
 ghost use Rattle.educe_laws.specs.Settings as settings;
 ghost use Rattle.educe_laws.specs.Types.{AreTypes};
 
 use crate::rows::reads_fields;
-use crate::said::type_values;
 use crate::seen_types::SeenTypes;
 use crate::task::Task;
-use educe_attrs::{Stop, Values, is_packed};
+use educe_attrs::is_packed;
 use educe_bound::{
     Bound, Trait, exceptions_of, extend_where_predicates, lifetimes_first, with_predicates,
 };
-use educe_handlers_bounds::{TraitHandlerContext, bound_said, inherit};
+use educe_handlers_bounds::{TraitHandlerContext, inherit};
 use educe_syntax::{DeriveInput, Generics, Predicates, Shape};
 use educe_tokens::Seq;
 use std::alloc::{AllocError, Global};
@@ -30,18 +26,6 @@ use std::alloc::{AllocError, Global};
 pub struct Header {
     pub generics: Generics,
     pub added: Predicates,
-}
-
-/// The bound that the type says for a trait. It is refused exactly where an attribute of the type is
-/// wrong, or memory fails.
-pub fn bound_of_type(alloc: Global, task: Task<'_, '_>) -> Result<Bound, Stop>
-    requires { task.listed.now ≡ listing.listed task.ast.now }
-    ensures ok { IfOk result (λ bound. bound ≡ settings.bound_for task.entry.which task.entry.ast.now) }
-    ensures uncaused { IfOk result (λ _. NoCause (OfPlace task.entry.which (rows.type_row task.entry.which task.entry.ast.now) (listing.listed task.entry.ast.now) task.entry.ast.now.attrs)) }
-    ensures err { IfErr result (λ s. OfStop (OfPlace task.entry.which (rows.type_row task.entry.which task.entry.ast.now) (listing.listed task.entry.ast.now) task.entry.ast.now.attrs) s) }
-{
-    let Values { bound, .. } = type_values(alloc, task)?;
-    Ok(bound_said(bound))
 }
 
 /// Whether fields are read by copies: in a packed struct, of whose fields no references can be taken

@@ -3,12 +3,14 @@
 #![tactic(auto)]
 
 mod bodies;
+mod bounds;
 mod calling;
 mod cases;
 mod field_types;
 mod fields;
 mod handler;
 mod header;
+mod impls;
 mod items;
 mod parts;
 mod patterns;
@@ -22,15 +24,17 @@ mod settings;
 mod task;
 
 pub use bodies::{block_of, body_of, name_of, same_name};
+pub use bounds::{bound_of_type, checked_bound};
 pub use calling::called;
-pub use cases::{CaseSettings, check_places, settings_of_cases};
+pub use cases::{CaseSettings, settings_of_cases};
 pub use educe_handlers_bounds::{TraitHandlerContext, bound_said};
 pub use educe_handlers_names::{parameter, select, select_prefix};
 pub use field_types::all_types;
 pub use fields::{case_fields, variant_fields, variant_settings};
 pub use handler::TraitHandler;
-pub use header::{Header, bound_of_type, header_of, is_copied};
-pub use items::{function, impl_item, lint_attributes};
+pub use header::is_copied;
+pub use impls::{impl_alone, impl_block, impl_of};
+pub use items::{function, lint_attributes};
 pub use parts::{EnumPart, StructPart};
 pub use patterns::{bare_pattern, has_brackets, key, pattern};
 pub use ranked::{How, Ranked};

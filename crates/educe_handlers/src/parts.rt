@@ -4,7 +4,7 @@ use educe_attrs::Stop;
 use educe_body::Items;
 use educe_bound::Trait;
 use educe_handlers_bounds::TraitHandlerContext;
-use educe_syntax::DeriveInput;
+use educe_syntax::{DeriveInput, Predicates};
 use std::alloc::Global;
 use std::marker::PhantomData;
 
@@ -23,14 +23,13 @@ impl<H: TraitHandler> TraitHandler for StructPart<H> {
 
     ghost takes = { λ shape. is_struct shape && H.takes shape };
 
-    fn trait_meta_handler(
+    fn block(
         alloc: Global,
         ast: &DeriveInput,
-        ctx: &mut TraitHandlerContext,
-        items: &mut Items,
-        traits: &[Trait],
-    ) -> Result<(), Stop> {
-        H::trait_meta_handler(alloc, ast, ctx, items, traits)
+        listed: &[Trait],
+        ctx: &TraitHandlerContext,
+    ) -> Result<(Items, Predicates), Stop> {
+        H::block(alloc, ast, listed, ctx)
     }
 }
 
@@ -49,13 +48,12 @@ impl<H: TraitHandler> TraitHandler for EnumPart<H> {
 
     ghost takes = { λ shape. is_enum shape && H.takes shape };
 
-    fn trait_meta_handler(
+    fn block(
         alloc: Global,
         ast: &DeriveInput,
-        ctx: &mut TraitHandlerContext,
-        items: &mut Items,
-        traits: &[Trait],
-    ) -> Result<(), Stop> {
-        H::trait_meta_handler(alloc, ast, ctx, items, traits)
+        listed: &[Trait],
+        ctx: &TraitHandlerContext,
+    ) -> Result<(Items, Predicates), Stop> {
+        H::block(alloc, ast, listed, ctx)
     }
 }

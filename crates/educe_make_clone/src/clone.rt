@@ -1,10 +1,14 @@
 //! The handler of `Clone`.
-use crate::clone_handling::derive_clone;
+use crate::clone_copying::can_use_bitwise_copy;
+use crate::clone_handling::make_clone;
 use educe_attrs::Stop;
 use educe_body::Items;
 use educe_bound::Trait;
-use educe_handlers::{EnumPart, StructPart, TraitHandler, TraitHandlerContext};
-use educe_syntax::DeriveInput;
+use educe_handlers::{
+    EnumPart, StructPart, Task, TraitHandler, TraitHandlerContext, bound_of_type, settings_of_cases,
+};
+use educe_make_markers::has_custom_method;
+use educe_syntax::{DeriveInput, Predicates};
 use std::alloc::Global;
 
 /// The handler of `Clone`, for structs and for enums.
@@ -20,14 +24,19 @@ impl TraitHandler for CloneHandler {
 
     ghost takes = { λ _. true };
 
-    fn trait_meta_handler(
+    fn block(
         alloc: Global,
         ast: &DeriveInput,
-        ctx: &mut TraitHandlerContext,
-        items: &mut Items,
-        traits: &[Trait],
-    ) -> Result<(), Stop> {
-        derive_clone(alloc, ast, ctx, items, traits)
+        listed: &[Trait],
+        ctx: &TraitHandlerContext,
+    ) -> Result<(Items, Predicates), Stop> {
+        let which = Trait::Clone;
+        let task = Task { which, ast, listed };
+        let bound = bound_of_type(alloc, task)?;
+        let settings = settings_of_cases(alloc, task)?;
+        let settings = settings.as_slice();
+        let copies = can_use_bitwise_copy(alloc, task, has_custom_method(settings))?;
+        Ok(make_clone(alloc, ast, listed, &bound, settings, copies, ctx)?)
     }
 }
 

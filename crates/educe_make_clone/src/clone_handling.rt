@@ -1,13 +1,9 @@
-//! What the handler of `Clone` does.
-ghost use Rattle.std.specs.Prelude.{◌≡◌, [], map, OnOk, OnErr, IfOk, IfErr, codes};
+//! The items of `Clone`.
+ghost use Rattle.std.specs.Prelude.{◌≡◌, [], map, OnOk, IfOk, codes};
 ghost use Rattle.std.specs.List.{AllByRecursion};
-ghost use Rattle.educe_tokens.specs.Prefix.{HasPrefix};
 ghost use Rattle.educe_syntax.specs.DeriveInput.{DeriveInput};
 ghost use Rattle.educe_syntax.specs.Few.{all_fields};
-ghost use Rattle.educe_syntax.specs.Refusal.{IsDefinition};
-ghost use Rattle.educe_attrs.specs.Causes.{NoCause, OfStop};
 ghost use Rattle.educe_attrs.specs.Fields.{HaveNoCauses};
-ghost use Rattle.educe_attrs.specs.Phases.{OfHandler};
 ghost use Rattle.educe_bound.specs.Predicates.{keys_of};
 ghost use Rattle.educe_bound_traits.specs.declared.traits.Trait.TheVariants as derived;
 ghost use Rattle.educe_handlers.specs.CaseSettings.{settings_in};
@@ -18,30 +14,27 @@ ghost use Rattle.educe_laws.specs.Cases.{cases_of};
 ghost use Rattle.educe_laws.specs.CloneBodies as bodies;
 ghost use Rattle.educe_laws.specs.CloneBodies.{AreCloneNames};
 ghost use Rattle.educe_laws.specs.Copying.{copies_whole};
-ghost use Rattle.educe_laws.specs.Handled.{handling};
-ghost use Rattle.educe_laws.specs.Handlers.{IsReady, AddsBlock, AddsMeaning, AreNoted, traits_through};
-ghost use Rattle.educe_laws.specs.Headers.{AreCopied, AreOf, IsHeader};
+ghost use Rattle.educe_laws.specs.Handlers.{IsReady};
+ghost use Rattle.educe_laws.specs.Headers.{AreCopied, AreOf};
 ghost use Rattle.educe_laws.specs.Listed as listing;
 ghost use Rattle.educe_laws.specs.Rows.{field_row};
-ghost use Rattle.educe_laws.specs.Settings.{all_kept};
+ghost use Rattle.educe_laws.specs.Settings.{all_kept, bound_for};
 ghost use Rattle.educe_laws.specs.Types.{AreCloneTypes};
 ghost use Rattle.educe_make_clone.specs.CloneNames.{names_of};
 ghost use Rattle.educe_make_markers.specs.Marking.{MayMark};
 ghost use Rattle.educe_syntax_self.specs.Heads.{AreNamed};
 
 use crate::clone_cases::{CloneBlocks, clone_blocks};
-use crate::clone_copying::can_use_bitwise_copy;
 use crate::clone_fields::all_kept;
 use crate::clone_names::CloneNames;
-use educe_attrs::{FieldSettings, Stop};
-use educe_body::{Body, Form, Forms, Functions, Item, Items};
-use educe_bound::Trait;
+use educe_attrs::FieldSettings;
+use educe_body::{Body, Form, Forms, Functions, ImplItem, Item, Items};
+use educe_bound::{Bound, Trait};
 use educe_handlers::{
-    Header, Ranked, SeenTypes, Task, TraitHandlerContext, body_of, bound_of_type, function,
-    header_of, impl_item, is_copied, no_types, settings_of_cases,
+    Ranked, SeenTypes, Task, TraitHandlerContext, body_of, function, impl_of, is_copied, no_types,
 };
-use educe_make_markers::{has_custom_method, method_markers};
-use educe_syntax::{DeriveInput, Duplicate, Generics, Predicates};
+use educe_make_markers::method_markers;
+use educe_syntax::{DeriveInput, Duplicate, Predicates};
 use educe_tokens::{Seq, Word};
 use std::alloc::{AllocError, Global};
 
@@ -120,25 +113,21 @@ fn functions<'d>(
     }
 }
 
-/// The impl with these generics and functions, and behind it the markers of fields with methods, where
-/// there are any.
+/// This impl, and behind it the markers of fields with methods, where there are any.
 fn clone_items(
     alloc: Global,
     ast: &DeriveInput,
     names: &CloneNames,
-    generics: Generics,
-    functions: Functions,
+    item: ImplItem,
     kept: &[Ranked<'_, '_>],
 ) -> Result<Items, AllocError>
     requires names { AreCloneNames ast.now (names_of names.now) }
-    requires header { IsHeader derived.Clone ast.now generics }
-    requires functions { spec.AreCloneFunctions (copies_whole ast.now) ast.now (names_of names.now) functions }
+    requires item { spec.IsImpl derived.Clone ast.now (spec.AreCloneFunctions (copies_whole ast.now) ast.now (names_of names.now)) item }
     requires kept { map kept_of kept.now ≡ all_kept derived.Clone ast.now }
     requires named { AreNamed ast.now }
     requires marks { AllByRecursion MayMark (map kept_of kept.now) }
     ensures { IfOk result (spec.IsCloneBlock ast.now) }
 {
-    let item = impl_item(alloc, Trait::Clone, ast, generics, functions)?;
     let (which, own) = (Trait::Clone, &names.marker);
     let markers = method_markers(alloc, which, ast, own, &item.generics, kept)?;
     let mut items = Seq::new(alloc);
@@ -147,63 +136,33 @@ fn clone_items(
     Ok(items)
 }
 
-/// The block of `Clone`, and the predicates that its impl adds. It is refused exactly where an `educe`
-/// list, an attribute of `Clone`, or where it is listed one of `Copy` at the type, is wrong, or memory
-/// fails.
-fn block(
+/// The block of `Clone` with this bound, where the fields have these settings and with true values are
+/// copied as a whole, and the predicates that its impl adds.
+pub fn make_clone(
     alloc: Global,
     ast: &DeriveInput,
     listed: &[Trait],
+    bound: &Bound,
+    settings: &[Seq<FieldSettings>],
+    copies: bool,
     ctx: &TraitHandlerContext,
-) -> Result<(Items, Predicates), Stop>
-    requires { IsReady derived.Clone ast.now listed.now ctx.now }
-    ensures ok { IfOk result (λ found. spec.IsCloneBlock ast.now found.0) }
+) -> Result<(Items, Predicates), AllocError>
+    requires ready { IsReady derived.Clone ast.now listed.now ctx.now }
+    requires bound { bound.now ≡ bound_for derived.Clone ast.now }
+    requires settings { settings.now ≡ settings_in derived.Clone ast.now (cases_of ast.now) }
+    requires copies { copies ≡ copies_whole ast.now }
+    requires read { HaveNoCauses derived.Clone (field_row derived.Clone) (listing.listed ast.now) (all_fields ast.now) }
+    ensures block { IfOk result (λ found. spec.IsCloneBlock ast.now found.0) }
     ensures added { IfOk result (λ found. AreOf ast.now derived.Clone (keys_of found.1)) }
-    ensures read { IfOk result (λ _. HaveNoCauses derived.Clone (field_row derived.Clone) (listing.listed ast.now) (all_fields ast.now)) }
-    ensures uncaused { IfOk result (λ _. NoCause (OfHandler (handling ast.now) derived.Clone)) }
-    ensures err { IfErr result (λ s. OfStop (OfHandler (handling ast.now) derived.Clone) s) }
 {
-    let task = Task {
-        which: Trait::Clone,
-        ast,
-        listed,
-    };
-    let bound = bound_of_type(alloc, task)?;
-    let settings = settings_of_cases(alloc, task)?;
-    let settings = settings.as_slice();
-    let methods = has_custom_method(settings);
-    let copies = can_use_bitwise_copy(alloc, task, methods)?;
-    let kept = all_kept(alloc, task, settings)?;
+    let which = Trait::Clone;
+    let task = Task { which, ast, listed };
     let names = CloneNames::choose(alloc, ast)?;
     let copied = is_copied(alloc, ast)?;
     let mut types = no_types(alloc);
     let functions = functions(alloc, task, &names, settings, copied, copies, &mut types)?;
-    let Header { generics, added } = header_of(alloc, task, &bound, &types, copied, ctx)?;
-    let items = clone_items(alloc, ast, &names, generics, functions, &kept)?;
+    let (item, added) = impl_of(alloc, task, bound, &types, functions, ctx)?;
+    let kept = all_kept(alloc, task, settings)?;
+    let items = clone_items(alloc, ast, &names, item, &kept)?;
     Ok((items, added))
-}
-
-/// The handler of `Clone`: adds its block, and notes which predicates its impl adds.
-pub fn derive_clone(
-    alloc: Global,
-    ast: &DeriveInput,
-    ctx: &mut TraitHandlerContext,
-    items: &mut Items,
-    traits: &[Trait],
-) -> Result<(), Stop>
-    requires { IsReady derived.Clone ast.now traits.now ctx.old }
-    ensures kept { HasPrefix items.old items.new }
-    ensures adds { OnOk result (AddsBlock derived.Clone ast.now items.old items.new) }
-    ensures means { IsDefinition ast.now.tokens ast.now → OnOk result (AddsMeaning ast.now items.old items.new) }
-    ensures notes { OnOk result (AreNoted ast.now (traits_through derived.Clone) ctx.new) }
-    ensures unnoted { OnErr result (ctx.new ≡ ctx.old) }
-    ensures uncaused { OnOk result (NoCause (OfHandler (handling ast.now) derived.Clone)) }
-    ensures err { IfErr result (λ s. OfStop (OfHandler (handling ast.now) derived.Clone) s) }
-{
-    // There are as many tokens as a `usize` can count, so as many fields at the most.
-    let _count = ast.tokens.len();
-    let (own, added) = block(alloc, ast, traits, ctx)?;
-    items.append(own)?;
-    ctx.note_predicates(Trait::Clone, added)?;
-    Ok(())
 }

@@ -11,7 +11,6 @@ mod clone_handling;
 mod clone_names;
 mod clone_paths;
 mod copy;
-mod copy_handling;
 
 pub use clone::{CloneEnumHandler, CloneHandler, CloneStructHandler};
 pub use clone_copying::can_use_bitwise_copy;

@@ -1,10 +1,11 @@
 //! The handler of `Debug`.
-use crate::debug_handling::derive_debug;
+use crate::debug_handling::make_debug;
+use crate::debug_reading::read;
 use educe_attrs::Stop;
 use educe_body::Items;
 use educe_bound::Trait;
 use educe_handlers::{EnumPart, StructPart, TraitHandler, TraitHandlerContext};
-use educe_syntax::DeriveInput;
+use educe_syntax::{DeriveInput, Predicates};
 use std::alloc::Global;
 
 /// The handler of `Debug`, for structs and for enums.
@@ -20,14 +21,14 @@ impl TraitHandler for DebugHandler {
 
     ghost takes = { λ _. true };
 
-    fn trait_meta_handler(
+    fn block(
         alloc: Global,
         ast: &DeriveInput,
-        ctx: &mut TraitHandlerContext,
-        items: &mut Items,
-        traits: &[Trait],
-    ) -> Result<(), Stop> {
-        derive_debug(alloc, ast, ctx, items, traits)
+        listed: &[Trait],
+        ctx: &TraitHandlerContext,
+    ) -> Result<(Items, Predicates), Stop> {
+        let (shown, bound) = read(alloc, ast, listed)?;
+        Ok(make_debug(alloc, ast, listed, &shown, &bound, ctx)?)
     }
 }
 

@@ -10,6 +10,7 @@ mod debug_fields;
 mod debug_handling;
 mod debug_names;
 mod debug_needs;
+mod debug_reading;
 mod debug_rows;
 mod debug_settings;
 mod debug_shown;

@@ -1,10 +1,12 @@
 //! The handler of `Default`.
-use crate::default_handling::derive_default;
+use crate::default_handling::{Own, make_default, made, own_of};
 use educe_attrs::Stop;
 use educe_body::Items;
 use educe_bound::Trait;
-use educe_handlers::{EnumPart, StructPart, TraitHandler, TraitHandlerContext};
-use educe_syntax::DeriveInput;
+use educe_handlers::{
+    EnumPart, StructPart, Task, TraitHandler, TraitHandlerContext, type_values,
+};
+use educe_syntax::{DeriveInput, Predicates};
 use std::alloc::Global;
 
 /// The handler of `Default`, for structs and for enums.
@@ -20,14 +22,23 @@ impl TraitHandler for DefaultHandler {
 
     ghost takes = { λ _. true };
 
-    fn trait_meta_handler(
+    fn block(
         alloc: Global,
         ast: &DeriveInput,
-        ctx: &mut TraitHandlerContext,
-        items: &mut Items,
-        traits: &[Trait],
-    ) -> Result<(), Stop> {
-        derive_default(alloc, ast, ctx, items, traits)
+        listed: &[Trait],
+        ctx: &TraitHandlerContext,
+    ) -> Result<(Items, Predicates), Stop> {
+        let which = Trait::Default;
+        let task = Task { which, ast, listed };
+        let values = type_values(alloc, task)?;
+        let Own {
+            bound,
+            has_new,
+            value,
+            span,
+        } = own_of(values);
+        let made = made(alloc, task, value, span)?;
+        Ok(make_default(alloc, ast, listed, &bound, made, has_new, ctx)?)
     }
 }
 

@@ -1,10 +1,13 @@
 //! The handler of `Hash`.
-use crate::hash_handling::derive_hash;
+use crate::hash_body::body;
 use educe_attrs::Stop;
 use educe_body::Items;
 use educe_bound::Trait;
-use educe_handlers::{EnumPart, StructPart, TraitHandler, TraitHandlerContext};
-use educe_syntax::DeriveInput;
+use educe_handlers::{
+    EnumPart, StructPart, Task, TraitHandler, TraitHandlerContext, bound_of_type, function,
+    impl_block, is_copied, no_types,
+};
+use educe_syntax::{DeriveInput, Predicates};
 use std::alloc::Global;
 
 /// The handler of `Hash`, for structs and for enums.
@@ -20,14 +23,20 @@ impl TraitHandler for HashHandler {
 
     ghost takes = { λ _. true };
 
-    fn trait_meta_handler(
+    fn block(
         alloc: Global,
         ast: &DeriveInput,
-        ctx: &mut TraitHandlerContext,
-        items: &mut Items,
-        traits: &[Trait],
-    ) -> Result<(), Stop> {
-        derive_hash(alloc, ast, ctx, items, traits)
+        listed: &[Trait],
+        ctx: &TraitHandlerContext,
+    ) -> Result<(Items, Predicates), Stop> {
+        let which = Trait::Hash;
+        let task = Task { which, ast, listed };
+        let bound = bound_of_type(alloc, task)?;
+        let copied = is_copied(alloc, ast)?;
+        let mut types = no_types(alloc);
+        let body = body(alloc, task, copied, &mut types)?;
+        let functions = function(alloc, "hash", body)?;
+        Ok(impl_block(alloc, task, &bound, &types, functions, ctx)?)
     }
 }
 

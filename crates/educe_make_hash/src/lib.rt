@@ -2,8 +2,8 @@
 #![tactic(auto)]
 
 mod hash;
+mod hash_body;
 mod hash_cases;
-mod hash_handling;
 mod hash_names;
 mod hash_steps;
 

@@ -1,0 +1,30 @@
+use Rattle.std.proofs.Common.{Option, subst, sym}
+use Rattle.std.specs.Prelude.{is_none}
+use Rattle.educe_syntax.specs.Expr.{Expr}
+use Rattle.educe_attrs.specs.Phases.{OfHandler}
+use Rattle.educe_attrs.specs.Places.{OfPlace}
+use Rattle.educe_bound_traits.specs.declared.traits.Trait.TheVariants.{Default}
+use Rattle.educe_laws.specs.Handled.{handling}
+use Rattle.educe_laws.specs.Listed.{listed}
+use Rattle.educe_laws.specs.Rows.{type_row}
+use Rattle.educe_laws.proofs.DefaultCauses.{type_refused}
+use Rattle.educe_laws.proofs.Stops.{stop_passed}
+use Rattle.educe_make_default.specs.DefaultLaws.{lawful_defaults}
+use Rattle.educe_make_default.specs.Defaults.{IsTyped}
+use Rattle.educe_make_default.proofs.Forms.{typed_by}
+use Rattle.educe_make_default.proofs.default.DefaultHandlerTraitHandler.block.Goals as goal
+
+pub returns-in_err-values-clause-err : goal.returns-in_err-values-clause-err
+returns-in_err-values-clause-err c =
+    let ast = c.args.ast.now in
+    stop_passed (OfPlace Default (type_row Default ast) (listed ast) ast.attrs) (OfHandler (handling ast) Default) (type_refused ast)
+    c.from_residual.result c.in_err-values.field-0.0 c.from_residual.ensures.1 c.in_err-values.ensures.err
+
+pub made-requires-clause-typed : goal.made-requires-clause-typed
+made-requires-clause-typed c =
+    let ast = c.args.ast.now in
+    subst (λ (value : Option Expr). IsTyped ast c.args.listed.now (is_none value)) (sym c.own_of-bound.ensures.value)
+    (typed_by ast c.args.listed.now c.in_ok-values.values c.requires.ready.traits_are c.in_ok-values.ensures.are c.in_ok-values.ensures.uncaused)
+
+pub returns-clause-means : goal.returns-clause-means
+returns-clause-means c = λ few. lawful_defaults.evaluates c.args.ast.now _ c.requires.ready.is_read c.in_ok-make_default.ensures.block
