@@ -1,11 +1,9 @@
 //! The handler of `Default`.
-use crate::default_handling::{Own, make_default, made, own_of};
+use crate::default_handling::{Own, made, make_default, own_of};
 use educe_attrs::Stop;
 use educe_body::Items;
 use educe_bound::Trait;
-use educe_handlers::{
-    EnumPart, StructPart, Task, TraitHandler, TraitHandlerContext, type_values,
-};
+use educe_handlers::{EnumPart, StructPart, Task, TraitHandler, TraitHandlerContext, type_values};
 use educe_syntax::{DeriveInput, Predicates};
 use std::alloc::Global;
 
