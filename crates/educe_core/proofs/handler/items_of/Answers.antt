@@ -11,5 +11,5 @@ returns-in_err-listed-clause-err c =
 
 pub returns-clause-err : goal.returns-clause-err
 returns-clause-err c =
-    stop_returned (IsListedCause c.args.ast.now) (IsHandlerCause c.args.ast.now) (λ e cause. IsHandlerCause.handled c.in_ok-listed.ensures.uncaused cause) c.blocks.result
-    c.blocks.ensures.err
+    stop_returned (IsListedCause c.args.ast.now) (IsHandlerCause c.args.ast.now) (λ e cause. IsHandlerCause.handled c.in_ok-listed.ensures.uncaused cause) c.blocks-2.result
+    c.blocks-2.ensures.err
