@@ -11,8 +11,8 @@
 //!     p
 //!     : 1:1: expected `p = Ident` or `p(Ident)`
 //!
-//! `∅` alone is the empty text. `␊`, `␍`, `␉` and `␀` stand for the control characters that they show, and `␠` for a
-//! blank.
+//! `∅` alone is the empty text. `␊`, `␍`, `␉`, `␀` and `␡` stand for the control characters that they show, and `␠` for
+//! a blank.
 
 use crate::values::check_at;
 use std::alloc::Global;
@@ -34,6 +34,7 @@ fn meant(written: char) -> char {
         '␍' => '\r',
         '␉' => '\t',
         '␀' => '\0',
+        '␡' => '\u{7F}',
         '␠' => ' ',
         _ => written,
     }

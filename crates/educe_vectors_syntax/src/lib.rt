@@ -3,6 +3,10 @@
 #![tactic(auto)]
 
 #[cfg(test)]
+mod answers;
+#[cfg(test)]
+mod common;
+#[cfg(test)]
 mod parser;
 #[cfg(test)]
 mod tree;

@@ -2,26 +2,29 @@
 //! the grammar texts that it allows, and texts that differ by a token and are none. Where `rustc`
 //! reads the syntax that is carried, it answers the same but for the differences in the documents.
 
-use educe_syntax::{parse_derive_input, parse_expr, parse_metas, parse_path, parse_predicates};
+use educe_syntax::{
+    parse_derive_input, parse_expr, parse_ident, parse_metas, parse_path, parse_predicates,
+};
 use educe_tokens::{EduceError, Kind, TokenSlice};
-use educe_vectors_checks::{check_at, lex_answer};
+use educe_vectors_checks::lex_answer;
 use std::alloc::Global;
 use std::test::Fail;
 
-mod calls;
+pub(crate) mod calls;
 mod definitions;
 mod expressions;
 mod generics;
-mod limits;
+pub(crate) mod limits;
 mod names;
-mod parts;
+pub(crate) mod parts;
 mod types;
 
-/// The calls of the parser that read more than a name.
+/// The calls of the parser.
 #[derive(Clone, Copy)]
-enum Call {
+pub(crate) enum Call {
     Derive,
     Metas,
+    Ident,
     Path,
     Expr,
     Predicates,
@@ -62,6 +65,7 @@ fn refusal_of(alloc: Global, call: Call, tokens: &TokenSlice) -> Refusal {
     match call {
         Call::Derive => refusal(parse_derive_input(alloc, tokens)),
         Call::Metas => refusal(parse_metas(alloc, tokens)),
+        Call::Ident => refusal(parse_ident(alloc, tokens)),
         Call::Path => refusal(parse_path(alloc, tokens)),
         Call::Expr => refusal(parse_expr(alloc, tokens)),
         Call::Predicates => refusal(parse_predicates(alloc, tokens)),
@@ -79,10 +83,7 @@ fn answer(alloc: Global, source: &str) -> Result<&'static str, Fail> {
     }
 }
 
-/// Each of the sources gets this answer.
-fn check(alloc: Global, expected: &str, sources: &[&str]) -> Result<(), Fail> {
-    for source in sources {
-        check_at(*source, answer(alloc, source)?, expected)?;
-    }
-    Ok(())
+/// What is answered for a source, as a text.
+pub(crate) fn answer_text(alloc: Global, source: &str) -> Result<String, Fail> {
+    Ok(String::from_str(alloc, answer(alloc, source)?)?)
 }

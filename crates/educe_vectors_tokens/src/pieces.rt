@@ -1,6 +1,6 @@
 //! Of `educe_tokens_pieces`: how far a piece of each family reaches, and the values of literals.
 
-mod comments;
-mod numbers;
-mod quotes;
-mod raw_strings;
+pub(crate) mod comments;
+pub(crate) mod numbers;
+pub(crate) mod quotes;
+pub(crate) mod raw_strings;

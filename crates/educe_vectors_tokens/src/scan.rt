@@ -1,11 +1,13 @@
 //! Of `educe_tokens_scan`: the piece at the front of a text, and whether a text is one piece.
 
+use crate::answers::OfCharacters::PieceAt;
+use crate::answers::check_characters;
 use crate::common::characters;
 use educe_tokens_pieces::PieceKind::Token;
 use educe_tokens_pieces::TokenKind::Punct;
-use educe_tokens_pieces::{Bracket, LiteralKind, PieceKind, TokenKind, UncarriedKind};
-use educe_tokens_scan::{is_piece, piece_at};
-use educe_vectors_checks::{check_answers, check_at};
+use educe_tokens_pieces::{LiteralKind, PieceKind, TokenKind, UncarriedKind};
+use educe_tokens_scan::is_piece;
+use educe_vectors_checks::check_at;
 use std::alloc::Global;
 use std::test::Fail;
 
@@ -23,171 +25,198 @@ const INT: PieceKind = PieceKind::Token(TokenKind::Literal(LiteralKind::Int));
 
 const STR: PieceKind = PieceKind::Token(TokenKind::Literal(LiteralKind::Str));
 
-const BYTE_STR: PieceKind = PieceKind::Token(TokenKind::Literal(LiteralKind::ByteStr));
-
-const CHAR: PieceKind = PieceKind::Token(TokenKind::Literal(LiteralKind::Char));
-
-const BYTE: PieceKind = PieceKind::Token(TokenKind::Literal(LiteralKind::Byte));
-
-const OPENER: PieceKind = PieceKind::Token(TokenKind::Start(Bracket::Square));
-
-const CLOSER: PieceKind = PieceKind::Token(TokenKind::Stop(Bracket::Curly));
-
 const FLOAT: PieceKind = PieceKind::Uncarried(UncarriedKind::Float);
 
 const C_STRING: PieceKind = PieceKind::Uncarried(UncarriedKind::CStr);
 
-/// The piece at the front of a text.
-fn found(alloc: Global, text: &str) -> Result<Option<(PieceKind, usize)>, Fail> {
-    Ok(piece_at(&characters(alloc, text)?))
-}
+static PIECES: &str = r##"
+a_1:
+: Token(Ident) 3
 
-static WORDS: [(&str, Option<(PieceKind, usize)>); 12] = [
-    ("a_1:", Some((WORD, 3))),
-    ("é", Some((WORD, 1))),
-    ("r", Some((WORD, 1))),
-    ("br ", Some((WORD, 2))),
-    ("r#fn", Some((WORD, 4))),
-    ("r#crate", None),
-    ("r#_", None),
-    ("r#__", Some((WORD, 4))),
-    ("r#", None),
-    ("a#", None),
-    ("a\"", None),
-    ("a'", None),
-];
+é
+r
+: Token(Ident) 1
+
+br␠
+: Token(Ident) 2
+
+r#fn
+r#__
+: Token(Ident) 4
+
+r#crate
+r#_
+r#
+a#
+a"
+a'
+: none
+
+'a'
+: Token(Literal(Char)) 3
+
+'\''
+: Token(Literal(Char)) 4
+
+'a
+'_,
+'r#a
+: Token(Lifetime) 2
+
+'a'b
+'ab'
+'+
+b'a
+: none
+
+'static␠
+: Token(Lifetime) 7
+
+b'a'
+: Token(Literal(Byte)) 4
+
+"a"+
+: Token(Literal(Str)) 3
+
+"a"b
+"a
+br"é"
+br#a
+r##a
+: none
+
+b"a"
+: Token(Literal(ByteStr)) 4
+
+br"a"
+: Token(Literal(ByteStr)) 5
+
+r"é"
+: Token(Literal(Str)) 4
+
+r#"""#
+: Token(Literal(Str)) 6
+
+c"a"
+: Uncarried(CStr) 4
+
+cr#"a"#
+: Uncarried(CStr) 7
+
+[]
+: Token(Start(Square)) 1
+
+}}
+: Token(Stop(Curly)) 1
+
+::
+: Token(Punct(':', true)) 1
+
+/
+: Token(Punct('/', false)) 1
+
+/=
+: Token(Punct('/', true)) 1
+
++/
+: Token(Punct('+', true)) 1
+
++//
+: Token(Punct('+', false)) 1
+
+-/*
+: Token(Punct('-', false)) 1
+
+&'a
+: Token(Punct('&', false)) 1
+
+\n
+∅
+: none
+
+//
+: Comment 2
+
+//a␊b
+: Comment 3
+
+/**//
+: Comment 4
+
+///a␊
+: Token(Doc) 4
+
+/*
+//!
+: none
+
+1..
+1.a
+: Token(Literal(Int)) 1
+
+1_u8
+: Token(Literal(Int)) 4
+
+1.
+: Uncarried(Float) 2
+
+1.5..
+: Uncarried(Float) 3
+
+1a
+: none
+"##;
+
+static MARK: &str = "
+\u{200E}a
+: Blank 1
+";
 
 #[test]
-fn words(rt: HostRuntime) -> Result<(), Fail> {
-    check_answers(rt.alloc(), found, &WORDS)
-}
-
-static LIFETIMES_AND_CHARACTERS: [(&str, Option<(PieceKind, usize)>); 11] = [
-    ("'a'", Some((CHAR, 3))),
-    ("'\\''", Some((CHAR, 4))),
-    ("'a", Some((LIFETIME, 2))),
-    ("'a'b", None),
-    ("'ab'", None),
-    ("'static ", Some((LIFETIME, 7))),
-    ("'_,", Some((LIFETIME, 2))),
-    ("'r#a", Some((LIFETIME, 2))),
-    ("'+", None),
-    ("b'a'", Some((BYTE, 4))),
-    ("b'a", None),
-];
-
-#[test]
-fn lifetimes_and_characters(rt: HostRuntime) -> Result<(), Fail> {
-    check_answers(rt.alloc(), found, &LIFETIMES_AND_CHARACTERS)
-}
-
-static STRINGS: [(&str, Option<(PieceKind, usize)>); 12] = [
-    ("\"a\"+", Some((STR, 3))),
-    ("\"a\"b", None),
-    ("\"a", None),
-    ("b\"a\"", Some((BYTE_STR, 4))),
-    ("br\"a\"", Some((BYTE_STR, 5))),
-    ("br\"é\"", None),
-    ("br#a", None),
-    ("r\"é\"", Some((STR, 4))),
-    ("r#\"\"\"#", Some((STR, 6))),
-    ("r##a", None),
-    ("c\"a\"", Some((C_STRING, 4))),
-    ("cr#\"a\"#", Some((C_STRING, 7))),
-];
-
-#[test]
-fn strings(rt: HostRuntime) -> Result<(), Fail> {
-    check_answers(rt.alloc(), found, &STRINGS)
-}
-
-static SIGNS: [(&str, Option<(PieceKind, usize)>); 12] = [
-    ("\u{200E}a", Some((BLANK, 1))),
-    ("[]", Some((OPENER, 1))),
-    ("}}", Some((CLOSER, 1))),
-    ("::", Some((Token(Punct(':', true)), 1))),
-    ("/", Some((Token(Punct('/', false)), 1))),
-    ("/=", Some((Token(Punct('/', true)), 1))),
-    ("+/", Some((Token(Punct('+', true)), 1))),
-    ("+//", Some((Token(Punct('+', false)), 1))),
-    ("-/*", Some((Token(Punct('-', false)), 1))),
-    ("&'a", Some((Token(Punct('&', false)), 1))),
-    ("\\n", None),
-    ("", None),
-];
-
-#[test]
-fn signs(rt: HostRuntime) -> Result<(), Fail> {
-    check_answers(rt.alloc(), found, &SIGNS)
-}
-
-static COMMENTS: [(&str, Option<(PieceKind, usize)>); 6] = [
-    ("//", Some((COMMENT, 2))),
-    ("//a\nb", Some((COMMENT, 3))),
-    ("/**//", Some((COMMENT, 4))),
-    ("///a\n", Some((DOC, 4))),
-    ("/*", None),
-    ("//!", None),
-];
-
-#[test]
-fn comments(rt: HostRuntime) -> Result<(), Fail> {
-    check_answers(rt.alloc(), found, &COMMENTS)
-}
-
-static NUMBERS: [(&str, Option<(PieceKind, usize)>); 6] = [
-    ("1..", Some((INT, 1))),
-    ("1.a", Some((INT, 1))),
-    ("1_u8", Some((INT, 4))),
-    ("1.", Some((FLOAT, 2))),
-    ("1.5..", Some((FLOAT, 3))),
-    ("1a", None),
-];
-
-#[test]
-fn numbers(rt: HostRuntime) -> Result<(), Fail> {
-    check_answers(rt.alloc(), found, &NUMBERS)
+fn pieces_at_the_front(rt: HostRuntime) -> Result<(), Fail> {
+    check_characters(rt.alloc(), PieceAt, PIECES)?;
+    check_characters(rt.alloc(), PieceAt, MARK)
 }
 
 /// Compares whether a text is one piece of a kind.
-fn check_whole(alloc: Global, table: &[(PieceKind, &str, bool)]) -> Result<(), Fail> {
-    for (kind, text, expected) in table {
+fn check_whole(
+    alloc: Global,
+    expected: bool,
+    table: &[(PieceKind, &str)],
+) -> Result<(), Fail> {
+    for (kind, text) in table {
         let found = is_piece(*kind, &characters(alloc, text)?);
-        check_at(*text, found, *expected)?;
+        check_at(*text, found, expected)?;
     }
     Ok(())
 }
 
-static TEXTS_THAT_ARE_ONE_PIECE: [(PieceKind, &str, bool); 9] = [
-    (BLANK, "\t", true),
-    (COMMENT, "/* /* */ */", true),
-    (DOC, "/// a", true),
-    (WORD, "r#type", true),
-    (Token(Punct('+', false)), "+", true),
-    (Token(Punct('+', true)), "+", true),
-    (INT, "0xffu8", true),
-    (FLOAT, "1.5e-3f32", true),
-    (C_STRING, "cr#\"\"a\"#", true),
+static TEXTS_THAT_ARE_ONE_PIECE: [(PieceKind, &str); 9] = [
+    (BLANK, "\t"),
+    (COMMENT, "/* /* */ */"),
+    (DOC, "/// a"),
+    (WORD, "r#type"),
+    (Token(Punct('+', false)), "+"),
+    (Token(Punct('+', true)), "+"),
+    (INT, "0xffu8"),
+    (FLOAT, "1.5e-3f32"),
+    (C_STRING, "cr#\"\"a\"#"),
+];
+
+static TEXTS_THAT_ARE_NOT_ONE_PIECE: [(PieceKind, &str); 9] = [
+    (BLANK, "  "),
+    (COMMENT, "/* /* */"),
+    (COMMENT, "//! a"),
+    (DOC, "////"),
+    (WORD, "r#self"),
+    (WORD, "a b"),
+    (LIFETIME, "'a'"),
+    (INT, "1.5"),
+    (STR, ""),
 ];
 
 #[test]
 fn texts_that_are_one_piece(rt: HostRuntime) -> Result<(), Fail> {
-    check_whole(rt.alloc(), &TEXTS_THAT_ARE_ONE_PIECE)
-}
-
-static TEXTS_THAT_ARE_NOT_ONE_PIECE: [(PieceKind, &str, bool); 9] = [
-    (BLANK, "  ", false),
-    (COMMENT, "/* /* */", false),
-    (COMMENT, "//! a", false),
-    (DOC, "////", false),
-    (WORD, "r#self", false),
-    (WORD, "a b", false),
-    (LIFETIME, "'a'", false),
-    (INT, "1.5", false),
-    (STR, "", false),
-];
-
-#[test]
-fn texts_that_are_not_one_piece(rt: HostRuntime) -> Result<(), Fail> {
-    check_whole(rt.alloc(), &TEXTS_THAT_ARE_NOT_ONE_PIECE)
+    check_whole(rt.alloc(), true, &TEXTS_THAT_ARE_ONE_PIECE)?;
+    check_whole(rt.alloc(), false, &TEXTS_THAT_ARE_NOT_ONE_PIECE)
 }

@@ -1,8 +1,8 @@
 //! Of `educe_tokens`: tokens of texts and of templates, their printed text, values and refusals.
 
-mod described;
-mod kinds;
+pub(crate) mod described;
+pub(crate) mod kinds;
 mod printing;
-mod refusals;
+pub(crate) mod refusals;
 mod templates;
-mod values;
+pub(crate) mod values;

@@ -1,6 +1,17 @@
-//! Bodies, by what a test says of them, and what they evaluate to over one value and one table.
+//! Bodies as texts, and what they evaluate to over one value and one table.
+//!
+//! A row of a table of bodies is a name, a definition, a body and `: ` with what it evaluates to. A body is its
+//! parameters and its forms, as in `|other| answer a::b(self.a, self.b); ..`. A form is one of these:
+//!
+//! - `text EXPRESSION`: the tokens of an expression
+//! - `build NAME(FIELD = EXPRESSION, ..)`: the variant of this name, or the struct where it has none, with these fields,
+//!   which may have no names
+//! - `answer PATH(ARGUMENT, ..)`: a call's answer; `not ..`, its opposite; `some ..`, the answer in `Some`; `test ..`, it
+//!   is tested; `part ..`, it is fed to a hasher
+//!
+//! An argument is `self.FIELD`, the place of a variant or a name.
 
-use crate::outcomes::{Seen, lent};
+use crate::outcomes::lent;
 use crate::values::{scope, value};
 use educe_body::{
     Answer, Answers, Body, Callee, FieldValue, Form, Forms, Init, Inits, Names, Outcome, Position,
@@ -9,55 +20,10 @@ use educe_body::{
 use educe_body_eval::eval;
 use educe_syntax::{DeriveInput, ExprPath, FieldForm, Ident, parse_expr, parse_ident, parse_path};
 use educe_tokens::{Boxed, Seq, Spelling, Word, pair};
-use educe_vectors_checks::{check_at, definition, found, lexed_slice};
+use educe_vectors_checks::{LINE, check_at, definition, found, lexed_slice, rows_of};
 use std::alloc::{AllocError, Global};
 use std::cmp::Ordering;
 use std::test::Fail;
-
-/// What a call is handed.
-#[derive(Clone, Copy)]
-pub enum Argument {
-    /// The field of `self` of this name.
-    Field(&'static str),
-    /// The field of `self` that has no name and stands at this place.
-    Unnamed(usize),
-    /// The place of a variant.
-    Place(usize),
-    /// What a name stands for.
-    Name(&'static str),
-}
-
-/// What is done with the answer of a call.
-#[derive(Clone, Copy)]
-pub enum Use {
-    Answer,
-    Opposite,
-    InSome,
-    Test,
-    /// It is fed to a hasher.
-    Part,
-}
-
-/// A form of a body, in outline.
-#[derive(Clone, Copy)]
-pub enum Outline {
-    /// The tokens of an expression.
-    Text(&'static str),
-    /// The variant of this name, or where it is empty the struct, with fields of these names, which are
-    /// empty where they have none, and the texts of their expressions.
-    Built(&'static str, &'static [(&'static str, &'static str)]),
-    /// The call of the function of a path, and what is done with its answer.
-    Call(Use, &'static str, &'static [Argument]),
-}
-
-/// A name, a definition, the parameters of a body, its forms, and what it evaluates to.
-pub type Case = (
-    &'static str,
-    &'static str,
-    &'static [&'static str],
-    &'static [Outline],
-    Seen<'static>,
-);
 
 /// The identifier that a text is.
 fn ident(alloc: Global, text: &str) -> Result<Ident, Fail> {
@@ -73,11 +39,13 @@ fn some_ident(alloc: Global, text: &str) -> Result<Option<Ident>, Fail> {
     }
 }
 
-/// The words that texts are.
-fn words(alloc: Global, texts: &[&str]) -> Result<Names, Fail> {
+/// The words of a list.
+fn words(alloc: Global, list: &str) -> Result<Names, Fail> {
     let mut words = Seq::new(alloc);
-    for text in texts {
-        words.push(Word::new(ident(alloc, text)?.text))?;
+    for text in list.split(", ") {
+        if !text.is_empty() {
+            words.push(Word::new(ident(alloc, text)?.text))?;
+        }
     }
     Ok(words)
 }
@@ -88,21 +56,35 @@ fn field(alloc: Global, key: Word) -> Result<Form, AllocError> {
     Ok(Form::Reference(base, key))
 }
 
-/// What a call is handed, as a form.
-fn argument_form(alloc: Global, argument: Argument) -> Result<Form, Fail> {
-    match argument {
-        Argument::Field(name) => Ok(field(alloc, Word::new(ident(alloc, name)?.text))?),
-        Argument::Unnamed(place) => Ok(field(alloc, index_word(alloc, place)?)?),
-        Argument::Place(place) => Ok(Form::Position(Position { place })),
-        Argument::Name(name) => Ok(Form::Local(ident(alloc, name)?)),
+/// The field of `self` of this name, or at this place where it has none.
+fn field_named(alloc: Global, name: &str) -> Result<Form, Fail> {
+    match name.parse::<usize>() {
+        Ok(place) => Ok(field(alloc, index_word(alloc, place)?)?),
+        Err(_) => Ok(field(alloc, Word::new(ident(alloc, name)?.text))?),
     }
 }
 
-/// What a call is handed, as forms.
-fn arguments(alloc: Global, list: &[Argument]) -> Result<Forms, Fail> {
+/// The place of a variant, or a name.
+fn place_or_name(alloc: Global, text: &str) -> Result<Form, Fail> {
+    match text.parse::<usize>() {
+        Ok(place) => Ok(Form::Position(Position { place })),
+        Err(_) => Ok(Form::Local(ident(alloc, text)?)),
+    }
+}
+
+/// What a call is handed.
+fn argument(alloc: Global, text: &str) -> Result<Form, Fail> {
+    match text.strip_prefix("self.") {
+        Some(name) => field_named(alloc, name),
+        None => place_or_name(alloc, text),
+    }
+}
+
+/// What a call is handed, in a list.
+fn arguments(alloc: Global, list: &str) -> Result<Forms, Fail> {
     let mut forms = Seq::new(alloc);
-    for handed in list {
-        forms.push(argument_form(alloc, *handed)?)?;
+    for text in list.split(", ") {
+        forms.push(argument(alloc, text)?)?;
     }
     Ok(forms)
 }
@@ -113,20 +95,23 @@ fn path(alloc: Global, text: &str) -> Result<Shared<ExprPath>, Fail> {
     Ok(Shared::new(alloc, path)?)
 }
 
-/// The call of the path that a text is.
-fn called(alloc: Global, text: &str, list: &[Argument]) -> Result<Form, Fail> {
-    let path = path(alloc, text)?;
+/// The call that a text is.
+fn called(alloc: Global, text: &str) -> Result<Form, Fail> {
+    let call = text.strip_suffix(')').ok_or(text)?;
+    let (path_text, list) = call.rsplit_once('(').ok_or(text)?;
+    let path = path(alloc, path_text)?;
     Ok(Form::Call(path, arguments(alloc, list)?))
 }
 
-/// The form that does this with a call.
-fn used(alloc: Global, use_of: Use, call: Form) -> Result<Form, AllocError> {
-    match use_of {
-        Use::Answer => Ok(call),
-        Use::Opposite => Ok(Form::Not(Boxed::new(alloc, call)?)),
-        Use::InSome => Ok(Form::SomeOf(Boxed::new(alloc, call)?)),
-        Use::Test => Ok(Form::IfReturn(Boxed::new(alloc, call)?)),
-        Use::Part => Ok(Form::HashPart(Boxed::new(alloc, call)?)),
+/// The form that does with a call what a word says.
+fn used(alloc: Global, word: &str, call: Form) -> Result<Form, Fail> {
+    match word {
+        "answer" => Ok(call),
+        "not" => Ok(Form::Not(Boxed::new(alloc, call)?)),
+        "some" => Ok(Form::SomeOf(Boxed::new(alloc, call)?)),
+        "test" => Ok(Form::IfReturn(Boxed::new(alloc, call)?)),
+        "part" => Ok(Form::HashPart(Boxed::new(alloc, call)?)),
+        _ => Err(Fail::from(word)),
     }
 }
 
@@ -136,66 +121,80 @@ fn pasted(alloc: Global, text: &str) -> Result<Form, Fail> {
     Ok(Form::Pasted(value.written))
 }
 
-/// The field of this name, made of the expression of a text.
-fn init(alloc: Global, name: &str, text: &str) -> Result<Init, Fail> {
-    let key = match some_ident(alloc, name)? {
-        Some(ident) => Some(Word::new(ident.text)),
-        None => None,
-    };
-    let value = pasted(alloc, text)?;
+/// The key of the field of this name; an empty one is none.
+fn key(alloc: Global, name: &str) -> Result<Option<Word>, Fail> {
+    match some_ident(alloc, name)? {
+        Some(ident) => Ok(Some(Word::new(ident.text))),
+        None => Ok(None),
+    }
+}
+
+/// A field, made of an expression.
+fn init(alloc: Global, text: &str) -> Result<Init, Fail> {
+    let (name, expression) = text.split_once(" = ").unwrap_or(("", text));
+    let key = key(alloc, name)?;
+    let value = pasted(alloc, expression)?;
     Ok(Init { key, value })
 }
 
-/// The fields of these names.
-fn inits(alloc: Global, texts: &[(&str, &str)]) -> Result<Inits, Fail> {
+/// The fields of a list.
+fn inits(alloc: Global, list: &str) -> Result<Inits, Fail> {
     let mut inits = Seq::new(alloc);
-    for (name, text) in texts {
-        inits.push(init(alloc, name, text)?)?;
+    for text in list.split(", ") {
+        if !text.is_empty() {
+            inits.push(init(alloc, text)?)?;
+        }
     }
     Ok(inits)
 }
 
-/// The form.
-fn form(alloc: Global, outline: &Outline) -> Result<Form, Fail> {
-    match outline {
-        Outline::Text(text) => pasted(alloc, text),
-        Outline::Built(name, texts) => {
-            let name = some_ident(alloc, name)?;
-            Ok(Form::Construct(name, FieldForm::Named, inits(alloc, texts)?))
-        }
-        Outline::Call(use_of, path, list) => {
-            Ok(used(alloc, *use_of, called(alloc, path, list)?)?)
-        }
+/// A struct or a variant of fields.
+fn built(alloc: Global, text: &str) -> Result<Form, Fail> {
+    let (name, rest) = text.split_once('(').ok_or(text)?;
+    let list = rest.strip_suffix(')').ok_or(text)?;
+    let name = some_ident(alloc, name)?;
+    Ok(Form::Construct(name, FieldForm::Named, inits(alloc, list)?))
+}
+
+/// The form that a text is.
+fn form(alloc: Global, text: &str) -> Result<Form, Fail> {
+    let (word, rest) = text.split_once(' ').ok_or(text)?;
+    match word {
+        "text" => pasted(alloc, rest),
+        "build" => built(alloc, rest),
+        _ => used(alloc, word, called(alloc, rest)?),
     }
 }
 
-/// The forms.
-fn forms(alloc: Global, outlines: &[Outline]) -> Result<Forms, Fail> {
+/// The forms that a text is.
+fn forms(alloc: Global, text: &str) -> Result<Forms, Fail> {
     let mut forms = Seq::new(alloc);
-    for outline in outlines {
-        forms.push(form(alloc, outline)?)?;
+    for part in text.split("; ") {
+        forms.push(form(alloc, part)?)?;
     }
     Ok(forms)
 }
 
-/// The body with these parameters and these forms.
-fn body(alloc: Global, params: &[&str], outlines: &[Outline]) -> Result<Body, Fail> {
+/// The body that a text is.
+fn body(alloc: Global, text: &str) -> Result<Body, Fail> {
+    let behind = text.strip_prefix('|').ok_or(text)?;
+    let (params, block) = behind.split_once("| ").ok_or(text)?;
     let params = words(alloc, params)?;
-    let block = forms(alloc, outlines)?;
+    let block = forms(alloc, block)?;
     Ok(Body { params, block })
 }
 
 /// The first field of the value.
-pub const FIVE: FieldValue = FieldValue { ty: 0, number: 5 };
+const FIVE: FieldValue = FieldValue { ty: 0, number: 5 };
 
 /// The second field of the value, and what the text `7` makes.
-pub const SEVEN: FieldValue = FieldValue { ty: 0, number: 7 };
+const SEVEN: FieldValue = FieldValue { ty: 0, number: 7 };
 
 /// What the text `b` makes.
-pub const EIGHT: FieldValue = FieldValue { ty: 0, number: 8 };
+const EIGHT: FieldValue = FieldValue { ty: 0, number: 8 };
 
 /// What the text of the call of `Default::default` makes.
-pub const THREE: FieldValue = FieldValue { ty: 0, number: 3 };
+const THREE: FieldValue = FieldValue { ty: 0, number: 3 };
 
 /// The texts of functions, and what each answers on the two fields.
 static FUNCTIONS: [(&str, Answer); 7] = [
@@ -264,28 +263,36 @@ fn evaluated(
     Ok(eval(alloc, body, &scope_of(ast, &this), answers)?)
 }
 
-/// What the body of a case evaluates to in its definition.
-fn outcome(alloc: Global, answers: &Answers, case: &Case) -> Result<Outcome, Fail> {
-    let (_, source, params, outlines, _) = case;
-    let body = body(alloc, params, outlines)?;
+/// What a body evaluates to in a definition.
+fn outcome(alloc: Global, answers: &Answers, source: &str, text: &str) -> Result<Outcome, Fail> {
+    let body = body(alloc, text)?;
     evaluated(alloc, &definition(alloc, source)?, &body, answers)
 }
 
-/// What the body of a case evaluates to.
-fn check(alloc: Global, answers: &Answers, case: &Case) -> Result<(), Fail> {
-    let found = outcome(alloc, answers, case)?;
-    check_at(case.0, lent(&found), Some(case.4))
+/// The text of an outcome. None here is what `fmt` shows.
+fn outcome_text(alloc: Global, outcome: &Outcome) -> Result<String, Fail> {
+    let seen = lent(outcome).ok_or("what `fmt` shows")?;
+    Ok(format!(in alloc; "{seen:?}")?)
 }
 
-/// What the body of each case evaluates to over one table.
-fn check_each(alloc: Global, answers: &Answers, cases: &[Case]) -> Result<(), Fail> {
-    for case in cases {
-        check(alloc, answers, case)?;
+/// What the body of a row evaluates to.
+fn check(alloc: Global, answers: &Answers, row: &str) -> Result<(), Fail> {
+    let (front, expected) = row.split_once(LINE).ok_or(row)?;
+    let (name, rest) = front.split_once('\n').ok_or(row)?;
+    let (source, text) = rest.split_once('\n').ok_or(row)?;
+    let found = outcome_text(alloc, &outcome(alloc, answers, source, text)?)?;
+    check_at(name, found.as_str(), expected)
+}
+
+/// What the body of each row evaluates to over one table.
+fn check_each(alloc: Global, answers: &Answers, table: &str) -> Result<(), Fail> {
+    for row in rows_of(table)?.split("\n\n") {
+        check(alloc, answers, row)?;
     }
     Ok(())
 }
 
-/// What the body of each case evaluates to.
-pub fn check_all(alloc: Global, cases: &[Case]) -> Result<(), Fail> {
-    check_each(alloc, &answers(alloc)?, cases)
+/// What the body of each row evaluates to.
+pub fn check_bodies(alloc: Global, table: &str) -> Result<(), Fail> {
+    check_each(alloc, &answers(alloc)?, table)
 }

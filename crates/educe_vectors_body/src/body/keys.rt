@@ -2,7 +2,7 @@
 
 use educe_body::key_word;
 use educe_syntax::{DeriveInput, Field, Shape};
-use educe_vectors_checks::{check_at, definition, first};
+use educe_vectors_checks::{check_rows, definition, first};
 use std::alloc::Global;
 use std::test::Fail;
 
@@ -15,25 +15,36 @@ fn first_field(ast: &DeriveInput) -> Result<&Field, Fail> {
 }
 
 /// The key of the first field of a struct, were it at this place.
-fn check_key(alloc: Global, ast: &DeriveInput, place: usize, expected: &str) -> Result<(), Fail> {
+fn key_of_first(alloc: Global, ast: &DeriveInput, place: usize) -> Result<String, Fail> {
     let key = key_word(alloc, place, first_field(ast)?)?;
-    check_at(place, key.as_str(), expected)
+    Ok(String::from_str(alloc, key.as_str())?)
 }
 
-/// A definition, a place, and the key of the first field, were it there.
-static KEYS: [(&str, usize, &str); 5] = [
-    ("struct S { x: u8 }", 3, "x"),
-    ("struct S(u8);", 0, "0"),
-    ("struct S(u8);", 9, "9"),
-    ("struct S(u8);", 10, "10"),
-    ("struct S(u8);", usize::MAX, "18446744073709551615"),
-];
+/// The key of the first field of the definition behind ` in `, were it at the place in front of it.
+fn key(alloc: Global, text: &str) -> Result<String, Fail> {
+    let (place, source) = text.split_once(" in ").ok_or(text)?;
+    let place = place.parse::<usize>().ok().ok_or(text)?;
+    key_of_first(alloc, &definition(alloc, source)?, place)
+}
+
+static KEYS: &str = r#"
+3 in struct S { x: u8 }
+: x
+
+0 in struct S(u8);
+: 0
+
+9 in struct S(u8);
+: 9
+
+10 in struct S(u8);
+: 10
+
+18446744073709551615 in struct S(u8);
+: 18446744073709551615
+"#;
 
 #[test]
 fn keys_are_names_and_places(rt: HostRuntime) -> Result<(), Fail> {
-    let alloc = rt.alloc();
-    for (source, place, expected) in &KEYS {
-        check_key(alloc, &definition(alloc, source)?, *place, expected)?;
-    }
-    Ok(())
+    check_rows(rt.alloc(), key, KEYS)
 }

@@ -4,7 +4,7 @@ ghost use Rattle.educe_tokens.specs.Quote.{is_ascii_name};
 
 use educe_body::UsedIdents;
 use educe_tokens::Span;
-use educe_vectors_checks::{check_at, check_text, lexed};
+use educe_vectors_checks::{check_at, check_rows, check_text, lexed};
 use std::alloc::Global;
 use std::test::Fail;
 
@@ -14,8 +14,17 @@ fn words(alloc: Global, source: &str) -> Result<UsedIdents, Fail> {
     Ok(UsedIdents::new(alloc, tokens.as_slice())?)
 }
 
-/// The identifier that is chosen for a name is this, and stands nowhere.
+/// The identifier that is chosen for a name stands nowhere.
 #[tactic(auto, using(educe_body::specs::NameLaws::ascii_is_word))]
+fn selected(alloc: Global, used: &mut UsedIdents, name: &str) -> Result<String, Fail>
+    requires { IsTrue (is_ascii_name name.now) }
+{
+    let ident = used.select(alloc, name)?;
+    check_at(name, ident.span, Span::NONE)?;
+    Ok(String::from_str(alloc, ident.text.as_str())?)
+}
+
+/// The identifier that is chosen for a name is this.
 fn check_select(
     alloc: Global,
     used: &mut UsedIdents,
@@ -24,9 +33,7 @@ fn check_select(
 ) -> Result<(), Fail>
     requires { IsTrue (is_ascii_name name.now) }
 {
-    let ident = used.select(alloc, name)?;
-    check_at(name, ident.span, Span::NONE)?;
-    check_at(name, ident.text.as_str(), expected)
+    check_text(selected(alloc, used, name)?, expected)
 }
 
 /// The prefix that is chosen for a name is this.
@@ -34,22 +41,70 @@ fn check_prefix(alloc: Global, used: &UsedIdents, name: &str, expected: &str) ->
     check_text(used.select_prefix(alloc, name)?, expected)
 }
 
-/// The name is chosen as expected, for each of the texts.
-fn check_names(alloc: Global, name: &str, table: &[(&str, &str)]) -> Result<(), Fail>
-    requires { IsTrue (is_ascii_name name.now) }
-{
-    for (source, expected) in table {
-        check_select(alloc, &mut words(alloc, source)?, name, expected)?;
-    }
-    Ok(())
+/// The name that is chosen for `other` beside the words of a text.
+fn other(alloc: Global, source: &str) -> Result<String, Fail> {
+    selected(alloc, &mut words(alloc, source)?, "other")
 }
 
-/// The prefix is chosen as expected, for each of the texts.
-fn check_prefixes(alloc: Global, name: &str, table: &[(&str, &str)]) -> Result<(), Fail> {
-    for (source, expected) in table {
-        check_prefix(alloc, &words(alloc, source)?, name, expected)?;
-    }
-    Ok(())
+static OTHERS: &str = r##"
+∅
+struct S { a: u8 }
+_other
+others another r#others
+"another" "other_"
+b"other"
+// other␊a
+: other
+
+struct S { a: u8, other: u8 }
+r#other
+&'other x
+#[a = "x::other(1)"]
+r#"[other]"#
+"x \x6fther"
+/// the other one␊a
+__other other
+other others _others
+: _other
+
+other _other
+: __other
+
+"other" '_other r#__other
+: ___other
+"##;
+
+#[test]
+fn chooses_names_that_are_no_words(rt: HostRuntime) -> Result<(), Fail> {
+    check_rows(rt.alloc(), other, OTHERS)
+}
+
+/// The prefix that is chosen for `_s_` beside the words of a text.
+fn prefix(alloc: Global, source: &str) -> Result<String, Fail> {
+    Ok(words(alloc, source)?.select_prefix(alloc, "_s_")?)
+}
+
+static PREFIXES: &str = r#"
+∅
+_s s_ _o_a a_s_
+__s_x
+: _s_
+
+_s_
+_s_a
+r#_s_1
+'_s_a
+"a _s_x"
+/// _s_x␊a
+: __s_
+
+__s_x _s_y
+: ___s_
+"#;
+
+#[test]
+fn chooses_prefixes_of_no_words(rt: HostRuntime) -> Result<(), Fail> {
+    check_rows(rt.alloc(), prefix, PREFIXES)
 }
 
 /// So many `_`.
@@ -59,44 +114,6 @@ fn underscores(alloc: Global, count: usize) -> Result<String, Fail> {
         text.push('_')?;
     }
     Ok(text)
-}
-
-#[test]
-fn chooses_names(rt: HostRuntime) -> Result<(), Fail> {
-    check_names(
-        rt.alloc(),
-        "other",
-        &[
-            ("", "other"),
-            ("struct S { a: u8 }", "other"),
-            ("struct S { a: u8, other: u8 }", "_other"),
-            ("r#other", "_other"),
-            ("&'other x", "_other"),
-            ("#[a = \"x::other(1)\"]", "_other"),
-            ("r#\"[other]\"#", "_other"),
-            ("\"x \\x6fther\"", "_other"),
-            ("/// the other one\na", "_other"),
-            ("_other", "other"),
-            ("__other other", "_other"),
-            ("other _other", "__other"),
-            ("\"other\" '_other r#__other", "___other"),
-        ],
-    )
-}
-
-#[test]
-fn no_parts_of_words_are_in_the_way(rt: HostRuntime) -> Result<(), Fail> {
-    check_names(
-        rt.alloc(),
-        "other",
-        &[
-            ("others another r#others", "other"),
-            ("\"another\" \"other_\"", "other"),
-            ("b\"other\"", "other"),
-            ("// other\na", "other"),
-            ("other others _others", "_other"),
-        ],
-    )
 }
 
 /// No name is chosen twice.
@@ -111,26 +128,6 @@ fn check_twice(alloc: Global, used: &mut UsedIdents) -> Result<(), Fail> {
 fn chooses_no_name_twice(rt: HostRuntime) -> Result<(), Fail> {
     let alloc = rt.alloc();
     check_twice(alloc, &mut words(alloc, "__other")?)
-}
-
-#[test]
-fn chooses_prefixes(rt: HostRuntime) -> Result<(), Fail> {
-    check_prefixes(
-        rt.alloc(),
-        "_s_",
-        &[
-            ("", "_s_"),
-            ("_s s_ _o_a a_s_", "_s_"),
-            ("_s_", "__s_"),
-            ("_s_a", "__s_"),
-            ("r#_s_1", "__s_"),
-            ("'_s_a", "__s_"),
-            ("\"a _s_x\"", "__s_"),
-            ("/// _s_x\na", "__s_"),
-            ("__s_x", "_s_"),
-            ("__s_x _s_y", "___s_"),
-        ],
-    )
 }
 
 /// Prefixes are no beginnings of names that were chosen.

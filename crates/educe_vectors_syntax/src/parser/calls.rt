@@ -1,15 +1,17 @@
-//! What the calls answer: trees by their text, refusals by their place and words.
+//! What the calls answer: trees by their text and their parts, refusals by their place and words.
 
-use super::answer_name;
+use super::{Call, kind_name};
+use crate::answers::{Asked, check};
+use crate::common::{copied, lines, told};
 use educe_syntax::{
-    DeriveInput, Duplicate, ExprPath, Meta, Shape, ToTokens, WherePredicate, parse_derive_input,
-    parse_expr, parse_ident, parse_metas, parse_path, parse_predicates, text_of_tree,
+    DeriveInput, ExprPath, Meta, Metas, Shape, ToTokens, parse_derive_input, parse_expr,
+    parse_ident, parse_metas, parse_path, parse_predicates, text_of_tree,
 };
-use educe_tokens::{EduceError, Kind, Span};
+use educe_tokens::{EduceError, Seq, Span, TokenSlice};
 use educe_vectors_checks::{
-    check_at, check_equal, check_text, definition, first, found, lexed_slice, printed,
+    check_equal, check_text, definition, first, found, lexed_slice, printed,
 };
-use std::alloc::Global;
+use std::alloc::{AllocError, Global};
 use std::test::Fail;
 
 /// The text of the tree that is answered.
@@ -20,99 +22,52 @@ fn read_text<T: ToTokens + Drop>(
     Ok(printed(alloc, found(answer)?)?)
 }
 
-/// The refusal that is answered.
-fn refused<T: Drop>(answer: Result<T, EduceError>) -> Result<EduceError, Fail> {
-    match answer {
-        Ok(_) => Err(Fail::from("read")),
-        Err(error) => Ok(error),
-    }
-}
-
-/// The one word of a refusal.
-fn only_word(error: &EduceError) -> Option<&str> {
-    match error.words.as_slice() {
-        [] => None,
-        [word] => Some(word.as_str()),
-        _ => Some("more than one word"),
-    }
-}
-
-/// Each definition is refused so, at this place and with this word.
-fn check_refusals(
+/// The texts of the trees that are answered.
+fn read_lines<T: ToTokens + Drop>(
     alloc: Global,
-    rows: &[(&str, Kind, (u32, u32), Option<&str>)],
-) -> Result<(), Fail> {
-    for (source, kind, place, word) in rows {
-        let tokens = lexed_slice(alloc, source)?;
-        let error = refused(parse_derive_input(alloc, &tokens))?;
-        let span = (error.span.start, error.span.end);
-        check_at(
-            *source,
-            (error.kind, span, only_word(&error)),
-            (*kind, *place, *word),
-        )?;
+    answer: Result<Seq<T>, EduceError>,
+) -> Result<String, Fail> {
+    Ok(lines(alloc, found(answer)?.as_slice())?)
+}
+
+/// The text of what a call reads.
+fn tree_text(alloc: Global, call: Call, tokens: &TokenSlice) -> Result<String, Fail> {
+    match call {
+        Call::Ident => read_text(alloc, parse_ident(alloc, tokens)),
+        Call::Path => read_text(alloc, parse_path(alloc, tokens)),
+        Call::Expr => read_text(alloc, parse_expr(alloc, tokens)),
+        Call::Predicates => read_lines(alloc, parse_predicates(alloc, tokens)),
+        _ => Err(Fail::from("no such text")),
     }
-    Ok(())
+}
+
+/// The text of what a call reads is this.
+fn check_read(alloc: Global, call: Call, source: &str, expected: &str) -> Result<(), Fail> {
+    check_text(tree_text(alloc, call, &lexed_slice(alloc, source)?)?, expected)
 }
 
 #[test]
-fn names_are_read(rt: HostRuntime) -> Result<(), Fail> {
+fn trees_have_their_texts(rt: HostRuntime) -> Result<(), Fail> {
     let alloc = rt.alloc();
-    let tokens = lexed_slice(alloc, "r#fn")?;
-    check_text(read_text(alloc, parse_ident(alloc, &tokens))?, "r#fn")
-}
-
-#[test]
-fn keywords_are_no_names(rt: HostRuntime) -> Result<(), Fail> {
-    let alloc = rt.alloc();
-    let tokens = lexed_slice(alloc, "fn")?;
-    check_equal(answer_name(parse_ident(alloc, &tokens)), "Syntax")
-}
-
-#[test]
-fn expressions_are_read(rt: HostRuntime) -> Result<(), Fail> {
-    let alloc = rt.alloc();
-    let tokens = lexed_slice(alloc, "-a.b(1) + 2")?;
-    check_text(
-        read_text(alloc, parse_expr(alloc, &tokens))?,
-        "- a . b ( 1 ) + 2",
-    )
+    check_read(alloc, Call::Ident, "r#fn", "r#fn")?;
+    check_read(alloc, Call::Expr, "-a.b(1) + 2", "- a . b ( 1 ) + 2")?;
+    check_read(alloc, Call::Path, "<T as A>::b::<C>", "< T as A >:: b ::< C >")?;
+    check_read(alloc, Call::Predicates, "A: B + 'a, 'a: 'b,", "A : B + 'a\n'a : 'b")
 }
 
 /// The path that a text is.
-fn expr_path(alloc: Global, text: &str) -> Result<ExprPath, Fail> {
+pub(crate) fn path(alloc: Global, text: &str) -> Result<ExprPath, Fail> {
     found(parse_path(alloc, &lexed_slice(alloc, text)?))
 }
 
-/// The path has the type of a qualified path, two segments and this text.
-fn check_path(alloc: Global, path: &ExprPath, expected: &str) -> Result<(), Fail> {
-    check_equal(path.self_type.is_some(), true)?;
-    check_equal(path.path.segments.len(), 2)?;
-    check_text(text_of_tree(alloc, path)?, expected)
+/// Whether a path has the type of a qualified path, and how many segments it has.
+fn path_parts(path: &ExprPath) -> (bool, usize) {
+    (path.self_type.is_some(), path.path.segments.len())
 }
 
-#[test]
-fn paths_are_read(rt: HostRuntime) -> Result<(), Fail> {
-    let alloc = rt.alloc();
-    let path = expr_path(alloc, "<T as A>::b::<C>")?;
-    check_path(alloc, &path, "< T as A >:: b ::< C >")
-}
-
-/// The predicates are these two.
-fn check_predicates(alloc: Global, predicates: &[WherePredicate]) -> Result<(), Fail> {
-    let [first, second] = predicates else {
-        return Err(Fail::from("not two"));
-    };
-    check_text(text_of_tree(alloc, first)?, "A : B + 'a")?;
-    check_text(text_of_tree(alloc, second)?, "'a : 'b")
-}
-
-#[test]
-fn predicates_are_read_whole(rt: HostRuntime) -> Result<(), Fail> {
-    let alloc = rt.alloc();
-    let tokens = lexed_slice(alloc, "A: B + 'a, 'a: 'b,")?;
-    let predicates = found(parse_predicates(alloc, &tokens))?;
-    check_predicates(alloc, predicates.as_slice())
+/// The metas that a text is.
+pub(crate) fn metas(alloc: Global, text: &str) -> Result<Metas, Fail> {
+    found(parse_metas(alloc, &lexed_slice(alloc, text)?))
 }
 
 /// The metas are these three.
@@ -127,18 +82,20 @@ fn check_metas(alloc: Global, metas: &[Meta]) -> Result<(), Fail> {
     };
     check_text(text_of_tree(alloc, word)?, "a")?;
     check_text(text_of_tree(alloc, path)?, "b :: c")?;
-    check_equal(list.tokens().len(), 5)?;
     check_text(text_of_tree(alloc, name)?, "f")?;
     check_text(text_of_tree(alloc, value)?, "1 + 2")?;
-    check_equal(*span, Span { start: 15, end: 24 })
+    check_equal((list.tokens().len(), *span), (5, Span { start: 15, end: 24 }))
 }
 
 #[test]
-fn metas_are_read(rt: HostRuntime) -> Result<(), Fail> {
+fn paths_and_metas_have_their_parts(rt: HostRuntime) -> Result<(), Fail> {
     let alloc = rt.alloc();
-    let tokens = lexed_slice(alloc, "a, b::c(d; e), f = 1 + 2")?;
-    let metas = found(parse_metas(alloc, &tokens))?;
-    check_metas(alloc, metas.as_slice())
+    let path = path(alloc, "<T as A>::b::<C>")?;
+    let parts = path_parts(&path);
+    check_equal(told(path, parts), (true, 2))?;
+    let metas = metas(alloc, "a, b::c(d; e), f = 1 + 2")?;
+    let checked = check_metas(alloc, metas.as_slice());
+    told(metas, checked)
 }
 
 /// The fields are these two.
@@ -154,75 +111,98 @@ fn check_fields(alloc: Global, shape: &Shape) -> Result<(), Fail> {
     check_text(text_of_tree(alloc, &second.ty)?, "A")
 }
 
+/// How many attributes, parameters and predicates a definition has.
+fn counts(ast: &DeriveInput) -> (usize, usize, usize) {
+    (ast.attrs.len(), ast.generics.params.len(), ast.generics.predicates.len())
+}
+
 /// The definition has this name, one each of attributes, parameters and predicates, and two fields.
-fn check_definition(alloc: Global, definition: &DeriveInput) -> Result<(), Fail> {
-    check_equal(definition.ident.text.as_str(), "S")?;
-    check_equal(definition.attrs.len(), 1)?;
-    check_equal(definition.generics.params.len(), 1)?;
-    check_equal(definition.generics.predicates.len(), 1)?;
-    check_fields(alloc, &definition.shape)
+fn check_definition(alloc: Global, ast: &DeriveInput) -> Result<(), Fail> {
+    check_equal(ast.ident.text.as_str(), "S")?;
+    check_equal(counts(ast), (1, 1, 1))?;
+    check_fields(alloc, &ast.shape)
 }
 
-#[test]
-fn definitions_are_trees(rt: HostRuntime) -> Result<(), Fail> {
-    let alloc = rt.alloc();
-    let definition = definition(alloc, "#[x] pub struct S<T>(pub Vec<T>, A) where T: B;")?;
-    check_definition(alloc, &definition)
-}
-
-/// The definition has the name `S` and the field `a` of the type `u8`, where they stand in a text.
-fn check_one_field(alloc: Global, definition: &DeriveInput) -> Result<(), Fail> {
-    check_equal(definition.ident.text.as_str(), "S")?;
-    check_equal(definition.ident.span, Span { start: 27, end: 28 })?;
-    check_equal(definition.tokens.len(), 14)?;
-    let Shape::Struct(shape) = &definition.shape else {
+/// The field `a` of the type `u8`, where it stands in a text.
+fn check_field(alloc: Global, shape: &Shape) -> Result<(), Fail> {
+    let Shape::Struct(shape) = shape else {
         return Err(Fail::from("no struct"));
     };
     let field = first(&shape.fields)?;
-    check_equal(field.name(), "a")?;
-    check_equal(field.span, Span { start: 31, end: 36 })?;
+    check_equal((field.name(), field.span), ("a", Span { start: 31, end: 36 }))?;
     check_text(text_of_tree(alloc, &field.ty)?, "u8")
+}
+
+/// The definition has the name `S`, where it stands in a text, 14 tokens and that field.
+fn check_one_field(alloc: Global, ast: &DeriveInput) -> Result<(), Fail> {
+    let found = (ast.ident.text.as_str(), ast.ident.span, ast.tokens.len());
+    check_equal(found, ("S", Span { start: 27, end: 28 }, 14))?;
+    check_field(alloc, &ast.shape)
 }
 
 /// A definition of one field.
 const ONE_FIELD: &str = "#[educe(PartialEq)] struct S { a: u8 }";
 
 #[test]
-fn definitions_have_their_fields(rt: HostRuntime) -> Result<(), Fail> {
+fn definitions_and_their_copies_are_trees(rt: HostRuntime) -> Result<(), Fail> {
     let alloc = rt.alloc();
-    let definition = definition(alloc, ONE_FIELD)?;
-    check_one_field(alloc, &definition)
+    let ast = definition(alloc, "#[x] pub struct S<T>(pub Vec<T>, A) where T: B;")?;
+    let checked = check_definition(alloc, &ast);
+    told(ast, checked)?;
+    let ast = definition(alloc, ONE_FIELD)?;
+    let checked = check_one_field(alloc, &ast);
+    told(ast, checked)?;
+    let copy = copied(alloc, definition(alloc, ONE_FIELD)?)?;
+    let checked = check_one_field(alloc, &copy);
+    told(copy, checked)
 }
 
-#[test]
-fn copies_of_definitions_are_equal(rt: HostRuntime) -> Result<(), Fail> {
-    let alloc = rt.alloc();
-    let definition = definition(alloc, ONE_FIELD)?;
-    let copy = definition.duplicate(alloc)?;
-    check_one_field(alloc, &copy)
+/// The refusal that is answered.
+fn refused<T: Drop>(answer: Result<T, EduceError>) -> Result<EduceError, Fail> {
+    match answer {
+        Ok(_) => Err(Fail::from("read")),
+        Err(error) => Ok(error),
+    }
 }
+
+/// The kind and the place of a refusal, and the words that it cites.
+fn refusal_text(alloc: Global, error: &EduceError) -> Result<String, AllocError> {
+    let Span { start, end } = error.span;
+    let mut text = format!(in alloc; "{} {start}..{end}", kind_name(error.kind))?;
+    for word in error.words.as_slice() {
+        write!(text, " {}", word.as_str())?;
+    }
+    Ok(text)
+}
+
+/// How a definition is refused.
+pub(crate) fn definition_refused(alloc: Global, source: &str) -> Result<String, Fail> {
+    let tokens = lexed_slice(alloc, source)?;
+    let error = refused(parse_derive_input(alloc, &tokens))?;
+    Ok(refusal_text(alloc, &error)?)
+}
+
+static REFUSALS: &str = r#"
+∅
+: Syntax 0..0
+
+struct S
+: Syntax 8..8
+
+struct S { a: impl X }
+: Syntax 14..18
+
+struct S<T, T>;
+: DuplicateName 12..13 T
+
+struct S { a: u8, r#a: u8 }
+: DuplicateName 18..21 r#a
+
+pub union U { a: u8 }
+: NotCarried 4..9 union
+"#;
 
 #[test]
 fn refusals_have_their_places(rt: HostRuntime) -> Result<(), Fail> {
-    check_refusals(
-        rt.alloc(),
-        &[
-            ("", Kind::Syntax, (0, 0), None),
-            ("struct S", Kind::Syntax, (8, 8), None),
-            ("struct S { a: impl X }", Kind::Syntax, (14, 18), None),
-            ("struct S<T, T>;", Kind::DuplicateName, (12, 13), Some("T")),
-            (
-                "struct S { a: u8, r#a: u8 }",
-                Kind::DuplicateName,
-                (18, 21),
-                Some("r#a"),
-            ),
-            (
-                "pub union U { a: u8 }",
-                Kind::NotCarried,
-                (4, 9),
-                Some("union"),
-            ),
-        ],
-    )
+    check(rt.alloc(), Asked::Refusal, REFUSALS)
 }

@@ -1,11 +1,39 @@
 //! How deep what stands inside may nest, and how long a chain may be: at each limit, and one past it.
+//!
+//! `127 times (_) around A in struct S(_);` is `struct S(A);` with `A` in 127 pairs of brackets.
 
-use super::Call::{Derive, Expr, Metas, Path, Predicates};
-use super::{Call, check, refusal_of};
-use educe_tokens::{Kind, Seq, TokenSlice};
+use super::{Call, Refusal, answer, kind_name, refusal_of};
+use crate::answers::{Asked, check};
+use educe_tokens::{Seq, Token, TokenSlice, TokenStream};
 use educe_vectors_checks::{check_at, lexed};
 use std::alloc::{AllocError, Global};
 use std::test::Fail;
+
+/// A part that stands so often in itself around an innermost text, in the place of the `_` of an outer text.
+#[derive(Clone, Copy)]
+struct Nesting<'a> {
+    times: usize,
+    start: &'a str,
+    stop: &'a str,
+    inside: &'a str,
+    outer: &'a str,
+}
+
+/// The nesting that a text says.
+fn read_nesting(text: &str) -> Option<Nesting<'_>> {
+    let (times, rest) = text.split_once(" times ")?;
+    let (part, outer) = rest.split_once(" in ")?;
+    let (around, inside) = part.split_once(" around ").unwrap_or((part, ""));
+    let (start, stop) = around.split_once('_')?;
+    let times = times.parse::<usize>().ok()?;
+    Some(Nesting {
+        times,
+        start,
+        stop,
+        inside,
+        outer,
+    })
+}
 
 /// Appends a part so often.
 fn push_times(text: &mut String, part: &str, times: usize) -> Result<(), AllocError> {
@@ -15,284 +43,260 @@ fn push_times(text: &mut String, part: &str, times: usize) -> Result<(), AllocEr
     Ok(())
 }
 
-/// The text of a part that stands so often between what stands before and behind it.
-fn text(
-    alloc: Global,
-    around: (&str, &str),
-    part: (&str, &str, &str),
-    times: usize,
-) -> Result<String, AllocError> {
-    let (before, behind) = around;
-    let (start, inside, stop) = part;
-    let mut text = String::new(alloc);
-    text.push_str(before)?;
-    push_times(&mut text, start, times)?;
-    text.push_str(inside)?;
-    push_times(&mut text, stop, times)?;
+/// Appends the part so often around the innermost text.
+fn push_nested(text: &mut String, nesting: &Nesting, times: usize) -> Result<(), AllocError> {
+    push_times(text, nesting.start, times)?;
+    text.push_str(nesting.inside)?;
+    push_times(text, nesting.stop, times)
+}
+
+/// The text with the part so often.
+fn text(alloc: Global, nesting: &Nesting, times: usize) -> Result<String, Fail> {
+    let (before, behind) = nesting.outer.split_once('_').ok_or(nesting.outer)?;
+    let mut text = String::from_str(alloc, before)?;
+    push_nested(&mut text, nesting, times)?;
     text.push_str(behind)?;
     Ok(text)
 }
 
-/// With each part so often the text gets this answer.
-fn check_times(
-    alloc: Global,
-    expected: &str,
-    around: (&str, &str),
-    times: usize,
-    parts: &[(&str, &str, &str)],
-) -> Result<(), Fail> {
-    for part in parts {
-        let source = text(alloc, around, *part, times)?;
-        check(alloc, expected, &[source.as_str()])?;
+/// What is answered for the text with the part so often.
+fn answer_with(alloc: Global, nesting: &Nesting, times: usize) -> Result<&'static str, Fail> {
+    answer(alloc, text(alloc, nesting, times)?.as_str())
+}
+
+/// What is answered at a limit, and past it.
+pub(crate) fn answers(alloc: Global, text: &str) -> Result<String, Fail> {
+    let nesting = read_nesting(text).ok_or(text)?;
+    let at = answer_with(alloc, &nesting, nesting.times)?;
+    let past = answer_with(alloc, &nesting, nesting.times.saturating_add(1))?;
+    Ok(format!(in alloc; "{at}, and once more {past}")?)
+}
+
+/// The call of this name.
+fn call(name: &str) -> Option<Call> {
+    match name {
+        "Derive" => Some(Call::Derive),
+        "Metas" => Some(Call::Metas),
+        "Path" => Some(Call::Path),
+        "Expr" => Some(Call::Expr),
+        "Predicates" => Some(Call::Predicates),
+        _ => None,
     }
-    Ok(())
 }
 
-/// With each part so often the text is read, and with it once more it is too deep.
-fn check_limit(
+/// The call and the nesting that a text says.
+fn read_call(text: &str) -> Option<(Call, Nesting<'_>)> {
+    let (name, rest) = text.split_once(' ')?;
+    Some((call(name)?, read_nesting(rest)?))
+}
+
+/// The tokens of the part so often around the innermost text.
+fn inner(alloc: Global, nesting: &Nesting, times: usize) -> Result<TokenStream, Fail> {
+    let mut inner = String::new(alloc);
+    push_nested(&mut inner, nesting, times)?;
+    lexed(alloc, inner.as_str())
+}
+
+/// Appends a token, or others in the place of `_`.
+fn place(
     alloc: Global,
-    around: (&str, &str),
-    limit: usize,
-    parts: &[(&str, &str, &str)],
-) -> Result<(), Fail> {
-    let past = limit.saturating_add(1);
-    check_times(alloc, "Ok", around, limit, parts)?;
-    check_times(alloc, "TooDeep", around, past, parts)
+    tokens: &mut TokenStream,
+    token: Token,
+    inner: &TokenStream,
+) -> Result<(), AllocError> {
+    if token.spelling.is("_") {
+        tokens.append(inner.duplicate(alloc)?)
+    } else {
+        tokens.push(token)
+    }
 }
 
-#[test]
-fn types_nest(rt: HostRuntime) -> Result<(), Fail> {
-    check_limit(
-        rt.alloc(),
-        ("struct S { a: ", " }"),
-        127,
-        &[
-            ("(", "A", ")"),
-            ("[", "A", "]"),
-            ("[", "A", "; 1]"),
-            ("&", "A", ""),
-            ("&'a mut ", "A", ""),
-            ("*const ", "A", ""),
-            ("A<", "B", ">"),
-            ("A::<", "B", ">"),
-            ("<", "A", ">::B"),
-            ("fn() -> ", "A", ""),
-            ("fn(", "A", ")"),
-            ("F() -> ", "A", ""),
-            ("F(", "A", ")"),
-        ],
-    )
+/// The tokens of a text with others in the place of `_`.
+fn placed(alloc: Global, outer: &str, inner: &TokenStream) -> Result<TokenSlice, Fail> {
+    let mut tokens = Seq::new(alloc);
+    for token in lexed(alloc, outer)?.into_items() {
+        place(alloc, &mut tokens, token, inner)?;
+    }
+    Ok(TokenSlice::new(alloc, tokens)?)
 }
 
-#[test]
-fn pairs_of_openers_nest(rt: HostRuntime) -> Result<(), Fail> {
-    check_limit(
-        rt.alloc(),
-        ("struct S { a: ", " }"),
-        63,
-        &[
-            ("dyn F() -> ", "A", ""),
-            ("A<{ 1 as ", "B", " }>"),
-            ("(&", "A", ")"),
-        ],
-    )
-}
-
-#[test]
-fn predicates_nest(rt: HostRuntime) -> Result<(), Fail> {
-    check_limit(
-        rt.alloc(),
-        ("struct S where ", ": B;"),
-        128,
-        &[("&", "A", ""), ("(", "A", ")"), ("A<", "B", ">")],
-    )
-}
-
-#[test]
-fn bounds_nest(rt: HostRuntime) -> Result<(), Fail> {
-    check_limit(
-        rt.alloc(),
-        ("struct S where A: ", ";"),
-        128,
-        &[("A<", "B", ">"), ("F(", "B", ")")],
-    )
-}
-
-#[test]
-fn expressions_nest(rt: HostRuntime) -> Result<(), Fail> {
-    check_limit(
-        rt.alloc(),
-        ("enum E { A = ", " }"),
-        127,
-        &[
-            ("(", "1", ")"),
-            ("f(", "1", ")"),
-            ("a[", "1", "]"),
-            ("A { b: ", "1", " }"),
-            ("A { ..", "1", " }"),
-            ("(-", "1", ")"),
-        ],
-    )
-}
-
-#[test]
-fn token_trees_nest(rt: HostRuntime) -> Result<(), Fail> {
-    check_limit(
-        rt.alloc(),
-        ("enum E { A = m!", " }"),
-        127,
-        &[("(", "", ")"), ("[", "", "]"), ("{", "", "}")],
-    )
-}
-
-#[test]
-fn attributes_nest(rt: HostRuntime) -> Result<(), Fail> {
-    check_limit(
-        rt.alloc(),
-        ("#[a", " ] struct S;"),
-        127,
-        &[("(", "", ")"), ("[", "", "]"), ("{", "", "}")],
-    )
-}
-
-#[test]
-fn chains_end(rt: HostRuntime) -> Result<(), Fail> {
-    check_limit(
-        rt.alloc(),
-        ("enum E { A = ", " }"),
-        128,
-        &[
-            ("-", "1", ""),
-            ("&mut ", "1", ""),
-            ("", "1", " + 1"),
-            ("", "a", ".b"),
-            ("", "a", " as u8"),
-            ("", "f", "()"),
-            ("", "a", "[1]"),
-        ],
-    )
-}
-
-#[test]
-fn lists_do_not_nest(rt: HostRuntime) -> Result<(), Fail> {
-    check_times(
-        rt.alloc(),
-        "Ok",
-        ("struct S(", ");"),
-        1000,
-        &[("", "A", ", A"), ("", "A", "::A"), ("", "A", "<B>::C")],
-    )
-}
-
-/// Where a call refuses the tokens of a text with a part so often in the place of `_`, if it does.
-/// The lexer, which refuses as many brackets as the parser, reads the text and the parts apart.
+/// How a call refuses the text with the part so often, if it does. The lexer, which refuses as many
+/// brackets as the parser, reads the text and the parts apart.
 fn refusal_with(
     alloc: Global,
     call: Call,
-    outer: &str,
-    part: (&str, &str, &str),
+    nesting: &Nesting,
     times: usize,
-) -> Result<Option<(Kind, usize)>, Fail> {
-    let inner = text(alloc, ("", ""), part, times)?;
-    let inner = lexed(alloc, inner.as_str())?;
-    let mut tokens = Seq::new(alloc);
-    for token in lexed(alloc, outer)?.into_items() {
-        if token.spelling.is("_") {
-            tokens.append(inner.duplicate(alloc)?)?;
-        } else {
-            tokens.push(token)?;
-        }
-    }
-    let tokens = TokenSlice::new(alloc, tokens)?;
-    match refusal_of(alloc, call, &tokens) {
-        None => Ok(None),
-        Some((kind, (start, _))) => Ok(Some((kind, start as usize))),
-    }
+) -> Result<Refusal, Fail> {
+    let inner = inner(alloc, nesting, times)?;
+    Ok(refusal_of(alloc, call, &placed(alloc, nesting.outer, &inner)?))
 }
 
-/// With the part so often in the place of `_` the call reads each text. With it once more it is too
-/// deep, at the character that stands so far behind the start of the last part.
-fn check_limits(
-    alloc: Global,
-    rows: &[(Call, &str, &str, &str, &str, usize, usize)],
-) -> Result<(), Fail> {
-    for (call, outer, start, inside, stop, limit, behind) in rows {
-        let part = (*start, *inside, *stop);
-        let found = refusal_with(alloc, *call, outer, part, *limit)?;
-        check_at((*outer, part), found, None)?;
-        let found = refusal_with(alloc, *call, outer, part, limit.saturating_add(1))?;
-        let place = limit.saturating_mul(part.0.len()).saturating_add(*behind);
-        check_at((*outer, part), found, Some((Kind::TooDeep, place)))?;
-    }
-    Ok(())
+/// How far a refusal is behind a place.
+fn behind(refusal: Refusal, place: usize) -> Option<(&'static str, usize)> {
+    let (kind, (start, _)) = refusal?;
+    Some((kind_name(kind), (start as usize).checked_sub(place)?))
 }
+
+/// How a call refuses the text with the part once too often: so far behind the start of the last part.
+fn refused_past(alloc: Global, call: Call, nesting: &Nesting) -> Result<String, Fail> {
+    let times = nesting.times.saturating_add(1);
+    let last = nesting.times.saturating_mul(nesting.start.len());
+    let refusal = refusal_with(alloc, call, nesting, times)?;
+    let (name, behind) = behind(refusal, last).ok_or(nesting.outer)?;
+    Ok(format!(in alloc; "{name} at {behind}")?)
+}
+
+/// A call reads the text with the part so often, and refuses it with the part once more.
+pub(crate) fn refused_at(alloc: Global, row: &str) -> Result<String, Fail> {
+    let (call, nesting) = read_call(row).ok_or(row)?;
+    check_at(row, refusal_with(alloc, call, &nesting, nesting.times)?, None)?;
+    refused_past(alloc, call, &nesting)
+}
+
+static DEFINITIONS: &str = r#"
+127 times (_) around A in struct S { a: _ }
+127 times [_] around A in struct S { a: _ }
+127 times [_; 1] around A in struct S { a: _ }
+127 times &_ around A in struct S { a: _ }
+127 times &'a mut _ around A in struct S { a: _ }
+127 times *const _ around A in struct S { a: _ }
+127 times A<_> around B in struct S { a: _ }
+127 times A::<_> around B in struct S { a: _ }
+127 times <_>::B around A in struct S { a: _ }
+127 times fn() -> _ around A in struct S { a: _ }
+127 times fn(_) around A in struct S { a: _ }
+127 times F() -> _ around A in struct S { a: _ }
+127 times F(_) around A in struct S { a: _ }
+: Ok, and once more TooDeep
+
+63 times dyn F() -> _ around A in struct S { a: _ }
+63 times A<{ 1 as _ }> around B in struct S { a: _ }
+63 times (&_) around A in struct S { a: _ }
+: Ok, and once more TooDeep
+
+128 times &_ around A in struct S where _: B;
+128 times (_) around A in struct S where _: B;
+128 times A<_> around B in struct S where _: B;
+: Ok, and once more TooDeep
+
+128 times A<_> around B in struct S where A: _;
+128 times F(_) around B in struct S where A: _;
+: Ok, and once more TooDeep
+
+127 times (_) around 1 in enum E { A = _ }
+127 times f(_) around 1 in enum E { A = _ }
+127 times a[_] around 1 in enum E { A = _ }
+127 times A { b: _ } around 1 in enum E { A = _ }
+127 times A { .._ } around 1 in enum E { A = _ }
+127 times (-_) around 1 in enum E { A = _ }
+: Ok, and once more TooDeep
+
+127 times (_) in enum E { A = m!_ }
+127 times [_] in enum E { A = m!_ }
+127 times {_} in enum E { A = m!_ }
+: Ok, and once more TooDeep
+
+127 times (_) in #[a_ ] struct S;
+127 times [_] in #[a_ ] struct S;
+127 times {_} in #[a_ ] struct S;
+: Ok, and once more TooDeep
+
+128 times -_ around 1 in enum E { A = _ }
+128 times &mut _ around 1 in enum E { A = _ }
+128 times _ + 1 around 1 in enum E { A = _ }
+128 times _.b around a in enum E { A = _ }
+128 times _ as u8 around a in enum E { A = _ }
+128 times _() around f in enum E { A = _ }
+128 times _[1] around a in enum E { A = _ }
+: Ok, and once more TooDeep
+
+1000 times _, A around A in struct S(_);
+1000 times _::A around A in struct S(_);
+1000 times _<B>::C around A in struct S(_);
+: Ok, and once more Ok
+"#;
+
+static PARTS: &str = r#"
+Derive 127 times (_) around A in struct S(_);
+Derive 127 times (_) around A in struct S { a: _ }
+Derive 127 times &_ around A in struct S<T = _>;
+Derive 127 times (_) around A in struct S<const N: _>;
+Derive 126 times (_) around 1 in struct S<const N: A={_}>;
+Derive 126 times (_) around A in enum E { A(_) }
+Derive 126 times &_ around A in enum E { A(_) }
+Derive 126 times (_) around A in enum E { A { a: _ } }
+Derive 126 times &_ around A in enum E { A { a: _ } }
+Derive 127 times (_) around 1 in enum E { A = _ }
+Derive 126 times (_) in enum E { A = m!(_) }
+Derive 126 times (_) in #[a(_)] struct S;
+Derive 127 times (_) in #[a = _] struct S;
+: TooDeep at 0
+
+Derive 126 times (_) around dyn A in struct S(_);
+Derive 127 times A<_> around B in struct S<T: _>;
+Derive 126 times A<_> around B in enum E { A = a::<_> }
+: TooDeep at 1
+
+Derive 63 times dyn A<_> around B in struct S(_);
+Derive 125 times (_) around dyn (A) in struct S(_);
+: TooDeep at 5
+
+Derive 125 times (_) around dyn for<'a> A in struct S(_);
+: TooDeep at 8
+
+Derive 126 times (_) around for<'a> fn() in struct S(_);
+Derive 63 times a::<{ _ }> around 1 in enum E { A = _ }
+Derive 126 times (_) around a::<B> in enum E { A = _ }
+: TooDeep at 4
+
+Derive 126 times (_) around fn() in struct S(_);
+: TooDeep at 3
+
+Derive 63 times a.b::<{_}>() around 1 in enum E { A = _ }
+Derive 126 times (_) around a.b::<B>() in enum E { A = _ }
+: TooDeep at 6
+
+Metas 127 times (_) in a(_)
+Metas 127 times [_] in a[_]
+Metas 127 times {_} in a{_}
+Metas 127 times [_] in a, b(_)
+Metas 127 times (_) around 1 in a = (_)
+Metas 127 times (_) in a = m!(_)
+Metas 128 times -_ around 1 in a = _
+Expr 127 times (_) around 1 in (_)
+Expr 127 times [_] in m![_]
+Expr 128 times &_ around A in 1 as _
+Expr 128 times &mut _ around 1 in _
+Path 127 times &_ around A in <_>::a
+Path 126 times (_) around 1 in a::<{ _ }>
+Predicates 128 times &_ around A in _: A
+: TooDeep at 0
+
+Metas 127 times g(_) around 1 in a = f(_)
+Metas 127 times A<_> around B in a = <_>::b
+Expr 127 times g(_) around 1 in f(_)
+Expr 127 times b[_] around 1 in a[_]
+Expr 127 times A<_> around B in a::<_>
+Path 127 times A<_> around B in <_>::a
+Path 127 times A<_> around B in a::<_>
+Predicates 128 times B<_> around C in A: _
+Predicates 127 times B<_> around C in A: (_)
+Predicates 128 times B<_> around C in for<'a> A: _
+: TooDeep at 1
+
+Expr 127 times A { b: _ } around 1 in A { b: _ }
+: TooDeep at 2
+
+Expr 64 times a::<{ _ }> around 1 in _
+: TooDeep at 3
+
+Predicates 126 times B<_> around dyn for<'a> C in A: _
+: TooDeep at 9
+"#;
 
 #[test]
-fn openers_of_definitions_nest(rt: HostRuntime) -> Result<(), Fail> {
-    check_limits(
-        rt.alloc(),
-        &[
-            (Derive, "struct S(_);", "(", "A", ")", 127, 0),
-            (Derive, "struct S(_);", "(", "dyn A", ")", 126, 1),
-            (Derive, "struct S(_);", "dyn A<", "B", ">", 63, 5),
-            (Derive, "struct S(_);", "(", "dyn (A)", ")", 125, 5),
-            (Derive, "struct S(_);", "(", "dyn for<'a> A", ")", 125, 8),
-            (Derive, "struct S(_);", "(", "for<'a> fn()", ")", 126, 4),
-            (Derive, "struct S(_);", "(", "fn()", ")", 126, 3),
-            (Derive, "struct S { a: _ }", "(", "A", ")", 127, 0),
-            (Derive, "struct S<T: _>;", "A<", "B", ">", 127, 1),
-            (Derive, "struct S<T = _>;", "&", "A", "", 127, 0),
-            (Derive, "struct S<const N: _>;", "(", "A", ")", 127, 0),
-            (Derive, "struct S<const N: A={_}>;", "(", "1", ")", 126, 0),
-            (Derive, "enum E { A(_) }", "(", "A", ")", 126, 0),
-            (Derive, "enum E { A(_) }", "&", "A", "", 126, 0),
-            (Derive, "enum E { A { a: _ } }", "(", "A", ")", 126, 0),
-            (Derive, "enum E { A { a: _ } }", "&", "A", "", 126, 0),
-            (Derive, "enum E { A = a::<_> }", "A<", "B", ">", 126, 1),
-            (Derive, "enum E { A = _ }", "a::<{ ", "1", " }>", 63, 4),
-            (Derive, "enum E { A = _ }", "a.b::<{", "1", "}>()", 63, 6),
-            (Derive, "enum E { A = _ }", "(", "a::<B>", ")", 126, 4),
-            (Derive, "enum E { A = _ }", "(", "a.b::<B>()", ")", 126, 6),
-            (Derive, "enum E { A = _ }", "(", "1", ")", 127, 0),
-            (Derive, "enum E { A = m!(_) }", "(", "", ")", 126, 0),
-            (Derive, "#[a(_)] struct S;", "(", "", ")", 126, 0),
-            (Derive, "#[a = _] struct S;", "(", "", ")", 127, 0),
-        ],
-    )
-}
-
-#[test]
-fn openers_of_parts_nest(rt: HostRuntime) -> Result<(), Fail> {
-    check_limits(
-        rt.alloc(),
-        &[
-            (Metas, "a(_)", "(", "", ")", 127, 0),
-            (Metas, "a[_]", "[", "", "]", 127, 0),
-            (Metas, "a{_}", "{", "", "}", 127, 0),
-            (Metas, "a, b(_)", "[", "", "]", 127, 0),
-            (Metas, "a = (_)", "(", "1", ")", 127, 0),
-            (Metas, "a = f(_)", "g(", "1", ")", 127, 1),
-            (Metas, "a = m!(_)", "(", "", ")", 127, 0),
-            (Metas, "a = <_>::b", "A<", "B", ">", 127, 1),
-            (Metas, "a = _", "-", "1", "", 128, 0),
-            (Expr, "(_)", "(", "1", ")", 127, 0),
-            (Expr, "f(_)", "g(", "1", ")", 127, 1),
-            (Expr, "a[_]", "b[", "1", "]", 127, 1),
-            (Expr, "A { b: _ }", "A { b: ", "1", " }", 127, 2),
-            (Expr, "m![_]", "[", "", "]", 127, 0),
-            (Expr, "a::<_>", "A<", "B", ">", 127, 1),
-            (Expr, "_", "a::<{ ", "1", " }>", 64, 3),
-            (Expr, "1 as _", "&", "A", "", 128, 0),
-            (Expr, "_", "&mut ", "1", "", 128, 0),
-            (Path, "<_>::a", "A<", "B", ">", 127, 1),
-            (Path, "<_>::a", "&", "A", "", 127, 0),
-            (Path, "a::<_>", "A<", "B", ">", 127, 1),
-            (Path, "a::<{ _ }>", "(", "1", ")", 126, 0),
-            (Predicates, "_: A", "&", "A", "", 128, 0),
-            (Predicates, "A: _", "B<", "C", ">", 128, 1),
-            (Predicates, "A: _", "B<", "dyn for<'a> C", ">", 126, 9),
-            (Predicates, "A: (_)", "B<", "C", ">", 127, 1),
-            (Predicates, "for<'a> A: _", "B<", "C", ">", 128, 1),
-        ],
-    )
+fn what_nests_has_a_limit_and_lists_have_none(rt: HostRuntime) -> Result<(), Fail> {
+    check(rt.alloc(), Asked::Limit, DEFINITIONS)?;
+    check(rt.alloc(), Asked::LimitOfCall, PARTS)
 }

@@ -1,9 +1,7 @@
 //! Literals between quotes, and the values of strings.
 
-use crate::common;
-use educe_tokens_pieces::{Quote, is_body, quote_end, str_value};
-use educe_vectors_checks::{check_answers, check_texts};
-use std::alloc::Global;
+use crate::answers::{Call, OfCharacters, check, check_characters};
+use educe_tokens_pieces::{Quote, is_body, quote_end};
 use std::test::Fail;
 
 /// What a literal opens with, and the text behind its opening quote.
@@ -19,139 +17,135 @@ fn opened(literal: &[char]) -> Option<(Quote, &[char])> {
 }
 
 /// Whether a literal goes on behind its opening quote as such a literal does.
-fn fits(alloc: Global, literal: &str) -> Result<bool, Fail> {
-    match opened(&common::characters(alloc, literal)?) {
-        Some((quote, body)) => Ok(is_body(quote, body)),
-        None => Err(Fail::from(literal)),
-    }
-}
-
-static STRINGS: [(&str, bool); 14] = [
-    (r#""a""#, true),
-    (r#""a"#, false),
-    (r#""a"b""#, false),
-    (r#""""#, true),
-    ("\"é\n\"", true),
-    (r#""\n\r\t\\\0\'\"""#, true),
-    (r#""\""#, false),
-    (r#""\q""#, false),
-    (r#""\x7f""#, true),
-    (r#""\x80""#, false),
-    (r#""\x7""#, false),
-    ("\"\\\n\"", true),
-    ("\"\\\r\n\"", true),
-    ("\"\\\r\"", false),
-];
-
-#[test]
-fn strings(rt: HostRuntime) -> Result<(), Fail> {
-    check_answers(rt.alloc(), fits, &STRINGS)
-}
-
-static CODES: [(&str, bool); 14] = [
-    (r"'\u{1_F600}'", true),
-    (r"'\u{0_0_0_0_4_1__}'", true),
-    (r"'\u{D7FF}'", true),
-    (r"'\u{D800}'", false),
-    (r"'\u{DFFF}'", false),
-    (r"'\u{E000}'", true),
-    (r"'\u{10FFFF}'", true),
-    (r"'\u{110000}'", false),
-    (r"'\u{}'", false),
-    (r"'\u{_1}'", false),
-    (r"'\u{1234567}'", false),
-    (r"'\u{1g}'", false),
-    (r"'\u{1'", false),
-    (r"'\u41'", false),
-];
-
-#[test]
-fn codes(rt: HostRuntime) -> Result<(), Fail> {
-    check_answers(rt.alloc(), fits, &CODES)
-}
-
-static BYTES_AND_C_STRINGS: [(&str, bool); 16] = [
-    (r#""\u{1_F600}""#, true),
-    (r#""\u{D800}""#, false),
-    (r#"b"a\x80\xff\'""#, true),
-    ("b\"\\\n\"", true),
-    (r#"b"a"#, false),
-    (r#"b"é""#, false),
-    (r#"b"\u{41}""#, false),
-    (r#"c"é\xff\u{41}""#, true),
-    (r#"c"\xff"#, false),
-    (r#"c"\q""#, false),
-    (r"b'a'", true),
-    (r"b'\xff'", true),
-    (r"b'a", false),
-    (r"b'\u{1}'", false),
-    (r"b'é'", false),
-    ("b'\n'", false),
-];
-
-#[test]
-fn bytes_and_c_strings(rt: HostRuntime) -> Result<(), Fail> {
-    check_answers(rt.alloc(), fits, &BYTES_AND_C_STRINGS)
-}
-
-static CHARACTERS: [(&str, bool); 13] = [
-    (r"'a'", true),
-    (r"'é'", true),
-    (r#"'"'"#, true),
-    (r"'\''", true),
-    (r"'a", false),
-    (r"'''", false),
-    (r"''", false),
-    (r"'ab'", false),
-    ("'\n'", false),
-    ("'\r'", false),
-    ("'\t'", false),
-    (r"'\x80'", false),
-    ("'\\\n'", false),
-];
-
-#[test]
-fn characters(rt: HostRuntime) -> Result<(), Fail> {
-    check_answers(rt.alloc(), fits, &CHARACTERS)
+pub(crate) fn fits(literal: &[char]) -> Option<bool> {
+    let (quote, body) = opened(literal)?;
+    Some(is_body(quote, body))
 }
 
 /// Where a literal ends behind its opening quote.
-fn end(alloc: Global, literal: &str) -> Result<Option<usize>, Fail> {
-    match opened(&common::characters(alloc, literal)?) {
-        Some((quote, body)) => Ok(quote_end(quote, body)),
-        None => Err(Fail::from(literal)),
-    }
+pub(crate) fn end(literal: &[char]) -> Option<usize> {
+    let (quote, body) = opened(literal)?;
+    quote_end(quote, body)
 }
+
+static LITERALS: &str = r#"
+"a"
+""
+"é␊"
+"\n\r\t\\\0\'\""
+"\x7f"
+"\␊"
+"\␍␊"
+: true
+
+"a
+"a"b"
+"\"
+"\q"
+"\x80"
+"\x7"
+"\␍"
+: false
+
+'\u{1_F600}'
+'\u{0_0_0_0_4_1__}'
+'\u{D7FF}'
+'\u{E000}'
+'\u{10FFFF}'
+: true
+
+'\u{D800}'
+'\u{DFFF}'
+'\u{110000}'
+'\u{}'
+'\u{_1}'
+'\u{1234567}'
+'\u{1g}'
+'\u{1'
+'\u41'
+: false
+
+"\u{1_F600}"
+b"a\x80\xff\'"
+b"\␊"
+c"é\xff\u{41}"
+b'a'
+b'\xff'
+: true
+
+"\u{D800}"
+b"a
+b"é"
+b"\u{41}"
+c"\xff
+c"\q"
+b'a
+b'\u{1}'
+b'é'
+b'␊'
+: false
+
+'a'
+'é'
+'"'
+'\''
+: true
+
+'a
+'''
+''
+'ab'
+'␊'
+'␍'
+'␉'
+'\x80'
+'\␊'
+: false
+"#;
+
+static ENDS: &str = r#"
+"a"b"
+: 2
+
+"\"
+'a␠
+: none
+"#;
+
+static VALUES_OF_STRINGS: &str = r#"
+""
+: ∅
+
+"a b"
+: a b
+
+"a\␊   b"
+: ab
+
+"a\␍␊ ␉␍␊ b c"
+: ab c
+
+"\␊ \␊ \n "
+: 
+ 
+
+"\u{41}\x42C"
+: ABC
+
+"\u{1_F600_}\x7f"
+: 😀␡
+
+"\n\r\t\\\0\'\""
+: 
+␍␉\␀'"
+
+"é\u{e9}"
+: éé
+"#;
 
 #[test]
-fn ends(rt: HostRuntime) -> Result<(), Fail> {
-    check_answers(
-        rt.alloc(),
-        end,
-        &[(r#""a"b""#, Some(2)), (r#""\""#, None), ("'a ", None)],
-    )
-}
-
-/// The value of a string.
-fn value(alloc: Global, literal: &str) -> Result<String, Fail> {
-    Ok(str_value(alloc, literal)?)
-}
-
-#[test]
-fn values_of_strings(rt: HostRuntime) -> Result<(), Fail> {
-    check_texts(
-        rt.alloc(),
-        value,
-        &[
-            (r#""""#, ""),
-            (r#""a b""#, "a b"),
-            ("\"a\\\n   b\"", "ab"),
-            ("\"a\\\r\n \t\r\n b c\"", "ab c"),
-            ("\"\\\n \\\n \\n \"", "\n "),
-            (r#""\u{41}\x42C""#, "ABC"),
-            (r#""\u{1_F600_}\x7f""#, "\u{1F600}\u{7F}"),
-            (r#""\n\r\t\\\0\'\"""#, "\n\r\t\\\0'\""),
-            (r#""é\u{e9}""#, "éé"),
-        ],
-    )
+fn strings_bytes_and_characters(rt: HostRuntime) -> Result<(), Fail> {
+    check_characters(rt.alloc(), OfCharacters::IsBody, LITERALS)?;
+    check_characters(rt.alloc(), OfCharacters::QuoteEnd, ENDS)?;
+    check(rt.alloc(), Call::StrValue, VALUES_OF_STRINGS)
 }
