@@ -9,9 +9,7 @@ use educe_syntax::{
     is_name, path_to_string, text_of_tree, unraw,
 };
 use educe_tokens::{Span, Spelling};
-use educe_vectors_checks::{
-    check_equal, check_text, definition, first, lexed, printed,
-};
+use educe_vectors_checks::{check_equal, check_text, definition, first, lexed, printed};
 use std::alloc::{AllocError, Global};
 use std::test::Fail;
 
@@ -175,7 +173,11 @@ fn check_path(
     is_word: bool,
     texts: (&str, &str),
 ) -> Result<(), Fail> {
-    let found = (path.is_ident("a"), path.is_ident("b"), path.get_ident().is_some());
+    let found = (
+        path.is_ident("a"),
+        path.is_ident("b"),
+        path.get_ident().is_some(),
+    );
     check_equal(found, (is_word, false, is_word))?;
     check_text(path_to_string(alloc, path)?, texts.0)?;
     check_text(text_of_tree(alloc, path)?, texts.1)

@@ -52,11 +52,7 @@ pub(crate) enum Call {
 }
 
 /// What is found of characters.
-fn of_characters(
-    alloc: Global,
-    asked: OfCharacters,
-    text: &[char],
-) -> Result<String, AllocError> {
+fn of_characters(alloc: Global, asked: OfCharacters, text: &[char]) -> Result<String, AllocError> {
     match asked {
         OfCharacters::CommentAt => piece_text(alloc, comment_at(text)),
         OfCharacters::EndsLineBefore(len) => {
@@ -71,11 +67,7 @@ fn of_characters(
 }
 
 /// What is found of the characters of a text.
-fn characters_answer(
-    alloc: Global,
-    asked: OfCharacters,
-    text: &str,
-) -> Result<String, AllocError> {
+fn characters_answer(alloc: Global, asked: OfCharacters, text: &str) -> Result<String, AllocError> {
     of_characters(alloc, asked, &characters(alloc, text)?)
 }
 

@@ -179,11 +179,7 @@ fn pieces_at_the_front(rt: HostRuntime) -> Result<(), Fail> {
 }
 
 /// Compares whether a text is one piece of a kind.
-fn check_whole(
-    alloc: Global,
-    expected: bool,
-    table: &[(PieceKind, &str)],
-) -> Result<(), Fail> {
+fn check_whole(alloc: Global, expected: bool, table: &[(PieceKind, &str)]) -> Result<(), Fail> {
     for (kind, text) in table {
         let found = is_piece(*kind, &characters(alloc, text)?);
         check_at(*text, found, expected)?;

@@ -43,7 +43,10 @@ fn tree_text(alloc: Global, call: Call, tokens: &TokenSlice) -> Result<String, F
 
 /// The text of what a call reads is this.
 fn check_read(alloc: Global, call: Call, source: &str, expected: &str) -> Result<(), Fail> {
-    check_text(tree_text(alloc, call, &lexed_slice(alloc, source)?)?, expected)
+    check_text(
+        tree_text(alloc, call, &lexed_slice(alloc, source)?)?,
+        expected,
+    )
 }
 
 #[test]
@@ -51,8 +54,18 @@ fn trees_have_their_texts(rt: HostRuntime) -> Result<(), Fail> {
     let alloc = rt.alloc();
     check_read(alloc, Call::Ident, "r#fn", "r#fn")?;
     check_read(alloc, Call::Expr, "-a.b(1) + 2", "- a . b ( 1 ) + 2")?;
-    check_read(alloc, Call::Path, "<T as A>::b::<C>", "< T as A >:: b ::< C >")?;
-    check_read(alloc, Call::Predicates, "A: B + 'a, 'a: 'b,", "A : B + 'a\n'a : 'b")
+    check_read(
+        alloc,
+        Call::Path,
+        "<T as A>::b::<C>",
+        "< T as A >:: b ::< C >",
+    )?;
+    check_read(
+        alloc,
+        Call::Predicates,
+        "A: B + 'a, 'a: 'b,",
+        "A : B + 'a\n'a : 'b",
+    )
 }
 
 /// The path that a text is.
@@ -84,7 +97,10 @@ fn check_metas(alloc: Global, metas: &[Meta]) -> Result<(), Fail> {
     check_text(text_of_tree(alloc, path)?, "b :: c")?;
     check_text(text_of_tree(alloc, name)?, "f")?;
     check_text(text_of_tree(alloc, value)?, "1 + 2")?;
-    check_equal((list.tokens().len(), *span), (5, Span { start: 15, end: 24 }))
+    check_equal(
+        (list.tokens().len(), *span),
+        (5, Span { start: 15, end: 24 }),
+    )
 }
 
 #[test]
@@ -113,7 +129,11 @@ fn check_fields(alloc: Global, shape: &Shape) -> Result<(), Fail> {
 
 /// How many attributes, parameters and predicates a definition has.
 fn counts(ast: &DeriveInput) -> (usize, usize, usize) {
-    (ast.attrs.len(), ast.generics.params.len(), ast.generics.predicates.len())
+    (
+        ast.attrs.len(),
+        ast.generics.params.len(),
+        ast.generics.predicates.len(),
+    )
 }
 
 /// The definition has this name, one each of attributes, parameters and predicates, and two fields.
@@ -129,7 +149,10 @@ fn check_field(alloc: Global, shape: &Shape) -> Result<(), Fail> {
         return Err(Fail::from("no struct"));
     };
     let field = first(&shape.fields)?;
-    check_equal((field.name(), field.span), ("a", Span { start: 31, end: 36 }))?;
+    check_equal(
+        (field.name(), field.span),
+        ("a", Span { start: 31, end: 36 }),
+    )?;
     check_text(text_of_tree(alloc, &field.ty)?, "u8")
 }
 

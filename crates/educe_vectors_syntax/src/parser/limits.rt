@@ -150,7 +150,11 @@ fn refused_past(alloc: Global, call: Call, nesting: &Nesting) -> Result<String, 
 /// A call reads the text with the part so often, and refuses it with the part once more.
 pub(crate) fn refused_at(alloc: Global, row: &str) -> Result<String, Fail> {
     let (call, nesting) = read_call(row).ok_or(row)?;
-    check_at(row, refusal_with(alloc, call, &nesting, nesting.times)?, None)?;
+    check_at(
+        row,
+        refusal_with(alloc, call, &nesting, nesting.times)?,
+        None,
+    )?;
     refused_past(alloc, call, &nesting)
 }
 

@@ -123,7 +123,10 @@ fn check_part(alloc: Global, part: &Written) -> Result<(), Fail> {
         described(alloc, part.tokens().as_slice())?,
         "0..0 Ident a\n0..0 Punct(':', true) :",
     )?;
-    check_text(copied(alloc, part)?, "0..0 Ident a\n0..0 Punct(':', false) :")
+    check_text(
+        copied(alloc, part)?,
+        "0..0 Ident a\n0..0 Punct(':', false) :",
+    )
 }
 
 #[test]
