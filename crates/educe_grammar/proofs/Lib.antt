@@ -55,3 +55,6 @@ pub mod Copied
 pub mod Opened
 pub mod NeedsNone
 pub mod Decided
+pub mod MoreBudget
+pub mod Within
+pub mod OfDefinitions

@@ -25,3 +25,4 @@ pub mod Few
 pub mod Alike
 pub mod Causes
 pub mod Within
+pub mod Readings

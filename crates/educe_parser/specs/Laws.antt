@@ -18,6 +18,7 @@ use Rattle.educe_grammar.specs.Generics.{predicates}
 use Rattle.educe_grammar.specs.Names.{name}
 use Rattle.educe_grammar.specs.Parsed.{depth_limit, IsWhole, IsParseCause}
 use Rattle.educe_grammar.specs.Placed.{HasPlace, IsSpan, AreMetasPlaced, IsDefinitionPlaced}
+use Rattle.educe_grammar.specs.Readings.{HasReadParts}
 use Rattle.educe_grammar.specs.Reads.{Reads, read}
 use Rattle.educe_grammar.specs.Refusal.{IsDefinition, IsRefusalOf}
 use Rattle.educe_grammar.specs.Rules.{Rule}
@@ -26,6 +27,7 @@ use Rattle.educe_grammar.specs.Types.{any_type}
 use Rattle.educe_grammar.specs.Within.{PartLaws}
 use Rattle.educe_grammar.proofs.AlikeByTokens as alike
 use Rattle.educe_grammar.proofs.Decided as decided
+use Rattle.educe_grammar.proofs.OfDefinitions.{definition_parts}
 use Rattle.educe_grammar.proofs.Opening.{is_ready}
 use Rattle.educe_grammar.proofs.Placed.{definition_stands, shape_within, attrs_within, definition_tokens, metas_stand, metas_within, path_tokens}
 use Rattle.educe_grammar.proofs.ReadsAgain as again
@@ -98,6 +100,8 @@ pub record DefinitionLaws : Type 0 where
   pub one_cause : (tokens : Tokens) → IsSingle (IsRefusalOf tokens)
   -- a cause has the words of its message, and its place
   pub reported : (tokens : Tokens) (e : EduceError) → IsRefusalOf tokens e → IsReported tokens e
+  -- of one that is read the names are names, and each type, parameter and predicate is the reading of its tokens
+  pub parts : (tokens : Tokens) (found : DeriveInput) → IsWhole definition tokens found → HasReadParts found
 
 -- definitions have them
 pub lawful_definitions : DefinitionLaws
@@ -106,6 +110,7 @@ lawful_definitions = record {
   uncaused = refusals.definition_uncaused;
   one_cause = refusals.one_refusal;
   reported = refusal_reported;
+  parts = definition_parts;
 }
 
 -- ---- places

@@ -3,6 +3,7 @@ pub use Rattle.educe_grammar.specs.Parsed
 pub use Rattle.educe_grammar.specs.Refusal
 pub use Rattle.educe_grammar.specs.Naming
 pub use Rattle.educe_grammar.specs.Few
+pub use Rattle.educe_grammar.specs.Readings
 pub use Rattle.educe_grammar.specs.Placed
 pub use Rattle.educe_grammar.specs.Within
 pub use Rattle.educe_grammar.specs.Alike

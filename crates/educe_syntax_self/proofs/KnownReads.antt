@@ -1,6 +1,6 @@
 -- Tokens that have a value are read to that value, unless memory fails, and what is noted of them is known.
-use Rattle.std.proofs.Common.{◌≡◌, ◌≢◌, ℕ, List, [], ◌∷◌, refl, sym, ap, subst, ◌∙◌, Result, Ok, Err, Option, Some, None, arith}
-use Rattle.std.specs.Prelude.{IfOk, IfErr, unwrap_or}
+use Rattle.std.proofs.Common.{◌≡◌, ℕ, List, [], refl, sym, ap, subst, ◌∙◌, Result, Ok, Err, arith}
+use Rattle.std.specs.Prelude.{IfOk, IfErr}
 use Rattle.std.specs.declared.alloc.AllocError.{AllocError}
 use Rattle.educe_grammar.specs.declared.parse_error.ParseError.{ParseError}
 use Rattle.educe_grammar.specs.declared.parse_error.ParseError.TheVariants.{Memory, Syntax, TooDeep}
@@ -14,13 +14,12 @@ use Rattle.educe_grammar.specs.Reads.{Reads}
 use Rattle.educe_grammar.specs.Rules.{Rule}
 use Rattle.educe_grammar.specs.Steps.{Tokens, Gives}
 use Rattle.educe_grammar.specs.Types.{any_type}
-use Rattle.educe_grammar.proofs.Decided.{whole_if_read}
 use Rattle.educe_grammar.proofs.Forgetting.{forget_read}
 use Rattle.educe_grammar.proofs.Knot.{known, read_whole}
 use Rattle.educe_grammar.proofs.ReadsAgain.{ReadsAgain}
 use Rattle.educe_grammar.proofs.Steps.{ok_pair}
 use Rattle.educe_grammar.proofs.TypesAgain.{again_any_type}
-use Rattle.educe_syntax_self.specs.Splicing.{noted_before, noted_in, whole_notes, notes_of}
+use Rattle.educe_syntax_self.specs.Splicing.{noted_in, notes_of}
 use Rattle.educe_syntax_self.proofs.NotedSteps.{both_same}
 
 -- a type is read to its end
@@ -64,9 +63,9 @@ module _ {A : Type 0} (g : Rule A) (again : ReadsAgain g) (budget : ℕ) (tokens
 
 -- what is noted of a whole list
 pub notes_known : {A : Type 0} (g : Rule A) → ReadsAgain g → (tokens : Tokens) (x : A) → IsWhole g tokens x → read depth_limit g (unread tokens) ≡ Ok (x, record { cursor = []; selves = notes_of g tokens })
-unfolding whole_notes at_end read_so
+unfolding notes_of at_end read_so
 notes_known g again tokens x is =
-    let so = read_so g again depth_limit tokens x is in so.1 ∙ (λ i. Ok (x, record { cursor = []; selves = unwrap_or (sym (ap noted_in so.1) i) [] }))
+    let so = read_so g again depth_limit tokens x is in so.1 ∙ (λ i. Ok (x, record { cursor = []; selves = sym (ap noted_in so.1) i }))
 
 -- and where it is read
 pub notes_found : {A : Type 0} (g : Rule A) → ReadsAgain g → (tokens : Tokens) (y : A) → IsWhole g tokens y → (s new : ParseStream) (result : Result A ParseError) (x : A) → s.cursor ≡ tokens → s.selves ≡ []
@@ -75,33 +74,3 @@ notes_found {A = A} g again tokens y is s new result x at none same gives =
     let found = subst (λ (r : Result A ParseError). Gives (read depth_limit g s) r new) same gives in
     let own = ap (read depth_limit g) (λ i. record { cursor = at i; selves = none i }) ∙ notes_known g again tokens y is in
     ap (λ (u : ParseStream). u.selves) (both_same (sym found ∙ own)).1
-
--- ---- tokens of which it is not known whether they are read
-
-module _ {A : Type 0} (g : Rule A) (tokens : Tokens) (s new : ParseStream) (at : s.cursor ≡ tokens) (none : s.selves ≡ []) where
-  -- the stream is at these tokens
-  at_all : read depth_limit g (unread tokens) ≡ read depth_limit g s
-  at_all = ap (read depth_limit g) (λ i. record { cursor = sym at i; selves = sym none i })
-
-  -- what is noted where something is read
-  pub known_found : (result : Result A ParseError) (x : A) → result ≡ Ok x → Gives (read depth_limit g s) result new → noted_before new.cursor new.selves ≡ whole_notes g tokens
-  unfolding whole_notes
-  known_found result x same gives = sym (ap noted_in (at_all ∙ subst (λ (r : Result A ParseError). Gives (read depth_limit g s) r new) same gives))
-
-  -- where nothing is read, nothing is noted
-  pub known_none : (result : Result A ParseError) (e : ParseError) → result ≡ Err e → e ≢ Memory → Gives (read depth_limit g s) result new → None ≡ whole_notes g tokens
-  unfolding whole_notes
-  known_none result e same other gives = sym (ap noted_in (at_all ∙ subst (λ (r : Result A ParseError). Gives (read depth_limit g s) r new) same gives other))
-
--- what is noted of a whole list has a value
-pub noted_whole : {A : Type 0} (g : Rule A) → ReadsAgain g → (tokens : Tokens) (notes : List SelfPath) → whole_notes g tokens ≡ Some notes → (x : A) × IsWhole g tokens x
-unfolding whole_notes at_end
-noted_whole {A = A} g again tokens notes is = step (read depth_limit g (unread tokens)) refl is
-  where
-    ended : (p : A × ParseStream) → read depth_limit g (unread tokens) ≡ Ok p → (left : Tokens) → p.1.cursor ≡ left → noted_before left p.1.selves ≡ Some notes → (x : A) × IsWhole g tokens x
-    ended p found [] end some = (p.0, whole_if_read g again tokens p.0 (sym (forget_read depth_limit g (unread tokens)) ∙ ap forget found ∙ (λ i. Ok (p.0, end i))))
-    ended p found (t ∷ ts) end some = absurd (cc)
-
-    step : (o : Noted A) → read depth_limit g (unread tokens) ≡ o → noted_in o ≡ Some notes → (x : A) × IsWhole g tokens x
-    step (Ok p) found some = ended p found p.1.cursor refl some
-    step (Err e) found some = absurd (cc)

@@ -20,7 +20,4 @@ pub mod GenericsKnown
 pub mod WholeTurns
 pub mod Visiting
 pub mod Splices
-pub mod MoreBudget
-pub mod Within
-pub mod OfDefinitions
 pub mod Lawful

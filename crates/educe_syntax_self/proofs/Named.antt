@@ -7,7 +7,8 @@ use Rattle.educe_tree.specs.Names.{is_name}
 use Rattle.educe_tree.specs.declared.generics.GenericParam.{GenericParam}
 use Rattle.educe_tree.specs.declared.generics.GenericParam.TheVariants as param
 use Rattle.educe_grammar.specs.declared.terminal.Terminal.TheVariants as terminal
-use Rattle.educe_syntax_self.specs.Heads.{name, punct, behind_comma, head_of, argument_of, IsName, IsNamed, is_a, is_argument, ends_arguments, is_arguments, is_head}
+use Rattle.educe_grammar.specs.Readings.{IsName, IsNamed}
+use Rattle.educe_syntax_self.specs.Heads.{name, punct, behind_comma, head_of, argument_of, is_a, is_argument, ends_arguments, is_arguments, is_head}
 
 -- the token of a name is one
 name_is : (text : List ℕ) → IsName text → is_a terminal.Name (name text) ≡ true

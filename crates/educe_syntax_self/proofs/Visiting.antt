@@ -1,6 +1,5 @@
 -- What is read of the tokens of a visit is what a visit answers.
-use Rattle.std.proofs.Common.{◌≡◌, ℕ, suc, Bool, true, List, [], ◌∷◌, ◌++◌, refl, sym, ap, subst, ◌∙◌, inl, inr, Option, Some, None, length, take, get_or, zero, ◌+◌, ◌<◌, IsTrue, arith}
-use Rattle.std.specs.Prelude.{IfSome, unwrap_or}
+use Rattle.std.proofs.Common.{◌≡◌, ℕ, suc, Bool, List, [], ◌∷◌, ◌++◌, refl, sym, ap, subst, ◌∙◌, inl, inr, length, take, get_or, zero, ◌+◌, ◌<◌, IsTrue, arith}
 use Rattle.std.specs.List.{AllByRecursion, AllZip}
 use Rattle.std.proofs.lemmas.List.{append-nil, append_cancel_left, take_more}
 use Rattle.std.proofs.lemmas.List.Elements.{AllZip-push}
@@ -12,42 +11,37 @@ use Rattle.educe_tree.specs.Params.{written_of}
 use Rattle.educe_tree.specs.declared.expr.ExprPath.{ExprPath}
 use Rattle.educe_tree.specs.declared.generics.GenericParam.{GenericParam}
 use Rattle.educe_tree.specs.declared.generics.GenericParam.TheVariants as param
-use Rattle.educe_tree.specs.declared.generics.Generics.{Generics}
 use Rattle.educe_tree.specs.declared.generics.WherePredicate.{WherePredicate}
-use Rattle.educe_tree.specs.declared.ty.Ty.{Ty, out-Ty, out-roll-Ty}
-use Rattle.educe_grammar.specs.declared.parse_stream.SelfPath.{SelfPath}
+use Rattle.educe_tree.specs.declared.ty.Ty.{Ty, out-Ty}
 use Rattle.educe_grammar.specs.Combining.{at_sign, skipping, flag, sign}
 use Rattle.educe_grammar.specs.Expressions.{expr_path}
 use Rattle.educe_grammar.specs.Generics.{any_constant, generic_param, predicate}
 use Rattle.educe_grammar.specs.Parsed.{depth_limit}
 use Rattle.educe_grammar.specs.Reading.{Parses}
+use Rattle.educe_grammar.specs.Readings.{IsReadType, IsReadPath, IsReadParam, IsReadPredicate}
 use Rattle.educe_grammar.specs.Reads.{parts, Reads}
 use Rattle.educe_grammar.specs.Rules.{Rule, part, types}
 use Rattle.educe_grammar.specs.Steps.{Tokens}
 use Rattle.educe_grammar.specs.Types.{any_type}
 use Rattle.educe_grammar.proofs.Balanced.{reads_copied}
 use Rattle.educe_grammar.proofs.Keeping.{has_no_documentation}
+use Rattle.educe_grammar.proofs.OfDefinitions.{type_tokens}
 use Rattle.educe_grammar.proofs.Productions.{productions}
 use Rattle.educe_grammar.proofs.ReadsAgain.{one_reading, expr_path_again}
 use Rattle.educe_grammar.proofs.Steps.{Written-path}
 use Rattle.educe_syntax_self.specs.Heads.{IsHead}
 use Rattle.educe_syntax_self.specs.Replacing.{Changes, Replaces, Changed, changes_below}
-use Rattle.educe_syntax_self.specs.Splicing.{spliced, whole_notes, notes_of, replaced_in}
-use Rattle.educe_syntax_self.specs.Visits.{IsVisited, MayVisitType, IsVisitedType, MayVisitPath, IsVisitedPath, with_written, MayVisitParam, IsVisitedParam, MayVisitPredicate, IsVisitedPredicate, IsReplacedParam, IsReplacedPredicate, AreReplaced, MayVisitGenerics, AreVisitedGenerics}
+use Rattle.educe_syntax_self.specs.Splicing.{notes_of, replaced_in}
+use Rattle.educe_syntax_self.specs.Visits.{IsVisited, IsVisitedType, IsVisitedPath, with_written, IsVisitedParam, IsVisitedPredicate}
 use Rattle.educe_syntax_self.proofs.GenericTurns.{ParamTurned}
 use Rattle.educe_syntax_self.proofs.GenericsKnown.{param_reads_again, predicate_reads_again}
-use Rattle.educe_syntax_self.proofs.KnownReads.{type_reads_again, noted_whole}
+use Rattle.educe_syntax_self.proofs.KnownReads.{type_reads_again}
 use Rattle.educe_syntax_self.proofs.Turns.{Any}
 use Rattle.educe_syntax_self.proofs.WholeTurns.{noted, Visit, type_visited, path_visited, param_visited, predicate_visited}
 
 -- ---- tokens
 
--- a type has the tokens that it is read from
-pub type_tokens : (budget : ℕ) (ts : Tokens) (y : Ty) → Reads budget any_type ts y → (out-Ty y).written.tokens ≡ ts
-unfolding Parses any_type
-type_tokens budget ts y is = ap (λ (t : Ty). (out-Ty t).written.tokens) is.1 ∙ ap (λ r. r.written.tokens) (out-roll-Ty (record { form = is.0.0.0; written = is.0.1 })) ∙ is.2.1
-
--- so has a path
+-- a path has the tokens that it is read from
 path_tokens : (budget : ℕ) (ts : Tokens) (y : ExprPath) → Reads budget expr_path ts y → y.written.tokens ≡ ts
 unfolding Parses expr_path
 path_tokens budget ts y is = ap (λ (p : ExprPath). p.written.tokens) is.1 ∙ is.2.1
@@ -108,17 +102,17 @@ module _ (head : Tokens) (is_head : IsHead head) where
     changed = subst (λ z. Changed head g tokens x after z) same (subst (λ (ts : Tokens). Changed head g tokens x ts v.value) (sym is) v.changed);
   }
 
-  -- what may be visited has a visit
+  -- what is read has a visit
   pub type_visit : (tokens : Tokens) (x : Ty) → Reads depth_limit any_type tokens x → VisitOf any_type Any tokens x
   type_visit tokens x reads = type_visited head is_head tokens x (notes_of any_type tokens) (noted any_type type_reads_again tokens x reads)
 
   pub path_visit : (tokens : Tokens) (x : ExprPath) → Reads depth_limit expr_path tokens x → VisitOf expr_path Any tokens x
   path_visit tokens x reads = path_visited head is_head tokens x (notes_of expr_path tokens) (noted expr_path expr_path_again tokens x reads)
 
-  param_visit : (tokens : Tokens) (x : GenericParam) → Reads depth_limit generic_param tokens x → VisitOf generic_param ParamTurned tokens x
+  pub param_visit : (tokens : Tokens) (x : GenericParam) → Reads depth_limit generic_param tokens x → VisitOf generic_param ParamTurned tokens x
   param_visit tokens x reads = param_visited head is_head tokens x (notes_of generic_param tokens) (noted generic_param param_reads_again tokens x reads)
 
-  predicate_visit : (tokens : Tokens) (x : WherePredicate) → Reads depth_limit predicate tokens x → VisitOf predicate Any tokens x
+  pub predicate_visit : (tokens : Tokens) (x : WherePredicate) → Reads depth_limit predicate tokens x → VisitOf predicate Any tokens x
   predicate_visit tokens x reads = predicate_visited head is_head tokens x (notes_of predicate tokens) (noted predicate predicate_reads_again tokens x reads)
 
   -- its tokens may be copied
@@ -141,26 +135,26 @@ module _ (head : Tokens) (is_head : IsHead head) where
   -- ---- types and paths
 
   -- the tokens of a visit have a value
-  pub known_type : (x : Ty) → MayVisitType x → (ts : Tokens) → ts ≡ replaced_in any_type head (out-Ty x).written.tokens → (y : Ty) × Reads (suc depth_limit) any_type ts y
-  known_type x may ts is =
-      let v = type_visit (out-Ty x).written.tokens x may.reads in
+  pub known_type : (x : Ty) → IsReadType x → (ts : Tokens) → ts ≡ replaced_in any_type head (out-Ty x).written.tokens → (y : Ty) × Reads (suc depth_limit) any_type ts y
+  known_type x is_read ts is =
+      let v = type_visit (out-Ty x).written.tokens x is_read in
       (v.value, subst (λ (us : Tokens). Reads (suc depth_limit) any_type us v.value) (sym is) v.reads)
 
-  pub known_path : (x : ExprPath) → MayVisitPath x → (ts : Tokens) → ts ≡ replaced_in expr_path head x.written.tokens → (y : ExprPath) × Reads (suc depth_limit) expr_path ts y
-  known_path x may ts is =
-      let v = path_visit x.written.tokens x may.reads in
+  pub known_path : (x : ExprPath) → IsReadPath x → (ts : Tokens) → ts ≡ replaced_in expr_path head x.written.tokens → (y : ExprPath) × Reads (suc depth_limit) expr_path ts y
+  known_path x is_read ts is =
+      let v = path_visit x.written.tokens x is_read in
       (v.value, subst (λ (us : Tokens). Reads (suc depth_limit) expr_path us v.value) (sym is) v.reads)
 
   -- and what is read of them is the answer
-  pub type_answer : (x : Ty) → MayVisitType x → (ts : Tokens) → ts ≡ replaced_in any_type head (out-Ty x).written.tokens → (y : Ty) → Reads (suc depth_limit) any_type ts y → IsVisitedType head x y
-  type_answer x may ts is y reads =
-      let v = type_visit (out-Ty x).written.tokens x may.reads in
+  pub type_answer : (x : Ty) → IsReadType x → (ts : Tokens) → ts ≡ replaced_in any_type head (out-Ty x).written.tokens → (y : Ty) → Reads (suc depth_limit) any_type ts y → IsVisitedType head x y
+  type_answer x is_read ts is y reads =
+      let v = type_visit (out-Ty x).written.tokens x is_read in
       let own = subst (λ (us : Tokens). Reads (suc depth_limit) any_type us v.value) (sym is) v.reads in
       value_visited any_type Any (out-Ty x).written.tokens x (out-Ty y).written.tokens y (type_tokens (suc depth_limit) ts y reads ∙ is) v (one_reading any_type type_reads_again (suc depth_limit) ts v.value y own reads)
 
-  pub path_answer : (x : ExprPath) → MayVisitPath x → (ts : Tokens) → ts ≡ replaced_in expr_path head x.written.tokens → (y : ExprPath) → Reads (suc depth_limit) expr_path ts y → IsVisitedPath head x y
-  path_answer x may ts is y reads =
-      let v = path_visit x.written.tokens x may.reads in
+  pub path_answer : (x : ExprPath) → IsReadPath x → (ts : Tokens) → ts ≡ replaced_in expr_path head x.written.tokens → (y : ExprPath) → Reads (suc depth_limit) expr_path ts y → IsVisitedPath head x y
+  path_answer x is_read ts is y reads =
+      let v = path_visit x.written.tokens x is_read in
       let own = subst (λ (us : Tokens). Reads (suc depth_limit) expr_path us v.value) (sym is) v.reads in
       value_visited expr_path Any x.written.tokens x y.written.tokens y (path_tokens (suc depth_limit) ts y reads ∙ is) v (one_reading expr_path expr_path_again (suc depth_limit) ts v.value y own reads)
 
@@ -172,9 +166,9 @@ module _ (head : Tokens) (is_head : IsHead head) where
   given (param.TypeParam p) w = refl
   given (param.Const p) w = refl
 
-  pub param_answer : (x : GenericParam) → MayVisitParam x → (w : Written) → w.tokens ≡ replaced_in generic_param head (written_of x).tokens → IsVisitedParam head x (with_written x w)
-  param_answer x may w is =
-      let v = param_visit (written_of x).tokens x may.reads in
+  pub param_answer : (x : GenericParam) → IsReadParam x → (w : Written) → w.tokens ≡ replaced_in generic_param head (written_of x).tokens → IsVisitedParam head x (with_written x w)
+  param_answer x is_read w is =
+      let v = param_visit (written_of x).tokens x is_read in
       let out = param_tokens head (changes_below head (suc depth_limit)) depth_limit [] (written_of x).tokens [] x (replaced_in generic_param head (written_of x).tokens) v.value refl v.changed in
       let same : written_of v.value ≡ w = Written-path (written_of v.value) w (out ∙ sym is) in
       let value : v.value ≡ with_written x w = v.related.is ∙ ap (with_written x) same in (
@@ -182,47 +176,12 @@ module _ (head : Tokens) (is_head : IsHead head) where
         value_visited generic_param ParamTurned (written_of x).tokens x (written_of (with_written x w)).tokens (with_written x w) (ap (λ (u : Written). u.tokens) (given x w) ∙ is) v value,
       )
 
-  pub predicate_answer : (x : WherePredicate) → MayVisitPredicate x → (y : WherePredicate) → y.written.tokens ≡ replaced_in predicate head x.written.tokens → IsVisitedPredicate head x y
-  predicate_answer x may y is =
-      let v = predicate_visit x.written.tokens x may.reads in
+  pub predicate_answer : (x : WherePredicate) → IsReadPredicate x → (y : WherePredicate) → y.written.tokens ≡ replaced_in predicate head x.written.tokens → IsVisitedPredicate head x y
+  predicate_answer x is_read y is =
+      let v = predicate_visit x.written.tokens x is_read in
       let out = predicate_tokens head (changes_below head (suc depth_limit)) depth_limit [] x.written.tokens [] x (replaced_in predicate head x.written.tokens) v.value v.changed in
       let same : v.value.written ≡ y.written = Written-path v.value.written y.written (out ∙ sym is) in
       value_visited predicate Any x.written.tokens x y.written.tokens y is v (ap (λ (w : Written). record { written = w }) same)
-
-  -- ---- generics
-
-  -- a parameter with these tokens is replaced by one with those
-  pub param_replaced : (x : GenericParam) (w : Written) → w.tokens ≡ replaced_in generic_param head (written_of x).tokens → IsReplacedParam head x (with_written x w)
-  param_replaced x w is = record { is = ap (with_written x) (sym (given x w)); tokens = ap (λ (u : Written). u.tokens) (given x w) ∙ is }
-
-  -- what is spliced of the tokens of a parameter or a predicate may be copied
-  pub param_known : (tokens : Tokens) (o : Option (List SelfPath)) → o ≡ whole_notes generic_param tokens → IfSome o (λ notes. IsTrue (may_be_copied (lexemes (spliced head tokens notes))))
-  param_known tokens None is = tt
-  param_known tokens (Some notes) is =
-      let whole = noted_whole generic_param param_reads_again tokens notes (sym is) in
-      subst (λ (o : Option (List SelfPath)). IsTrue (may_be_copied (lexemes (spliced head tokens (unwrap_or o []))))) (sym is) (param_copied tokens whole.0 whole.1)
-
-  pub predicate_known : (tokens : Tokens) (o : Option (List SelfPath)) → o ≡ whole_notes predicate tokens → IfSome o (λ notes. IsTrue (may_be_copied (lexemes (spliced head tokens notes))))
-  predicate_known tokens None is = tt
-  predicate_known tokens (Some notes) is =
-      let whole = noted_whole predicate predicate_reads_again tokens notes (sym is) in
-      subst (λ (o : Option (List SelfPath)). IsTrue (may_be_copied (lexemes (spliced head tokens (unwrap_or o []))))) (sym is) (predicate_copied tokens whole.0 whole.1)
-
-  -- what is replaced and may be visited is read again
-  params_visited : (xs ys : List GenericParam) → AllByRecursion MayVisitParam xs → AllZip (IsReplacedParam head) xs ys → AllZip (IsVisitedParam head) xs ys
-  params_visited [] [] may are = tt
-  params_visited [] (y ∷ ys) may are = absurd are
-  params_visited (x ∷ xs) [] may are = absurd are
-  params_visited (x ∷ xs) (y ∷ ys) may are = (subst (IsVisitedParam head x) (sym are.0.is) (param_answer x may.0 (written_of y) are.0.tokens), params_visited xs ys may.1 are.1)
-
-  predicates_visited : (xs ys : List WherePredicate) → AllByRecursion MayVisitPredicate xs → AllZip (IsReplacedPredicate head) xs ys → AllZip (IsVisitedPredicate head) xs ys
-  predicates_visited [] [] may are = tt
-  predicates_visited [] (y ∷ ys) may are = absurd are
-  predicates_visited (x ∷ xs) [] may are = absurd are
-  predicates_visited (x ∷ xs) (y ∷ ys) may are = (predicate_answer x may.0 y are.0.tokens, predicates_visited xs ys may.1 are.1)
-
-  pub generics_visited : (x y : Generics) → AreReplaced head x y → MayVisitGenerics x → AreVisitedGenerics head x y
-  generics_visited x y are may = (params_visited x.params y.params may.0 are.params, predicates_visited x.predicates y.predicates may.1 are.predicates)
 
 -- ---- lists
 

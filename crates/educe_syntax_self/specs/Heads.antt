@@ -1,10 +1,9 @@
 -- What stands in place of `Self`: the name of the definition with its parameters as arguments.
 use Rattle.std.specs.Prelude.{◌≡◌, ℕ, Bool, true, false, not, ◌&&◌, ◌||◌, IsTrue, List, [], ◌∷◌, ◌++◌, map}
-use Rattle.std.specs.List.{AllByRecursion, flat_map}
+use Rattle.std.specs.List.{flat_map}
 use Rattle.educe_tokens.specs.TokenKind.TheVariants as kind
 use Rattle.educe_tokens.specs.Appends.{LieNowhere}
 use Rattle.educe_tokens.specs.Lexes.{Lexeme, lexemes}
-use Rattle.educe_tree.specs.Names.{is_name}
 use Rattle.educe_tree.specs.declared.derive.DeriveInput.{DeriveInput}
 use Rattle.educe_tree.specs.declared.generics.GenericParam.{GenericParam}
 use Rattle.educe_tree.specs.declared.generics.GenericParam.TheVariants as param
@@ -61,22 +60,6 @@ pub record Adds (found : List Lexeme) (old new : Tokens) : Type 0 where
   pub joined : new ≡ old ++ more
   pub same : lexemes more ≡ found
   pub nowhere : LieNowhere more
-
--- ---- names
-
--- a name, which is no keyword
-abbrev pub IsName : List ℕ → Type 0
-IsName text = is_name kind.Ident text ≡ true
-
--- the parameter's name is one
-abbrev pub IsNamed : GenericParam → Type 0
-IsNamed (param.Lifetime p) = Unit {0}
-IsNamed (param.TypeParam p) = IsName p.ident.text
-IsNamed (param.Const p) = IsName p.ident.text
-
--- the definition's name is one, and so are those of its parameters
-abbrev pub AreNamed : DeriveInput → Type 0
-AreNamed d = IsName d.ident.text × AllByRecursion IsNamed d.generics.params
 
 -- ---- tests
 

@@ -1,5 +1,5 @@
 -- Tokens in which other tokens stand in place of `Self`, by what was noted where they were read.
-use Rattle.std.specs.Prelude.{◌≡◌, ℕ, zero, suc, ◌+◌, ◌-◌, ◌<◌, ◌==◌, Bool, if◌then◌else◌, ◌&&◌, List, [], ◌∷◌, ◌++◌, length, take, drop, slice_index_or, Option, Some, None, unwrap_or, Ok, Err}
+use Rattle.std.specs.Prelude.{◌≡◌, ℕ, zero, suc, ◌+◌, ◌-◌, ◌<◌, ◌==◌, Bool, if◌then◌else◌, ◌&&◌, List, [], ◌∷◌, ◌++◌, length, take, drop, slice_index_or, Option, Some, None, Ok, Err}
 use Rattle.educe_tokens.specs.declared.token.Token.{Token}
 use Rattle.educe_grammar.specs.declared.parse_stream.SelfPath.{SelfPath}
 use Rattle.educe_grammar.specs.Ahead.{at_end}
@@ -45,21 +45,13 @@ abbrev pub spliced : Tokens → Tokens → List SelfPath → Tokens
 spliced head whole notes = walk head (note_at whole notes) zero whole
 
 -- what was noted, where no tokens are left
-abbrev pub noted_before : Tokens → List SelfPath → Option (List SelfPath)
-noted_before tokens notes = if at_end tokens then Some notes else None
+abbrev pub noted_in : {A : Type 0} → Noted A → List SelfPath
+noted_in (Ok p) = if at_end p.1.cursor then p.1.selves else []
+noted_in (Err e) = []
 
--- the same, where something was read
-abbrev pub noted_in : {A : Type 0} → Noted A → Option (List SelfPath)
-noted_in (Ok p) = noted_before p.1.cursor p.1.selves
-noted_in (Err e) = None
-
--- what is noted where all of the tokens are read by the rule, within the limits
-unfoldable pub whole_notes : {A : Type 0} → Rule A → Tokens → Option (List SelfPath)
-whole_notes g tokens = noted_in (read depth_limit g (record { cursor = tokens; selves = [] }))
-
--- the same, and nothing where they are not
-abbrev pub notes_of : {A : Type 0} → Rule A → Tokens → List SelfPath
-notes_of g tokens = unwrap_or (whole_notes g tokens) []
+-- what is noted where all of the tokens are read by the rule, within the limits, and nothing where they are not
+unfoldable pub notes_of : {A : Type 0} → Rule A → Tokens → List SelfPath
+notes_of g tokens = noted_in (read depth_limit g (record { cursor = tokens; selves = [] }))
 
 -- The tokens with the head in place of each `Self` that a path begins with, without `::` before it, by the rule that reads
 -- them. The arguments of that `Self` fall away, and the path of a macro stays.

@@ -12,5 +12,5 @@ mod readers;
 mod replace_self;
 mod splice;
 
-pub use laws::{definition_laws, visit_laws};
+pub use laws::visit_laws;
 pub use replace_self::ReplaceSelf;

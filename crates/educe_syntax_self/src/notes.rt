@@ -6,12 +6,14 @@ ghost use Rattle.educe_grammar.specs.Generics.{generic_param, predicate};
 ghost use Rattle.educe_grammar.specs.Parsed.{IsWhole};
 ghost use Rattle.educe_grammar.specs.Types.{any_type};
 ghost use Rattle.educe_tree.specs.declared.expr.ExprPath.{ExprPath};
+ghost use Rattle.educe_tree.specs.declared.generics.GenericParam.{GenericParam};
+ghost use Rattle.educe_tree.specs.declared.generics.WherePredicate.{WherePredicate};
 ghost use Rattle.educe_tree.specs.declared.ty.Ty.{Ty};
-ghost use Rattle.educe_syntax_self.specs.Splicing.{notes_of, whole_notes, noted_before};
+ghost use Rattle.educe_syntax_self.specs.Splicing.{notes_of};
 
 use crate::again::unless_memory;
 use crate::knot::{note_param, note_path, note_predicate, note_type};
-use educe_grammar::{ParseError, ParseStream, SelfPath};
+use educe_grammar::{ParseStream, SelfPath};
 use educe_tokens::{Seq, TokenSlice};
 use std::alloc::{AllocError, Global};
 
@@ -35,46 +37,25 @@ pub(crate) fn path_notes(alloc: Global, tokens: &TokenSlice) -> Result<Seq<SelfP
     Ok(input.selves)
 }
 
-/// What was noted, where no tokens are left.
-#[tactic(auto, unfolding(educe_grammar::specs::Ahead::at_end))]
-fn noted(input: ParseStream<'_>) -> Option<Seq<SelfPath>>
-    ensures { result ≡ noted_before input.entry.cursor input.entry.selves }
-{
-    if input.cursor.at_end() {
-        Some(input.selves)
-    } else {
-        None
-    }
-}
-
-/// What is noted of a generic parameter, where the tokens are one.
-pub(crate) fn param_notes(
-    alloc: Global,
-    tokens: &TokenSlice,
-) -> Result<Option<Seq<SelfPath>>, AllocError>
-    ensures { IfOk result (λ notes. notes ≡ whole_notes generic_param tokens.now) }
+/// What is noted of a generic parameter.
+pub(crate) fn param_notes(alloc: Global, tokens: &TokenSlice) -> Result<Seq<SelfPath>, AllocError>
+    requires { (param : GenericParam) × IsWhole generic_param tokens.now param }
+    ensures { IfOk result (λ notes. notes ≡ notes_of generic_param tokens.now) }
 {
     let mut input = ParseStream::new(alloc, tokens);
-    match note_param(alloc, &mut input) {
-        Ok(_) => Ok(noted(input)),
-        Err(ParseError::Memory) => Err(AllocError),
-        Err(ParseError::Syntax(_)) => Ok(None),
-        Err(ParseError::TooDeep(_)) => Ok(None),
-    }
+    unless_memory(note_param(alloc, &mut input))?;
+    Ok(input.selves)
 }
 
-/// What is noted of a predicate, where the tokens are one.
+/// What is noted of a predicate.
 pub(crate) fn predicate_notes(
     alloc: Global,
     tokens: &TokenSlice,
-) -> Result<Option<Seq<SelfPath>>, AllocError>
-    ensures { IfOk result (λ notes. notes ≡ whole_notes predicate tokens.now) }
+) -> Result<Seq<SelfPath>, AllocError>
+    requires { (found : WherePredicate) × IsWhole predicate tokens.now found }
+    ensures { IfOk result (λ notes. notes ≡ notes_of predicate tokens.now) }
 {
     let mut input = ParseStream::new(alloc, tokens);
-    match note_predicate(alloc, &mut input) {
-        Ok(_) => Ok(noted(input)),
-        Err(ParseError::Memory) => Err(AllocError),
-        Err(ParseError::Syntax(_)) => Ok(None),
-        Err(ParseError::TooDeep(_)) => Ok(None),
-    }
+    unless_memory(note_predicate(alloc, &mut input))?;
+    Ok(input.selves)
 }

@@ -1,12 +1,13 @@
 //! `Self` is replaced by the name of the definition.
-ghost use Rattle.std.specs.Prelude.{◌≡◌, IsTrue, IfOk, IfSome, [], unwrap_or};
-ghost use Rattle.std.specs.List.{AllZip};
+ghost use Rattle.std.specs.Prelude.{◌≡◌, IsTrue, IfOk};
+ghost use Rattle.std.specs.List.{AllByRecursion, AllZip};
 ghost use Rattle.educe_tokens.specs.Appends.{LieNowhere};
 ghost use Rattle.educe_tokens.specs.Copied.{may_be_copied};
 ghost use Rattle.educe_tokens.specs.Lexes.{lexemes};
-ghost use Rattle.educe_syntax_self.specs.Heads.{AreNamed, IsHead, head_for};
+ghost use Rattle.educe_grammar.specs.Readings.{AreNamed, IsReadType, IsReadPath, IsReadParam, IsReadPredicate, AreReadGenerics};
+ghost use Rattle.educe_syntax_self.specs.Heads.{IsHead, head_for};
 ghost use Rattle.educe_syntax_self.specs.Splicing as spec;
-ghost use Rattle.educe_syntax_self.specs.Visits.{MayVisitType, IsVisitedType, MayVisitPath, IsVisitedPath, IsReplacedParam, IsReplacedPredicate, AreReplaced, MayVisitGenerics, AreVisitedGenerics};
+ghost use Rattle.educe_syntax_self.specs.Visits.{IsVisitedType, IsVisitedPath, IsVisitedParam, IsVisitedPredicate, AreVisitedGenerics};
 
 use crate::again::{path_again, type_again};
 use crate::head::push_head;
@@ -63,25 +64,9 @@ impl ReplaceSelf {
         Ok(Written::new(TokenSlice::new(alloc, found)?))
     }
 
-    /// The same of what was noted where the tokens were read, and else the tokens as they are.
-    fn visit_known(
-        &self,
-        alloc: Global,
-        written: &Written,
-        notes: &Option<Seq<SelfPath>>,
-    ) -> Result<Written, AllocError>
-        requires { IfSome notes.now (λ known. IsTrue (may_be_copied (lexemes (spec.spliced self.now.head written.now.tokens known)))) }
-        ensures { IfOk result (λ found. found.tokens ≡ spec.spliced self.now.head written.now.tokens (unwrap_or notes.now [])) }
-    {
-        match notes {
-            Some(known) => self.visit_written(alloc, written, known.as_slice()),
-            None => written.duplicate(),
-        }
-    }
-
     /// The type with the name of the definition in place of each `Self` that a path begins with.
     pub fn visit_type(&self, alloc: Global, ty: &Ty) -> Result<Ty, AllocError>
-        requires { MayVisitType ty.now }
+        requires { IsReadType ty.now }
         ensures { IfOk result (IsVisitedType self.now.head ty.now) }
     {
         let notes = type_notes(alloc, ty.written.tokens())?;
@@ -92,7 +77,7 @@ impl ReplaceSelf {
 
     /// The path with the name of the definition in place of each `Self` that a path begins with.
     pub fn visit_path(&self, alloc: Global, path: &ExprPath) -> Result<ExprPath, AllocError>
-        requires { MayVisitPath path.now }
+        requires { IsReadPath path.now }
         ensures { IfOk result (IsVisitedPath self.now.head path.now) }
     {
         let notes = path_notes(alloc, path.written.tokens())?;
@@ -103,10 +88,11 @@ impl ReplaceSelf {
 
     /// The parameter with the name of the definition in place of each `Self` that a path begins with.
     fn visit_param(&self, alloc: Global, param: &GenericParam) -> Result<GenericParam, AllocError>
-        ensures { IfOk result (IsReplacedParam self.now.head param.now) }
+        requires { IsReadParam param.now }
+        ensures { IfOk result (IsVisitedParam self.now.head param.now) }
     {
         let notes = param_notes(alloc, param.written().tokens())?;
-        let written = self.visit_known(alloc, param.written(), &notes)?;
+        let written = self.visit_written(alloc, param.written(), notes.as_slice())?;
         let found = match param {
             GenericParam::Lifetime(param) => {
                 let lifetime = param.lifetime.duplicate(alloc)?;
@@ -130,16 +116,18 @@ impl ReplaceSelf {
         alloc: Global,
         predicate: &WherePredicate,
     ) -> Result<WherePredicate, AllocError>
-        ensures { IfOk result (IsReplacedPredicate self.now.head predicate.now) }
+        requires { IsReadPredicate predicate.now }
+        ensures { IfOk result (IsVisitedPredicate self.now.head predicate.now) }
     {
         let notes = predicate_notes(alloc, predicate.written.tokens())?;
-        let written = self.visit_known(alloc, &predicate.written, &notes)?;
+        let written = self.visit_written(alloc, &predicate.written, notes.as_slice())?;
         Ok(WherePredicate { written })
     }
 
     /// The parameters, each with the name of the definition in place of each `Self`.
     fn visit_params(&self, alloc: Global, params: &[GenericParam]) -> Result<Params, AllocError>
-        ensures { IfOk result (λ found. AllZip (IsReplacedParam self.now.head) params.now found) }
+        requires { AllByRecursion IsReadParam params.now }
+        ensures { IfOk result (λ found. AllZip (IsVisitedParam self.now.head) params.now found) }
     {
         let mut found = Seq::new(alloc);
         for param in params {
@@ -154,7 +142,8 @@ impl ReplaceSelf {
         alloc: Global,
         predicates: &[WherePredicate],
     ) -> Result<Predicates, AllocError>
-        ensures { IfOk result (λ found. AllZip (IsReplacedPredicate self.now.head) predicates.now found) }
+        requires { AllByRecursion IsReadPredicate predicates.now }
+        ensures { IfOk result (λ found. AllZip (IsVisitedPredicate self.now.head) predicates.now found) }
     {
         let mut found = Seq::new(alloc);
         for predicate in predicates {
@@ -164,11 +153,10 @@ impl ReplaceSelf {
     }
 
     /// The parameters, without their defaults, and the predicates, each with the name of the
-    /// definition in place of each `Self` that a path begins with. Those that may be visited are then
-    /// readings of their tokens.
+    /// definition in place of each `Self` that a path begins with.
     pub fn visit_generics(&self, alloc: Global, generics: &Generics) -> Result<Generics, AllocError>
-        ensures replaced { IfOk result (AreReplaced self.now.head generics.now) }
-        ensures visited { MayVisitGenerics generics.now → IfOk result (AreVisitedGenerics self.now.head generics.now) }
+        requires { AreReadGenerics generics.now }
+        ensures { IfOk result (AreVisitedGenerics self.now.head generics.now) }
     {
         let params = self.visit_params(alloc, generics.params.as_slice())?;
         let predicates = self.visit_predicates(alloc, generics.predicates.as_slice())?;

@@ -1,16 +1,14 @@
-use Rattle.std.proofs.Common.{◌∙◌}
-use Rattle.educe_grammar.specs.declared.parse_error.ParseError.TheVariants.{Syntax, TooDeep}
 use Rattle.educe_grammar.specs.Generics.{predicate}
-use Rattle.educe_syntax_self.proofs.KnownReads.{known_found, known_none}
+use Rattle.educe_grammar.specs.Parsed.{depth_limit}
+use Rattle.educe_syntax_self.proofs.GenericsKnown.{predicate_reads_again}
+use Rattle.educe_syntax_self.proofs.KnownReads.{only_memory, notes_found}
 use Rattle.educe_syntax_self.proofs.notes.predicate_notes.Goals as goal
 
-pub returns-in-Ok : goal.returns-in-Ok
-returns-in-Ok c =
-    c.noted.ensures
-    ∙ known_found predicate c.args.tokens.now c.new-input.result c.note_predicate.new.input c.new-input.ensures.cursor c.new-input.ensures.selves c.note_predicate.result c.in-Ok.field-0 c.in-Ok.is c.note_predicate.ensures
-
-pub returns-in-Err-Syntax : goal.returns-in-Err-Syntax
-returns-in-Err-Syntax c = known_none predicate c.args.tokens.now c.new-input.result c.note_predicate.new.input c.new-input.ensures.cursor c.new-input.ensures.selves c.note_predicate.result _ c.in-Err-Syntax.is (λ same. cc) c.note_predicate.ensures
+pub unless_memory-requires : goal.unless_memory-requires
+unless_memory-requires c =
+    only_memory predicate predicate_reads_again depth_limit c.args.tokens.now c.requires.0 c.requires.1 c.new-input.result c.note_predicate.new.input c.note_predicate.result c.new-input.ensures.cursor c.new-input.ensures.selves c.note_predicate.ensures
 
 pub returns : goal.returns
-returns c = known_none predicate c.args.tokens.now c.new-input.result c.note_predicate.new.input c.new-input.ensures.cursor c.new-input.ensures.selves c.note_predicate.result _ c.in-Err-TooDeep.is (λ same. cc) c.note_predicate.ensures
+returns c =
+    notes_found predicate predicate_reads_again c.args.tokens.now c.requires.0 c.requires.1 c.new-input.result c.note_predicate.new.input c.note_predicate.result c.in_ok-unless_memory.field-0 c.new-input.ensures.cursor c.new-input.ensures.selves
+    c.in_ok-unless_memory.ensures c.note_predicate.ensures

@@ -10,14 +10,14 @@ use Rattle.educe_syntax_self.proofs.Visiting.{path_copied, known_path, path_answ
 use Rattle.educe_syntax_self.proofs.replace_self.ReplaceSelf.visit_path.Goals as goal
 
 pub path_notes-requires : goal.path_notes-requires
-path_notes-requires c = (c.args.path.now, subst (λ (ts : Tokens). IsWhole expr_path ts c.args.path.now) (sym c.tokens.ensures) c.requires.reads)
+path_notes-requires c = (c.args.path.now, subst (λ (ts : Tokens). IsWhole expr_path ts c.args.path.now) (sym c.tokens.ensures) c.requires)
 
 pub visit_written-requires : goal.visit_written-requires
 visit_written-requires c =
     let head = c.args.self.now.head in
     let tokens = c.args.path.now.written.tokens in
     let notes : c.as_slice.result.now ≡ notes_of expr_path tokens = c.as_slice.ensures ∙ c.in_ok-notes.ensures ∙ ap (λ (ts : Tokens). notes_of expr_path ts) c.tokens.ensures in
-    subst (λ (ns : List SelfPath). IsTrue (may_be_copied (lexemes (spliced head tokens ns)))) (sym notes) (path_copied head c.args.self.now.is_head tokens c.args.path.now c.requires.reads)
+    subst (λ (ns : List SelfPath). IsTrue (may_be_copied (lexemes (spliced head tokens ns)))) (sym notes) (path_copied head c.args.self.now.is_head tokens c.args.path.now c.requires)
 
 pub path_again-requires : goal.path_again-requires
 path_again-requires c =

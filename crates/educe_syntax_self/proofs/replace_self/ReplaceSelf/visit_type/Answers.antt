@@ -11,14 +11,14 @@ use Rattle.educe_syntax_self.proofs.Visiting.{type_copied, known_type, type_answ
 use Rattle.educe_syntax_self.proofs.replace_self.ReplaceSelf.visit_type.Goals as goal
 
 pub type_notes-requires : goal.type_notes-requires
-type_notes-requires c = (c.args.ty.now, subst (λ (ts : Tokens). IsWhole any_type ts c.args.ty.now) (sym c.tokens.ensures) c.requires.reads)
+type_notes-requires c = (c.args.ty.now, subst (λ (ts : Tokens). IsWhole any_type ts c.args.ty.now) (sym c.tokens.ensures) c.requires)
 
 pub visit_written-requires : goal.visit_written-requires
 visit_written-requires c =
     let head = c.args.self.now.head in
     let tokens = (out-Ty c.args.ty.now).written.tokens in
     let notes : c.as_slice.result.now ≡ notes_of any_type tokens = c.as_slice.ensures ∙ c.in_ok-notes.ensures ∙ ap (λ (ts : Tokens). notes_of any_type ts) c.tokens.ensures in
-    subst (λ (ns : List SelfPath). IsTrue (may_be_copied (lexemes (spliced head tokens ns)))) (sym notes) (type_copied head c.args.self.now.is_head tokens c.args.ty.now c.requires.reads)
+    subst (λ (ns : List SelfPath). IsTrue (may_be_copied (lexemes (spliced head tokens ns)))) (sym notes) (type_copied head c.args.self.now.is_head tokens c.args.ty.now c.requires)
 
 pub type_again-requires : goal.type_again-requires
 type_again-requires c =
