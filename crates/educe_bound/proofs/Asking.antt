@@ -1,6 +1,9 @@
 -- The predicates that ask for a trait: their tokens, and that these may be copied.
-use Rattle.std.proofs.Common.{◌≡◌, IsTrue, List, [], ◌∷◌, ◌++◌, map, codes, refl, sym, ap, ◌∙◌, subst, append-nil}
-use Rattle.std.specs.List.{filter_map}
+use Rattle.std.proofs.Common.{◌≡◌, IsTrue, List, [], ◌∷◌, ◌++◌, map, refl, sym, ap, ◌∙◌, subst, append-nil}
+use Rattle.std.specs.Prelude.{IfSome, true}
+use Rattle.std.specs.List.{AllByRecursion, filter_map}
+use Rattle.educe_tokens.specs.TokenKind.TheVariants as kind
+use Rattle.educe_tree.specs.Names.{is_name}
 use Rattle.std.proofs.lemmas.Bool.{and_from}
 use Rattle.std.proofs.lemmas.List.{map-append}
 use Rattle.std.proofs.lemmas.List.Elements.{filter_map-append}
@@ -21,12 +24,7 @@ use Rattle.educe_bound_classes.specs.Classes.{type_name}
 use Rattle.educe_bound_classes.specs.Needs.{param_of}
 use Rattle.educe_bound_traits.specs.declared.traits.Trait.{Trait}
 use Rattle.educe_bound_traits.specs.declared.traits.Trait.TheVariants as trait
-use Rattle.educe_bound.specs.Predicates.{Key, asks_for, on_each_param}
-use Rattle.educe_bound_traits.specs.Paths.{trait_path}
-
--- what stands behind the type, jointness included
-abbrev pub behind : Trait → List Lexeme
-behind which = quoted (codes ":") ++ quoted (trait_path which)
+use Rattle.educe_bound.specs.Predicates.{Key, asks_for, behind, on_each_param}
 
 -- it may stand beside other tokens
 behind_written : (which : Trait) → IsTrue (is_written (behind which))
@@ -87,3 +85,14 @@ none_of (param.Const p) which other = refl
 
 pub on_other : (front : List GenericParam) (p : GenericParam) (which : Trait) → ((t : TypeParam) → p ≡ param.TypeParam t → ⊥) → on_each_param (front ++ p ∷ []) which ≡ on_each_param front which
 on_other front p which other = on_more front p which ∙ ap (λ (ks : List Key). on_each_param front which ++ ks) (none_of p which other) ∙ append-nil (on_each_param front which)
+
+-- ---- names
+
+-- the parameter's name is one, if it is that of a type
+abbrev pub IsNamed : GenericParam → Type 0
+IsNamed p = IfSome (type_name p) (λ n. is_name kind.Ident n ≡ true)
+
+-- what holds of each of a list and one more
+pub all_parts : {A : Type 0} (P : A → Type 0) (xs : List A) (x : A) → AllByRecursion P (xs ++ x ∷ []) → AllByRecursion P xs × P x
+all_parts P [] x all = (tt, all.0)
+all_parts P (y ∷ ys) x all = let rest = all_parts P ys x all.1 in ((all.0, rest.0), rest.1)

@@ -1,10 +1,11 @@
 -- Predicates of where clauses by their tokens, and what the bound of a trait asks for.
 use Rattle.std.specs.Prelude.{◌≡◌, ℕ, Bool, true, false, not, List, [], ◌++◌, map, filter, codes}
-use Rattle.std.specs.List.{filter_map}
+use Rattle.std.specs.List.{AllByRecursion, filter_map}
 use Rattle.educe_tokens.specs.Lexes.{Lexeme}
 use Rattle.educe_tokens.specs.Quote.{quoted}
 use Rattle.educe_tokens.specs.Copied.{unjoin}
 use Rattle.educe_syntax.specs.Alike.{lexemes_aside}
+use Rattle.educe_grammar.specs.Readings.{IsReadPredicate}
 use Rattle.educe_syntax.specs.GenericParam.{GenericParam}
 use Rattle.educe_syntax.specs.GenericParam.TheVariants as param
 use Rattle.educe_syntax.specs.WherePredicate.{WherePredicate}
@@ -12,7 +13,7 @@ use Rattle.educe_syntax.specs.Ty.{Ty}
 use Rattle.educe_bound_classes.specs.Classes.{type_name}
 use Rattle.educe_bound_classes.specs.Keys.{tokens_key}
 use Rattle.educe_bound_classes.specs.Exceptions.{Exceptions, clone_exceptions, copy_exceptions, debug_exceptions, equality_exceptions, order_exceptions, hash_exceptions, default_exceptions}
-use Rattle.educe_bound_classes.specs.Needs.{param_of, AreOwn}
+use Rattle.educe_bound_classes.specs.Needs.{param_of, AreOwn, Suffices, AreMinimal}
 use Rattle.educe_bound_traits.specs.Paths.{trait_path}
 use Rattle.educe_bound.specs.declared.bound.Bound.{Bound}
 use Rattle.educe_bound.specs.declared.bound.Bound.TheVariants.{Disabled, Auto, All, Custom}
@@ -37,11 +38,19 @@ keys_of predicates = map key_of predicates
 abbrev pub number_of : WherePredicate → List ℕ
 number_of predicate = tokens_key predicate.written.tokens
 
+-- each predicate is the reading of its tokens, within the limits
+abbrev pub AreRead : List WherePredicate → Type 0
+AreRead predicates = AllByRecursion IsReadPredicate predicates
+
 -- ---- what a trait asks for
 
--- what stands behind the type in a predicate that asks for the trait
+-- what stands behind the type in a predicate that asks for the trait, jointness included
+abbrev pub behind : Trait → List Lexeme
+behind which = quoted (codes ":") ++ quoted (trait_path which)
+
+-- the same, jointness aside
 abbrev pub asks_for : Trait → List Lexeme
-asks_for which = map unjoin (quoted (codes ":") ++ quoted (trait_path which))
+asks_for which = map unjoin (behind which)
 
 -- the types that a trait treats otherwise than others
 abbrev pub exceptions_of : Trait → Exceptions
@@ -69,6 +78,13 @@ lifetimes_first params = filter is_lifetime params ++ filter (λ p. not (is_life
 
 -- ---- modes
 
+-- the predicates that a bound lists are readings of their tokens
+abbrev pub IsReadBound : Bound → Type 0
+IsReadBound Disabled = Unit {0}
+IsReadBound Auto = Unit {0}
+IsReadBound All = Unit {0}
+IsReadBound (Custom predicates) = AreRead predicates
+
 -- `Param : Trait` for each type parameter
 abbrev pub on_each_param : List GenericParam → Trait → List Key
 on_each_param params which = map (param_of (asks_for which)) (filter_map type_name params)
@@ -81,6 +97,20 @@ AreByBound Disabled ex params self which types own = own ≡ []
 AreByBound Auto ex params self which types own = AreOwn ex params self (asks_for which) types own
 AreByBound All ex params self which types own = own ≡ on_each_param params which
 AreByBound (Custom predicates) ex params self which types own = own ≡ keys_of predicates
+
+-- under the automatic bound each of the types can be derived from the predicates
+abbrev pub SufficeBy : Bound → Exceptions → List GenericParam → List ℕ → Trait → List Ty → List Key → Type 0
+SufficeBy Disabled ex params self which types own = Unit {0}
+SufficeBy Auto ex params self which types own = Suffices ex params self (asks_for which) types own
+SufficeBy All ex params self which types own = Unit {0}
+SufficeBy (Custom predicates) ex params self which types own = Unit {0}
+
+-- and none of them can be dropped
+abbrev pub AreMinimalBy : Bound → Exceptions → List GenericParam → List ℕ → Trait → List Ty → List Key → Type 0
+AreMinimalBy Disabled ex params self which types own = Unit {0}
+AreMinimalBy Auto ex params self which types own = AreMinimal ex params self (asks_for which) types own
+AreMinimalBy All ex params self which types own = Unit {0}
+AreMinimalBy (Custom predicates) ex params self which types own = Unit {0}
 
 -- the predicates by which fields of these types may be copied out of a packed struct: `Copy`, by the same bound; none where the
 -- predicates are listed

@@ -1,12 +1,17 @@
 //! The predicates that ask for a trait (documentation of `educe`, Bounds).
-ghost use Rattle.std.specs.Prelude.{◌≡◌, ◌++◌, codes, map, IfOk, OnOk};
+ghost use Rattle.std.specs.Prelude.{◌≡◌, ◌++◌, ℕ, List, codes, map, IfOk, OnOk};
+ghost use Rattle.std.specs.List.{AllByRecursion};
 ghost use Rattle.educe_tokens.specs.Appends.{Appends};
 ghost use Rattle.educe_tokens.specs.Copied.{unjoin};
+ghost use Rattle.educe_tokens.specs.Lexes.{lexemes};
 ghost use Rattle.educe_tokens.specs.Quote.{quoted};
 ghost use Rattle.educe_bound_classes.specs.Asked as needs;
-ghost use Rattle.educe_bound_classes.specs.Needs.{AreOwn};
+ghost use Rattle.educe_grammar.specs.Readings.{IsReadPredicate, IsReadType};
+ghost use Rattle.educe_bound_classes.specs.Needs.{AreNames, AreOwn};
 ghost use Rattle.educe_bound_traits.specs.Paths.{trait_path};
+ghost use Rattle.educe_bound_classes.specs.Exceptions.{Exceptions};
 ghost use Rattle.educe_bound.specs.Predicates as spec;
+ghost use Rattle.educe_tree.specs.declared.generics.GenericParam.{GenericParam};
 
 use educe_bound_classes::{
     Asked, Asker, BoundExceptions, clone_exceptions, copy_exceptions, debug_exceptions,
@@ -46,7 +51,8 @@ fn predicate_on<T: ToTokens>(
     subject: &T,
     which: Trait,
 ) -> Result<WherePredicate, AllocError>
-    ensures { IfOk result (λ found. spec.key_of found ≡ map unjoin (T.lexemes_of subject.now) ++ spec.asks_for which) }
+    ensures key { IfOk result (λ found. spec.key_of found ≡ map unjoin (T.lexemes_of subject.now) ++ spec.asks_for which) }
+    ensures tokens { IfOk result (λ found. lexemes found.written.tokens ≡ T.lexemes_of subject.now ++ spec.behind which) }
 {
     let mut tokens = Seq::new(alloc);
     subject.to_tokens(alloc, &mut tokens)?;
@@ -61,7 +67,8 @@ fn predicate_of(
     asked: &Asked<'_>,
     which: Trait,
 ) -> Result<WherePredicate, AllocError>
-    ensures { IfOk result (λ found. spec.key_of found ≡ needs.key_of (spec.asks_for which) asked.now) }
+    ensures key { IfOk result (λ found. spec.key_of found ≡ needs.key_of (spec.asks_for which) asked.now) }
+    ensures read { (params : List GenericParam) (ex : Exceptions) (self : List ℕ) → needs.IsAskedRead params ex self asked.now → IfOk result IsReadPredicate }
 {
     match asked {
         Asked::Itself(ty) => predicate_on(alloc, *ty, which),
@@ -71,7 +78,8 @@ fn predicate_of(
 
 /// The predicates that are asked.
 fn predicates_of(alloc: Global, asked: &[Asked<'_>], which: Trait) -> Result<Predicates, AllocError>
-    ensures { IfOk result (λ found. spec.keys_of found ≡ needs.keys_of (spec.asks_for which) asked.now) }
+    ensures keys { IfOk result (λ found. spec.keys_of found ≡ needs.keys_of (spec.asks_for which) asked.now) }
+    ensures read { (params : List GenericParam) (ex : Exceptions) (self : List ℕ) → needs.AreAskedRead params ex self asked.now → IfOk result spec.AreRead }
 {
     let mut found = Seq::new(alloc);
     for one in asked {
@@ -89,7 +97,8 @@ pub fn needed_predicates(
     self_ident: &Ident,
     exceptions: &BoundExceptions,
 ) -> Result<Predicates, AllocError>
-    ensures { IfOk result (λ found. AreOwn exceptions.now params.now self_ident.now.text (spec.asks_for which) (needs.types_of types.now) (spec.keys_of found)) }
+    ensures keys { IfOk result (λ found. AreOwn exceptions.now params.now self_ident.now.text (spec.asks_for which) (needs.types_of types.now) (spec.keys_of found)) }
+    ensures read { AreNames params.now → AllByRecursion IsReadType (needs.types_of types.now) → IfOk result spec.AreRead }
 {
     let asker = Asker::new(alloc, exceptions, params, &self_ident.text)?;
     let asked = own_needs(alloc, &asker, types)?;
@@ -102,7 +111,8 @@ pub fn predicates_on_params(
     params: &Params,
     which: Trait,
 ) -> Result<Predicates, AllocError>
-    ensures { IfOk result (λ found. spec.keys_of found ≡ spec.on_each_param params.now which) }
+    ensures keys { IfOk result (λ found. spec.keys_of found ≡ spec.on_each_param params.now which) }
+    ensures read { AreNames params.now → IfOk result spec.AreRead }
 {
     let mut found = Seq::new(alloc);
     for param in params.as_slice() {

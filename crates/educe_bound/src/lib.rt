@@ -4,9 +4,11 @@
 
 mod asked;
 mod bound;
+mod laws;
 mod predicates;
 
 pub use asked::exceptions_of;
 pub use bound::Bound;
 pub use educe_bound_traits::{Trait, Traits, all_listed, each_once, is_listed, same_trait};
+pub use laws::predicate_laws;
 pub use predicates::{extend_where_predicates, lifetimes_first, with_predicates};

@@ -18,6 +18,9 @@ use std::collections::BTreeSet;
 
 impl Bound {
     ghost use Rattle.std.specs.Prelude.{map};
+    ghost use Rattle.std.specs.List.{AllByRecursion};
+    ghost use Rattle.educe_grammar.specs.Readings.{IsReadType};
+    ghost use Rattle.educe_bound_classes.specs.Needs.{AreNames};
     ghost use Rattle.std.specs.Borrow.{Bor};
     ghost use Rattle.educe_syntax.specs.Ty.{Ty};
 
@@ -32,7 +35,11 @@ impl Bound {
         self_ident: &Ident,
         exceptions: &BoundExceptions,
     ) -> Result<Predicates, AllocError>
-        ensures { IfOk result (λ found. spec.AreByBound self.now exceptions.now params.now self_ident.now.text bound_trait (map (λ (t : Bor Ty). t.now) types.now) (spec.keys_of found)) }
+        ensures keys { IfOk result (λ found. spec.AreByBound self.now exceptions.now params.now self_ident.now.text bound_trait (map (λ (t : Bor Ty). t.now) types.now) (spec.keys_of found)) }
+        // Under the automatic bound they suffice, and none can be dropped.
+        ensures suffice { IfOk result (λ found. spec.SufficeBy self.now exceptions.now params.now self_ident.now.text bound_trait (map (λ (t : Bor Ty). t.now) types.now) (spec.keys_of found)) }
+        ensures minimal { AreNames params.now → AllByRecursion IsReadType (map (λ (t : Bor Ty). t.now) types.now) → IfOk result (λ found. spec.AreMinimalBy self.now exceptions.now params.now self_ident.now.text bound_trait (map (λ (t : Bor Ty). t.now) types.now) (spec.keys_of found)) }
+        ensures read { spec.IsReadBound self.now → AreNames params.now → AllByRecursion IsReadType (map (λ (t : Bor Ty). t.now) types.now) → IfOk result spec.AreRead }
     {
         match self {
             Bound::Disabled => Ok(Seq::new(alloc)),
@@ -53,7 +60,8 @@ impl Bound {
         types: &[&Ty],
         self_ident: &Ident,
     ) -> Result<Predicates, AllocError>
-        ensures { IfOk result (λ found. spec.AreCopies self.now params.now self_ident.now.text (map (λ (t : Bor Ty). t.now) types.now) (spec.keys_of found)) }
+        ensures keys { IfOk result (λ found. spec.AreCopies self.now params.now self_ident.now.text (map (λ (t : Bor Ty). t.now) types.now) (spec.keys_of found)) }
+        ensures read { AreNames params.now → AllByRecursion IsReadType (map (λ (t : Bor Ty). t.now) types.now) → IfOk result spec.AreRead }
     {
         match self {
             Bound::Disabled => Ok(Seq::new(alloc)),
@@ -90,6 +98,7 @@ pub fn extend_where_predicates(
 ) -> Result<(), AllocError>
     ensures ok { OnOk result (Extends (spec.keys_of own.old) (spec.keys_of extra.now) (spec.keys_of own.new)) }
     ensures kept { HasPrefix own.old own.new }
+    ensures read { spec.AreRead own.old → spec.AreRead extra.now → OnOk result (spec.AreRead own.new) }
 {
     let mut known = known_keys(alloc, own.as_slice())?;
     for predicate in extra.as_slice() {

@@ -1,9 +1,8 @@
 -- What is added behind what was asked.
-use Rattle.std.proofs.Common.{◌≡◌, ℕ, ◌+◌, ◌<◌, Bool, true, false, List, [], ◌∷◌, ◌++◌, map, take, get_or, length, refl, ap, sym, subst, ◌∙◌, append_assoc, append-nil, Option, Some, None}
+use Rattle.std.proofs.Common.{◌≡◌, ℕ, ◌+◌, ◌<◌, Bool, true, false, List, [], ◌∷◌, ◌++◌, map, take, get_or, length, refl, ap, sym, subst, ◌∙◌, append_assoc, append-nil, Option, Some, None, Bor}
 use Rattle.std.specs.Prelude.{Result, Ok, Err, OnOk, if◌then◌else◌}
 use Rattle.std.specs.List.{filter_map, cons_option}
-use Rattle.std.proofs.lemmas.List.{take_more}
-use Rattle.educe_tokens.specs.Lexes.{Lexeme}
+use Rattle.std.proofs.lemmas.List.{take_more, map-append}
 use Rattle.educe_tree.specs.declared.generics.GenericParam.{GenericParam}
 use Rattle.educe_tree.specs.declared.ty.Ty.{Ty}
 use Rattle.educe_tree.specs.declared.ty.TypeForm.{TypeForm}
@@ -13,13 +12,19 @@ use Rattle.educe_tree.specs.declared.path.Args as args
 use Rattle.educe_tree.specs.declared.path.Args.{view-Args-Round-1, backs-Args-Round-1}
 use Rattle.educe_tree.specs.declared.path.AngleArg.{AngleArg}
 use Rattle.educe_tree.specs.declared.path.Path.{Path}
+use Rattle.educe_grammar.specs.Parsed.{depth_limit}
+use Rattle.educe_grammar.specs.Readings.{IsName, IsReadType}
+use Rattle.educe_grammar.proofs.Each.{all_front, all_behind, all_append, all_more}
 use Rattle.educe_bound_classes.specs.Exceptions.{Exceptions}
 use Rattle.educe_bound_classes.specs.declared.needs.Asked.{Asked}
+use Rattle.educe_bound_classes.specs.declared.needs.Asked.TheVariants.{Itself}
 use Rattle.educe_bound_classes.specs.Deriving.{Class, forwarding, mentioning, other, AsksNothing, Needs, AllNeed}
 use Rattle.educe_bound_classes.specs.Questions.{uses_params}
-use Rattle.educe_bound_classes.specs.Classes.{plain_of, types_behind, last_types, path_of_form, is_unconditional, forwards_at, is_forwarding, parts_by, mentions_named, names_in, class_by}
-use Rattle.educe_bound_classes.specs.Needs.{own_of, param_of}
-use Rattle.educe_bound_classes.specs.Asked.{keys_of, Adds, AddsAll, AddsNames}
+use Rattle.educe_bound_classes.specs.Classes.{plain_of, types_behind, last_types, path_of_form, is_unconditional, forwards_at, is_forwarding, parts_by, mentions_named, names_in, class_by, class_of}
+use Rattle.educe_bound_classes.specs.Needs.{own_of, param_of, IsTypeParam}
+use Rattle.educe_bound_classes.specs.Asked.{key_of, keys_of, IsAskedRead, AreAskedRead, Adds, AddsAll, AddsNames}
+use Rattle.educe_bound_classes.proofs.ByText.{names_are}
+use Rattle.educe_bound_classes.proofs.Inside.{parts_read}
 
 -- ---- lists
 
@@ -52,14 +57,17 @@ module _ (ex : Exceptions) (params : List GenericParam) (self : List ℕ) where
   -- ---- one more argument
 
   pub adds_none : (old : List Asked) → AddsAll ex params self [] old old
-  adds_none old bound = ([], AllNeed.none, sym (append-nil (keys_of bound old)))
+  adds_none old = record { keys = λ bound. ([], AllNeed.none, sym (append-nil (keys_of bound old))); read = λ names read asked. asked }
 
   -- of a type that was added behind others
   pub adds_type : (types : List Ty) (ty : Ty) (old mid new : List Asked) → AddsAll ex params self types old mid → Adds ex params self ty mid new → AddsAll ex params self (types ++ ty ∷ []) old new
-  adds_type types ty old mid new all one bound =
-      let a = all bound in
-      let b = one bound in
-      (a.0 ++ b.0, all_need_last a.1 b.1, b.2 ∙ ap (λ ks. ks ++ b.0) a.2 ∙ append_assoc (keys_of bound old) a.0 b.0)
+  adds_type types ty old mid new all one = record {
+    keys = λ bound.
+        (let a = all.keys bound in
+        let b = one.keys bound in
+        (a.0 ++ b.0, all_need_last a.1 b.1, b.2 ∙ ap (λ ks. ks ++ b.0) a.2 ∙ append_assoc (keys_of bound old) a.0 b.0));
+    read = λ names read asked. one.read names (all_behind IsReadType types (ty ∷ []) read).0 (all.read names (all_front IsReadType types (ty ∷ []) read) asked);
+  }
 
   pub step_type : (items : List AngleArg) (i : ℕ) (a : AngleArg) (ty : Ty) (old mid new : List Asked) → i < length items → a ≡ get_or items i a → plain_of a ≡ Some ty
       → AddsAll ex params self (filter_map plain_of (take i items)) old mid → Adds ex params self ty mid new → AddsAll ex params self (filter_map plain_of (take (i + 1) items)) old new
@@ -85,11 +93,15 @@ module _ (ex : Exceptions) (params : List GenericParam) (self : List ℕ) where
   nothing_unless false true c o names h = absurd (cc)
   nothing_unless false false c o names h = tt
 
+  -- of a type that asks nothing
+  adds_nothing : (ty : Ty) (old : List Asked) → AsksNothing (class_of params ex self ty) → Adds ex params self ty old old
+  adds_nothing ty old nothing = record { keys = λ bound. ([], Needs.nothing ty nothing, sym (append-nil (keys_of bound old))); read = λ names read asked. asked }
+
   pub adds_unconditional : (ty : Ty) (old : List Asked) → is_unconditional params ex ty ≡ true → Adds ex params self ty old old
-  adds_unconditional ty old h bound = ([], Needs.nothing ty (nothing_if (is_unconditional params ex ty) _ _ _ _ h), sym (append-nil (keys_of bound old)))
+  adds_unconditional ty old h = adds_nothing ty old (nothing_if (is_unconditional params ex ty) _ _ _ _ h)
 
   pub adds_without : (ty : Ty) (old : List Asked) → uses_params params ty ≡ false → Adds ex params self ty old old
-  adds_without ty old h bound = ([], Needs.nothing ty (nothing_unless _ (uses_params params ty) _ _ _ h), sym (append-nil (keys_of bound old)))
+  adds_without ty old h = adds_nothing ty old (nothing_unless _ (uses_params params ty) _ _ _ h)
 
   class_forwarding : (a b c : Bool) (o : Option (List Ty)) (names : List (List ℕ)) (ts : List Ty) → a ≡ false → b ≡ true → o ≡ Some ts → class_by params ex self a b o c names ≡ forwarding ts
   class_forwarding a b c o names ts h k e = λ i. class_by params ex self (h i) (k i) (e i) c names
@@ -134,16 +146,46 @@ module _ (ex : Exceptions) (params : List GenericParam) (self : List ℕ) where
 
   pub adds_parts : (ty : Ty) (old new : List Asked) → is_unconditional params ex ty ≡ false → uses_params params ty ≡ true → is_forwarding params ex ty ≡ true → AddsAll ex params self (types_behind ty.form) old new
       → Adds ex params self ty old new
-  adds_parts ty old new a b f all bound =
-      let m = all bound in
-      (m.0, Needs.forwards ty (types_behind ty.form) (class_forwarding _ _ (mentions_named params self ty) _ (names_in params ex ty) (types_behind ty.form) a b (parts_if ty.form f)) m.1, m.2)
+  adds_parts ty old new a b f all =
+      let parts = parts_if ty.form f in
+      record {
+        keys = λ bound.
+            (let m = all.keys bound in
+            (m.0, Needs.forwards ty (types_behind ty.form) (class_forwarding _ _ (mentions_named params self ty) _ (names_in params ex ty) (types_behind ty.form) a b parts) m.1, m.2));
+        read = λ names read asked. all.read names (parts_read depth_limit params ex ty (types_behind ty.form) read parts) asked;
+      }
 
   pub adds_names : (ty : Ty) (old new : List Asked) → is_unconditional params ex ty ≡ false → uses_params params ty ≡ true → is_forwarding params ex ty ≡ false → mentions_named params self ty ≡ true
       → AddsNames (names_in params ex ty) old new → Adds ex params self ty old new
-  adds_names ty old new a b f m added bound =
-      (map (param_of bound) (names_in params ex ty), Needs.mentions ty (names_in params ex ty) (class_mentioning _ _ _ _ (names_in params ex ty) a b (no_parts_if (path_of_form ty.form) f) m), added bound)
+  adds_names ty old new a b f m added = record {
+    keys = λ bound. (
+      map (param_of bound) (names_in params ex ty),
+      Needs.mentions ty (names_in params ex ty) (class_mentioning _ _ _ _ (names_in params ex ty) a b (no_parts_if (path_of_form ty.form) f) m),
+      added.keys bound,
+    );
+    read = λ names read asked. added.read ex params self (all_more (IsTypeParam params) IsName (λ n is. is.0) (names_in params ex ty) (names_are ex params self ty names)) asked;
+  }
 
-  pub adds_itself : (ty : Ty) (old new : List Asked) → is_unconditional params ex ty ≡ false → uses_params params ty ≡ true → is_forwarding params ex ty ≡ false → mentions_named params self ty ≡ false
-      → ((bound : List Lexeme) → keys_of bound new ≡ keys_of bound old ++ own_of bound ty ∷ []) → Adds ex params self ty old new
-  adds_itself ty old new a b f m added bound =
-      (own_of bound ty ∷ [], Needs.itself ty (class_other _ _ _ _ (names_in params ex ty) a b (no_parts_if (path_of_form ty.form) f) m), added bound)
+  pub adds_itself : (ty : Bor Ty) (old new : List Asked) → is_unconditional params ex ty.now ≡ false → uses_params params ty.now ≡ true → is_forwarding params ex ty.now ≡ false → mentions_named params self ty.now ≡ false
+      → new ≡ old ++ Itself ty ∷ [] → Adds ex params self ty.now old new
+  adds_itself ty old new a b f m is =
+      let class = class_other _ _ _ _ (names_in params ex ty.now) a b (no_parts_if (path_of_form ty.now.form) f) m in
+      record {
+        keys = λ bound. (own_of bound ty.now ∷ [], Needs.itself ty.now class, ap (keys_of bound) is ∙ map-append (key_of bound) old (Itself ty ∷ []));
+        read = λ names read asked.
+            subst (AreAskedRead params ex self) (sym is) (all_append (IsAskedRead params ex self) old (Itself ty ∷ []) asked (record { reads = read; class = class }, tt));
+      }
+
+-- ---- names
+
+pub adds_no_names : (old : List Asked) → AddsNames [] old old
+adds_no_names old = record { keys = λ bound. sym (append-nil (keys_of bound old)); read = λ ex params self names asked. asked }
+
+-- those of others that were added behind
+pub adds_more_names : (names more : List (List ℕ)) (old mid new : List Asked) → AddsNames names old mid → AddsNames more mid new → AddsNames (names ++ more) old new
+adds_more_names names more old mid new first second = record {
+  keys = λ bound.
+      second.keys bound ∙ ap (λ ks. ks ++ map (param_of bound) more) (first.keys bound) ∙ append_assoc (keys_of bound old) (map (param_of bound) names) (map (param_of bound) more)
+      ∙ ap (λ ks. keys_of bound old ++ ks) (sym (map-append (param_of bound) names more));
+  read = λ ex params self are asked. second.read ex params self (all_behind IsName names more are) (first.read ex params self (all_front IsName names more are) asked);
+}

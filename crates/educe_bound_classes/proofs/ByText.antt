@@ -31,7 +31,7 @@ use Rattle.educe_bound_classes.specs.Needs.{IsReading, IsTypeParam, AreNames, ow
 use Rattle.educe_bound_classes.proofs.Walks.{in_form-Path, in_path-here, in_path-nowhere}
 use Rattle.educe_bound_classes.proofs.ClassLikeness.{other_alike}
 use Rattle.educe_bound_classes.proofs.OneName.{ident_aside, found_name, name_path, name_type, name_read}
-use Rattle.educe_bound_classes.proofs.Inside.{parts_read}
+use Rattle.educe_bound_classes.proofs.Inside.{parts_reading}
 use Rattle.educe_bound_classes.proofs.Bounds.{automatic_suffices, automatic_minimal}
 
 -- ---- a type parameter by itself
@@ -140,7 +140,7 @@ module _ (ex : Exceptions) (params : List GenericParam) (self : List ℕ) where
     declared_names ps (λ n h. into n (or_second (bytes_eq n p.ident.text) (is_type_param ps n) h)) all.1,
   )
 
-  names_are : (x : Ty) → AreNames params → AreTypeParams (names_in params ex x)
+  pub names_are : (x : Ty) → AreNames params → AreTypeParams (names_in params ex x)
   names_are x names = kept_names (λ name. in_type (name_of params ex name) x) (filter_map type_name params) (declared_names params (λ n h. h) names)
 
   -- ---- classes
@@ -164,7 +164,7 @@ module _ (ex : Exceptions) (params : List GenericParam) (self : List ℕ) where
   -- Classes go by the tokens of types.
   pub by_text : (bound : List Lexeme) → AreNames params → IsByText (class_of params ex self) (own_of bound) (param_of bound) IsReading (IsTypeParam params)
   by_text bound names = record {
-    parts_read = λ x ts read is. parts_read params ex x ts read (forwarding_parts (is_unconditional params ex x) (uses_params params x) (mentions params ex self x) (parts_of params ex x) (names_in params ex x) ts is);
+    parts_read = λ x ts read is. parts_reading params ex x ts read (forwarding_parts (is_unconditional params ex x) (uses_params params x) (mentions params ex self x) (parts_of params ex x) (names_in params ex x) ts is);
     names_are = λ x ns read is.
         subst (AllByRecursion (IsTypeParam params)) (mentioning_names (is_unconditional params ex x) (uses_params params x) (mentions params ex self x) (parts_of params ex x) (names_in params ex x) ns is) (names_are x names);
     others = λ x y read reading same is.

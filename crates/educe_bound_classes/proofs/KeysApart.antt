@@ -15,7 +15,7 @@ use Rattle.educe_bound_classes.specs.Deriving.{Has, Extends}
 use Rattle.educe_tree.specs.declared.generics.GenericParam.{GenericParam}
 use Rattle.educe_tree.specs.declared.ty.Ty.{Ty}
 use Rattle.educe_bound_classes.specs.Exceptions.{Exceptions}
-use Rattle.educe_bound_classes.specs.Asked.{key_of, keys_of, AddsAll, AreKept}
+use Rattle.educe_bound_classes.specs.Asked.{key_of, keys_of, AreAskedRead, AddsAll, AreKept}
 use Rattle.educe_bound_classes.specs.Keys.{kind_number, kind_char, marked, word_key, token_key, tokens_key, asked_key, all_keys}
 
 -- ---- keys read back
@@ -219,7 +219,8 @@ module _ (bound : List Lexeme) where
 
 -- What is asked, each once, are the own predicates.
 pub are_kept : (ex : Exceptions) (params : List GenericParam) (self : List ℕ) (types : List Ty) (asked own : List Asked)
-    → AddsAll ex params self types [] asked → Extends [] (all_keys asked) (all_keys own) → AreKept ex params self types own
-are_kept ex params self types asked own adds e bound =
-    let a = adds bound in
-    (a.0, a.1, subst (λ ks. Extends [] ks (keys_of bound own)) a.2 (kept_as_predicates bound asked own e))
+    → AddsAll ex params self types [] asked → Extends [] (all_keys asked) (all_keys own) → (AreAskedRead params ex self asked → AreAskedRead params ex self own) → AreKept ex params self types own
+are_kept ex params self types asked own adds e read = record {
+  keys = λ bound. (let a = adds.keys bound in (a.0, a.1, subst (λ ks. Extends [] ks (keys_of bound own)) a.2 (kept_as_predicates bound asked own e)));
+  read = λ names types. read (adds.read names types tt);
+}

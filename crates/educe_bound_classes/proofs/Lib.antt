@@ -8,7 +8,6 @@ pub mod ClassLikeness
 pub mod Inside
 pub mod ByText
 pub mod Asking
-pub mod Definitions
 pub mod Kept
 pub mod KeysApart
 pub mod Lawful

@@ -1,13 +1,17 @@
 -- What a type asks, by the tokens of the predicates.
 use Rattle.std.specs.Prelude.{◌≡◌, ℕ, List, ◌++◌, map}
 use Rattle.std.specs.Borrow.{Bor}
+use Rattle.std.specs.List.{AllByRecursion}
 use Rattle.educe_tokens.specs.Lexes.{Lexeme}
 use Rattle.educe_tree.specs.declared.generics.GenericParam.{GenericParam}
 use Rattle.educe_tree.specs.declared.ty.Ty.{Ty}
+use Rattle.educe_grammar.specs.Readings.{IsName, IsReadType}
+use Rattle.educe_bound_classes.specs.Classes.{class_of}
+use Rattle.educe_bound_classes.specs.Deriving.{other}
 use Rattle.educe_bound_classes.specs.Exceptions.{Exceptions}
 use Rattle.educe_bound_classes.specs.declared.needs.Asked.{Asked}
 use Rattle.educe_bound_classes.specs.declared.needs.Asked.TheVariants.{Itself, Param}
-use Rattle.educe_bound_classes.specs.Needs.{own_of, param_of, Asks, AllAsk, AreOwn}
+use Rattle.educe_bound_classes.specs.Needs.{AreNames, own_of, param_of, Asks, AllAsk, AreOwn}
 
 -- types that are lent
 abbrev pub types_of : List (Bor Ty) → List Ty
@@ -22,20 +26,36 @@ key_of bound (Param name) = param_of bound name.now.text
 abbrev pub keys_of : List Lexeme → List Asked → List (List Lexeme)
 keys_of bound asked = map (key_of bound) asked
 
--- What the type needs is added behind what was asked.
-abbrev pub Adds : Exceptions → List GenericParam → List ℕ → Ty → List Asked → List Asked → Type 0
-Adds ex params self ty old new =
-    (bound : List Lexeme) → (more : List (List Lexeme)) × Asks ex params self bound ty more × (keys_of bound new ≡ keys_of bound old ++ more)
+-- the type is the reading of its tokens, and it is itself what is asked
+pub record IsAskedType (params : List GenericParam) (ex : Exceptions) (self : List ℕ) (ty : Ty) : Type 0 where
+  pub reads : IsReadType ty
+  pub class : class_of params ex self ty ≡ other
+
+-- what is asked: of such a type itself, or of a parameter that has a name
+abbrev pub IsAskedRead : List GenericParam → Exceptions → List ℕ → Asked → Type 0
+IsAskedRead params ex self (Itself ty) = IsAskedType params ex self ty.now
+IsAskedRead params ex self (Param name) = IsName name.now.text
+
+-- so is each
+abbrev pub AreAskedRead : List GenericParam → Exceptions → List ℕ → List Asked → Type 0
+AreAskedRead params ex self asked = AllByRecursion (IsAskedRead params ex self) asked
+
+-- What the type needs is added behind what was asked; and where the type and what was asked are read, so is what is asked then.
+pub record Adds (ex : Exceptions) (params : List GenericParam) (self : List ℕ) (ty : Ty) (old new : List Asked) : Type 0 where
+  pub keys : (bound : List Lexeme) → (more : List (List Lexeme)) × Asks ex params self bound ty more × (keys_of bound new ≡ keys_of bound old ++ more)
+  pub read : AreNames params → IsReadType ty → AreAskedRead params ex self old → AreAskedRead params ex self new
 
 -- The same of types.
-abbrev pub AddsAll : Exceptions → List GenericParam → List ℕ → List Ty → List Asked → List Asked → Type 0
-AddsAll ex params self types old new =
-    (bound : List Lexeme) → (more : List (List Lexeme)) × AllAsk ex params self bound types more × (keys_of bound new ≡ keys_of bound old ++ more)
+pub record AddsAll (ex : Exceptions) (params : List GenericParam) (self : List ℕ) (types : List Ty) (old new : List Asked) : Type 0 where
+  pub keys : (bound : List Lexeme) → (more : List (List Lexeme)) × AllAsk ex params self bound types more × (keys_of bound new ≡ keys_of bound old ++ more)
+  pub read : AreNames params → AllByRecursion IsReadType types → AreAskedRead params ex self old → AreAskedRead params ex self new
 
--- The predicates of these names are added.
-abbrev pub AddsNames : List (List ℕ) → List Asked → List Asked → Type 0
-AddsNames names old new = (bound : List Lexeme) → keys_of bound new ≡ keys_of bound old ++ map (param_of bound) names
+-- The predicates of these names are added; and where they are names and what was asked is read, so is what is asked then.
+pub record AddsNames (names : List (List ℕ)) (old new : List Asked) : Type 0 where
+  pub keys : (bound : List Lexeme) → keys_of bound new ≡ keys_of bound old ++ map (param_of bound) names
+  pub read : (ex : Exceptions) (params : List GenericParam) (self : List ℕ) → AllByRecursion IsName names → AreAskedRead params ex self old → AreAskedRead params ex self new
 
--- The own predicates of the automatic mode, whatever the trait is.
-abbrev pub AreKept : Exceptions → List GenericParam → List ℕ → List Ty → List Asked → Type 0
-AreKept ex params self types own = (bound : List Lexeme) → AreOwn ex params self bound types (keys_of bound own)
+-- The own predicates of the automatic mode, whatever the trait is; and they are read, where the types are.
+pub record AreKept (ex : Exceptions) (params : List GenericParam) (self : List ℕ) (types : List Ty) (own : List Asked) : Type 0 where
+  pub keys : (bound : List Lexeme) → AreOwn ex params self bound types (keys_of bound own)
+  pub read : AreNames params → AllByRecursion IsReadType types → AreAskedRead params ex self own

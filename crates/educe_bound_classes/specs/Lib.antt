@@ -10,7 +10,6 @@ pub mod Needs
 pub mod Asked
 pub mod Keys
 pub mod Texts
-pub mod Laws
 pub mod Collects
 pub mod Names
 pub mod Places

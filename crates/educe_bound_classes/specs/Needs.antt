@@ -3,10 +3,10 @@ use Rattle.std.specs.List.{AllByRecursion}
 use Rattle.std.specs.Prelude.{IfSome, ◌≡◌, ℕ, true, List, ◌∷◌, ◌++◌}
 use Rattle.educe_tokens.specs.TokenKind.TheVariants as kind
 use Rattle.educe_tokens.specs.Lexes.{Lexeme}
-use Rattle.educe_tree.specs.Names.{is_name}
 use Rattle.educe_tree.specs.declared.generics.GenericParam.{GenericParam}
 use Rattle.educe_tree.specs.declared.ty.Ty.{Ty}
 use Rattle.educe_grammar.specs.Types.{any_type}
+use Rattle.educe_grammar.specs.Readings.{IsName}
 use Rattle.educe_grammar.specs.Reads.{Reads}
 use Rattle.educe_grammar.specs.Alike.{lexemes_aside}
 use Rattle.educe_bound_classes.specs.Exceptions.{Exceptions}
@@ -20,11 +20,11 @@ IsReading ty = (budget : ℕ) × Reads budget any_type ty.written.tokens ty
 
 -- a type parameter, whose name is one
 abbrev pub IsTypeParam : List GenericParam → List ℕ → Type 0
-IsTypeParam params name = (is_name kind.Ident name ≡ true) × (is_type_param params name ≡ true)
+IsTypeParam params name = IsName name × (is_type_param params name ≡ true)
 
 -- the name of each type parameter is one
 abbrev pub AreNames : List GenericParam → Type 0
-AreNames params = AllByRecursion (λ p. IfSome (type_name p) (λ n. is_name kind.Ident n ≡ true)) params
+AreNames params = AllByRecursion (λ p. IfSome (type_name p) IsName) params
 
 -- `Type : Trait`, where the second list is what stands behind the type
 abbrev pub own_of : List Lexeme → Ty → List Lexeme

@@ -1,6 +1,5 @@
 //! Laws of bounds that hold with no call: the functions do nothing, and their contracts are the laws.
 ghost use Rattle.educe_bound_classes.specs.Needs.{AlwaysSuffice, AreAlwaysMinimal, AreAlwaysDistinct};
-ghost use Rattle.educe_bound_classes.specs.Laws.{DefinitionLaws};
 
 /// From the predicates that are asked each type can be derived, and once one of them is dropped, one
 /// of the types can not. No two of them are equal.
@@ -8,10 +7,4 @@ pub fn automatic_laws()
     ensures suffice { AlwaysSuffice }
     ensures minimal { AreAlwaysMinimal }
     ensures distinct { AreAlwaysDistinct }
-{}
-
-/// In a definition that is read, the names of type parameters are names, and the types of fields are
-/// readings of their tokens: what the laws of the automatic mode ask.
-pub fn definition_laws()
-    ensures { DefinitionLaws }
 {}

@@ -19,7 +19,7 @@ mod walk;
 pub use collect::find_idents_in_type;
 pub use exceptions::BoundExceptions;
 pub use idents::IdentSet;
-pub use laws::{automatic_laws, definition_laws};
+pub use laws::automatic_laws;
 pub use needs::{Asked, Asker, append_needs, needs_of};
 pub use once::{each_once, key_of_tokens, own_needs};
 pub use tables::{

@@ -1,9 +1,11 @@
 //! Subjects of predicates, each once: an ordered set knows one by numbers that stand for its tokens.
-ghost use Rattle.std.specs.Prelude.{◌≡◌, [], ◌++◌, IfOk, OnOk, chars};
+ghost use Rattle.std.specs.Prelude.{◌≡◌, ℕ, List, [], ◌++◌, IfOk, OnOk, chars};
 ghost use Rattle.std.specs.List.{flat_map};
 ghost use Rattle.educe_bound_classes.specs.Deriving.{Extends};
 ghost use Rattle.educe_bound_classes.specs.Keys as spec;
-ghost use Rattle.educe_bound_classes.specs.Asked.{AreKept, types_of};
+ghost use Rattle.educe_tree.specs.declared.generics.GenericParam.{GenericParam};
+ghost use Rattle.educe_bound_classes.specs.Asked.{AreKept, AreAskedRead, types_of};
+ghost use Rattle.educe_bound_classes.specs.Exceptions.{Exceptions};
 
 use crate::needs::{Asked, Asker, needs_of};
 use educe_tokens::{Bracket, LiteralKind, Spelling, Token, TokenKind};
@@ -126,7 +128,8 @@ fn key_of(alloc: Global, asked: &Asked<'_>) -> Result<Vec<u32>, AllocError>
 /// Each subject once, in the order of first need: subjects of equal tokens are the same
 /// (documentation of the crate `educe`, Bounds).
 pub fn each_once<'a>(alloc: Global, asked: &[Asked<'a>]) -> Result<Vec<Asked<'a>>, AllocError>
-    ensures { IfOk result (λ own. Extends [] (spec.all_keys asked.now) (spec.all_keys own.items)) }
+    ensures ok { IfOk result (λ own. Extends [] (spec.all_keys asked.now) (spec.all_keys own.items)) }
+    ensures read { (params : List GenericParam) (ex : Exceptions) (self : List ℕ) → AreAskedRead params ex self asked.now → IfOk result (λ own. AreAskedRead params ex self own.items) }
 {
     let mut seen = BTreeSet::new(alloc);
     let mut own = Vec::new(alloc);

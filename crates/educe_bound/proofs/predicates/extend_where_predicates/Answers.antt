@@ -7,7 +7,10 @@ use Rattle.educe_bound_classes.specs.Deriving.{Extends}
 use Rattle.educe_bound_classes.specs.Keys.{tokens_key, Holds}
 use Rattle.educe_bound_classes.proofs.Kept.{Kept, kept_held, kept_added}
 use Rattle.educe_bound_classes.proofs.KeysApart.{extends_tokens}
-use Rattle.educe_bound.specs.Predicates.{number_of}
+use Rattle.educe_bound.specs.Predicates.{number_of, AreRead}
+use Rattle.educe_grammar.specs.Readings.{IsReadPredicate}
+use Rattle.educe_grammar.proofs.Each.{all_append}
+use Rattle.educe_bound.proofs.Asking.{all_parts}
 use Rattle.educe_bound.proofs.predicates.extend_where_predicates.Goals as goal
 use Rattle.educe_bound.proofs.predicates.extend_where_predicates.Goals.{then-branch+in_ok-duplicate+in_ok-push, else-branch}
 
@@ -18,6 +21,7 @@ loop-predicate-init c = record {
     extends = Extends.done (map number_of c.args.own.now);
   };
   prefix = record { more = []; joined = sym (append-nil c.args.own.now) };
+  read = λ own extra. own;
 }
 
 pub loop-predicate-preserved : goal.loop-predicate-preserved
@@ -44,6 +48,9 @@ loop-predicate-preserved c =
               more = before.prefix.more ++ one ∷ [];
               joined = own ∙ ap (λ (xs : List WherePredicate). xs ++ one ∷ []) before.prefix.joined ∙ append_assoc c.args.own.now before.prefix.more (one ∷ []);
             };
+            read = λ first extra.
+                (let each = all_parts IsReadPredicate front one (subst AreRead whole extra) in
+                subst AreRead (sym own) (all_append IsReadPredicate c.loop-predicate.own (one ∷ []) (before.read first each.0) (each.1, tt)));
           }
       | else-branch w ↦ record {
         kept = subst (λ (xs : List WherePredicate). Kept number_of next known xs c.if-branch.own) (sym whole)
@@ -51,6 +58,7 @@ loop-predicate-preserved c =
             (kept_held number_of c.loop-predicate.known next known front c.loop-predicate.own one c.in_ok-key.key before.kept is c.in_ok-insert.ensures.updates
             (sym c.in_ok-insert.ensures.added ∙ w.if-branch.false)));
         prefix = subst (λ (xs : List WherePredicate). HasPrefix c.args.own.now xs) (sym w.own-is) before.prefix;
+        read = λ first extra. subst AreRead (sym w.own-is) (before.read first (all_parts IsReadPredicate front one (subst AreRead whole extra)).0);
       }
     ]
 
@@ -61,3 +69,9 @@ returns-clause-ok c =
     extends_tokens (λ (p : WherePredicate). p.written.tokens) c.args.own.now c.args.extra.now c.loop-predicate.own
     (subst (λ (ps : List WherePredicate). Extends (map number_of c.args.own.now) (map number_of ps) (map number_of c.loop-predicate.own)) (whole ∙ c.as_slice-predicate-items.ensures)
     c.loop-predicate.invariant.kept.extends)
+
+pub returns-clause-read : goal.returns-clause-read
+returns-clause-read c =
+    let items = c.as_slice-predicate-items.result.now in
+    let whole : take c.loop-predicate.predicate-index items ≡ items = grind (arith, common_steps) in
+    λ own extra. c.loop-predicate.invariant.read own (subst AreRead (sym (whole ∙ c.as_slice-predicate-items.ensures)) extra)

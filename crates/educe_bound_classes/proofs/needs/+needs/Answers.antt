@@ -1,14 +1,13 @@
 use Rattle.std.proofs.Common.{◌≡◌, List, take, length, ap, sym, subst, ◌∙◌, arith}
 use Rattle.std.specs.Prelude.{OnOk, Option, None, slice_get, ◌-◌}
 use Rattle.std.specs.List.{filter_map}
-use Rattle.std.proofs.lemmas.List.{map-append}
 use Rattle.std.proofs.lemmas.Grind.{common_steps}
 use Rattle.educe_tree.specs.declared.ty.Ty.{Ty}
 use Rattle.educe_tree.specs.declared.path.Args.{Args}
 use Rattle.educe_tree.specs.declared.path.AngleArg.{AngleArg}
 use Rattle.educe_tree.specs.declared.path.Segment.{Segment}
 use Rattle.educe_bound_classes.specs.Classes.{plain_of, angle_of, args_at, types_behind}
-use Rattle.educe_bound_classes.specs.Asked.{key_of, keys_of, Adds, AddsAll}
+use Rattle.educe_bound_classes.specs.Asked.{Adds, AddsAll}
 use Rattle.educe_bound_classes.proofs.ClassLaws.{angle_of-Angle}
 use Rattle.educe_bound_classes.proofs.Asking.{into_ok, adds_none, step_type, step_other, behind_none, adds_unconditional, adds_without, adds_parts, adds_names, adds_itself}
 use Rattle.educe_bound_classes.proofs.needs.+needs.Goals as goal
@@ -48,10 +47,9 @@ pub append_needs-returns : goal.append_needs-returns
 append_needs-returns t c =
     let asker = c.args.asker.now in
     record {
-      ok = adds_itself asker.exceptions.now asker.params.now asker.name.now c.args.ty.now c.args.asked.now.items c.push.new.self.items
+      ok = adds_itself asker.exceptions.now asker.params.now asker.name.now c.args.ty c.args.asked.now.items c.push.new.self.items
           (sym c.is_unconditional.ensures ∙ c.if-is_unconditional.false) (sym c.uses_params.ensures ∙ c.if-not-uses_params.false)
-          (sym c.is_forwarding.ensures ∙ c.if-is_forwarding.false) (sym c.in_type.ensures ∙ c.if-in_type.false)
-          (λ bound. ap (keys_of bound) c.in_ok-push.ensures.items ∙ map-append (key_of bound) c.args.asked.now.items _);
+          (sym c.is_forwarding.ensures ∙ c.if-is_forwarding.false) (sym c.in_type.ensures ∙ c.if-in_type.false) c.in_ok-push.ensures.items;
     }
 
 pub append_parts-returns-in-Path : goal.append_parts-returns-in-Path
