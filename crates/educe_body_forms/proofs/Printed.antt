@@ -1,7 +1,7 @@
 -- The tokens of forms that hold forms, as equations on the lists and the boxed forms that they were made of.
 use denote.Hole.Carrier.{hidden}
 use mathlib.Core.Former.{Count}
-use Rattle.std.proofs.Common.{◌≡◌, Bool, Option, Some, None, List, [], ◌++◌, refl, sym, ap, ◌∙◌, codes}
+use Rattle.std.proofs.Common.{◌≡◌, Bool, true, false, Option, Some, None, List, [], ◌++◌, refl, sym, ap, ◌∙◌, codes}
 use Rattle.std.specs.List.{flat_map}
 use Rattle.std.specs.declared.cmp.Ordering.{Ordering}
 use Rattle.std.specs.declared.cmp.Ordering.TheVariants.{Equal}
@@ -23,7 +23,7 @@ use Rattle.educe_body_forms.specs.declared.shown.ArgumentNames.{ArgumentNames}
 use Rattle.educe_body_forms.specs.declared.shown.EntryKey.{EntryKey}
 use Rattle.educe_body_forms.specs.Printing.{separated}
 use Rattle.educe_body_forms.specs.Printouts.{Printout, name, each, in_round, in_curly}
-use Rattle.educe_body_forms.specs.Tokens.{order_printout, in_some, other_arms, pattern_printout, if_let_head, if_let_printout, in_form, keyed, self_printout, construct_printout, field_assignment, through_assignment, form_printout, form_lexemes, init_printout, in_a_row, arms_in_a_row, inits_in_a_row, arguments, behind_comma, arms_with, else_with, arm_printout, match_value_printout}
+use Rattle.educe_body_forms.specs.Tokens.{order_printout, in_some, other_arms, pattern_printout, if_let_head, if_let_printout, in_form, keyed, self_printout, construct_printout, field_assignment, through_assignment, in_braces, comma_where, form_printout, form_lexemes, init_printout, in_a_row, arms_in_a_row, inits_in_a_row, arguments, behind_comma, arms_with, else_with, arm_printout, match_value_printout}
 use Rattle.educe_body_forms.specs.ShownPrintouts.{entry_printout, method_argument}
 
 -- the forms that a call or a block holds
@@ -78,13 +78,20 @@ form_lexemes-IfLet pattern value forms (Some others) =
     λ i. (if_let_head pattern value).tokens ++ (quoted (codes "{") ++ block-items forms i ++ quoted (codes "}"))
     ++ (quoted (codes "else") ++ (quoted (codes "{") ++ block-items others i ++ quoted (codes "}")))
 
+-- the same tokens as these forms, with or without braces
+in_braces-same : (braced : Bool) (inside : Printout) (forms : List Form) → inside.tokens ≡ flat_map form_lexemes forms
+    → (in_braces braced inside).tokens ≡ (in_braces braced (each form_printout forms)).tokens
+in_braces-same false inside forms same = same
+in_braces-same true inside forms same = ap (λ found. quoted (codes "{") ++ found ++ quoted (codes "}")) same
+
 -- the tokens of the arms of a row, behind one another
 arms_in_a_row-items : (n : _) (row : Row_of-Arm n) → (arms_in_a_row row).tokens ≡ flat_map (λ arm. (arm_printout arm).tokens) (items-the_row-Arm n row)
 arms_in_a_row-items n end_of-Arm = refl
-arms_in_a_row-items n (more_of-Arm pattern shape row rest) =
-    let forms = in_a_row-items _ row ∙ ap (flat_map form_lexemes) (sym (items_shown-the_row-Form-0 shape row)) in
+arms_in_a_row-items n (more_of-Arm pattern braced comma shape row rest) =
+    let forms = in_braces-same braced (in_a_row row) (items-the_row-Form _ row) (in_a_row-items _ row) in
+    let block = forms ∙ ap (λ (forms : List Form). (in_braces braced (each form_printout forms)).tokens) (sym (items_shown-the_row-Form-0 shape row)) in
     let others = arms_in_a_row-items _ rest in
-    λ i. (pattern_printout pattern).tokens ++ quoted (codes "=>") ++ (quoted (codes "{") ++ forms i ++ quoted (codes "}")) ++ others i
+    λ i. (pattern_printout pattern).tokens ++ quoted (codes "=>") ++ block i ++ (comma_where comma).tokens ++ others i
 
 -- a match on a value, by its arms
 pub form_lexemes-MatchValue : (value : Ident) (arms : List Arm) → form_lexemes (MatchValue value arms) ≡ (match_value_printout value arms).tokens

@@ -234,6 +234,18 @@ abbrev pub through_assignment : Bool → Ident → Written → Printout → Prin
 through_assignment false target path value = says (codes "*") refl beside name target beside result_printout path value
 through_assignment true target path value = handed_printout (name target) path value
 
+-- ---- arms
+
+-- the block of an arm: with true in curly brackets
+abbrev pub in_braces : Bool → Printout → Printout
+in_braces false inside = inside
+in_braces true inside = in_curly inside
+
+-- what stands behind the block of an arm: with true a comma, and else nothing
+abbrev pub comma_where : Bool → Printout
+comma_where false = nothing
+comma_where true = says (codes ",") refl
+
 -- ---- forms that hold forms
 
 abbrev mutual
@@ -290,10 +302,11 @@ abbrev mutual
   else_part None' = nothing
   else_part (Some' shape forms) = else_printout (in_curly (in_a_row forms))
 
-  -- `pattern => { forms }` for each arm
+  -- for each arm `pattern => forms`, with or without braces around the forms and a comma behind them
   pub arms_in_a_row : {m : _} → Row_of-Arm m → Printout
   arms_in_a_row end_of-Arm = nothing
-  arms_in_a_row (more_of-Arm pattern shape forms rest) = pattern_printout pattern beside says (codes "=>") refl beside in_curly (in_a_row forms) beside arms_in_a_row rest
+  arms_in_a_row (more_of-Arm pattern braced comma shape forms rest) =
+      pattern_printout pattern beside says (codes "=>") refl beside in_braces braced (in_a_row forms) beside comma_where comma beside arms_in_a_row rest
 
   -- `key : value ,` for each field
   pub inits_in_a_row : {m : _} → Row_of-Init m → Printout
@@ -320,9 +333,10 @@ abbrev pub else_with : Option (List Form) → Printout
 else_with None = nothing
 else_with (Some forms) = else_printout (in_curly (each form_printout forms))
 
--- one arm of a match on a value
+-- one arm of a match on a value, with or without braces around its forms and a comma behind them
 abbrev pub arm_printout : Arm → Printout
-arm_printout arm = pattern_printout arm.pattern beside says (codes "=>") refl beside in_curly (each form_printout arm.block)
+arm_printout arm =
+    pattern_printout arm.pattern beside says (codes "=>") refl beside in_braces arm.braced (each form_printout arm.block) beside comma_where arm.comma
 
 -- `match name { arms }`
 abbrev pub match_value_printout : Ident → List Arm → Printout

@@ -98,11 +98,15 @@ pub enum Form {
 /// Forms in their order.
 pub type Forms = Seq<Form>;
 
-/// An arm of a `match` on a value: `pattern => { forms }`.
+/// An arm of a `match` on a value: `pattern => { forms }`. A block without braces is one expression.
 #[cycle(form)]
 #[derive(Drop)]
 pub struct Arm {
     pub pattern: Pattern,
+    /// Whether braces stand around the block.
+    pub braced: bool,
+    /// Whether a comma stands behind the block.
+    pub comma: bool,
     pub block: Forms,
 }
 

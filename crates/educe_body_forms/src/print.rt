@@ -6,7 +6,7 @@ ghost use Rattle.educe_tokens.specs.Quote.{quoted};
 ghost use Rattle.educe_tokens.proofs.Printable.{well_formed_from, ends_apart_from, lexes_back_from};
 ghost use Rattle.educe_body_forms.specs.Printing.{comma_before, separated};
 ghost use Rattle.educe_body_forms.specs.Printouts.{Prints, name, each, in_round, in_curly};
-ghost use Rattle.educe_body_forms.specs.Tokens.{in_some, discard_printout, lent_field_printout, result_printout, place_and_value, field_assignment, through_assignment, block_arms, known_printout, self_printout, construct_printout, in_form, form_printout, form_lexemes, arm_printout, init_printout, equal_arm, match_value_printout, if_let_head, if_let_printout, else_printout};
+ghost use Rattle.educe_body_forms.specs.Tokens.{in_some, discard_printout, lent_field_printout, result_printout, place_and_value, field_assignment, through_assignment, block_arms, known_printout, self_printout, construct_printout, in_form, form_printout, form_lexemes, in_braces, comma_where, arm_printout, init_printout, equal_arm, match_value_printout, if_let_head, if_let_printout, else_printout};
 ghost use Rattle.educe_body_forms.specs.ShownPrintouts.{entry_rest, argument_rest, wrapped};
 
 use crate::form::{Arm, Form, Forms, Init, Inits, Known};
@@ -450,7 +450,39 @@ fn push_arm(alloc: Global, tokens: &mut TokenStream, arm: &Arm) -> Result<(), Al
 {
     push_pattern(alloc, tokens, &arm.pattern)?;
     quote(alloc, tokens, "=>")?;
-    push_block(alloc, tokens, &arm.block)
+    push_in_braces(alloc, tokens, arm.braced, &arm.block)?;
+    push_comma_where(alloc, tokens, arm.comma)
+}
+
+/// Appends forms behind one another; where the truth value holds, in curly brackets.
+#[cycle(print)]
+fn push_in_braces(
+    alloc: Global,
+    tokens: &mut TokenStream,
+    braced: bool,
+    forms: &Forms,
+) -> Result<(), AllocError>
+    ensures ok { let found = in_braces braced (each form_printout forms.now) in
+        OnOk result (Prints found tokens.old tokens.new) }
+    ensures prefix { HasPrefix tokens.old tokens.new }
+{
+    if braced {
+        push_block(alloc, tokens, forms)
+    } else {
+        push_forms(alloc, tokens, forms)
+    }
+}
+
+/// Appends a comma where the truth value holds, and else nothing.
+fn push_comma_where(alloc: Global, tokens: &mut TokenStream, comma: bool) -> Result<(), AllocError>
+    ensures ok { OnOk result (Prints (comma_where comma) tokens.old tokens.new) }
+    ensures prefix { HasPrefix tokens.old tokens.new }
+{
+    if comma {
+        quote(alloc, tokens, ",")
+    } else {
+        Ok(())
+    }
 }
 
 /// Appends what stands before the block of an `if let`.

@@ -284,7 +284,8 @@ push_arms-returns-clause-ok t c =
 
 pub push_arm-returns-clause-ok : goal.push_arm-returns-clause-ok
 push_arm-returns-clause-ok t c =
-    on_ok_weaker _ (λ back. Appends-append (Appends-append c.in_ok-push_pattern.ensures.ok c.in_ok-quote.ensures.ok) back) c.push_block.ensures.ok
+    let front = Appends-append c.in_ok-push_pattern.ensures.ok c.in_ok-quote.ensures.ok in
+    on_ok_weaker _ (λ back. Appends-append (Appends-append front c.in_ok-push_in_braces.ensures.ok) back) c.push_comma_where.ensures.ok
 
 pub push_order_arms-returns-clause-ok : goal.push_order_arms-returns-clause-ok
 push_order_arms-returns-clause-ok t c =
