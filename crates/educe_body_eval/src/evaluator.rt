@@ -3,12 +3,13 @@ ghost use Rattle.std.specs.Prelude.{◌≡◌, IfOk};
 ghost use Rattle.educe_body_values.specs.declared.environment.Env.{Env};
 ghost use Rattle.educe_body_values.specs.Cases as spec;
 ghost use Rattle.educe_body_values.specs.Meaning as meaning;
-ghost use Rattle.educe_body_values.specs.Meaning.{scene, scene_at, look_up, read_flow, key_of, leave, value, parts_of, outcome_of, own_outcome, shown_outcome, outcome_of_thing, list_value, taken, arms_list, with_named, go_on, block_arm, form_value, args_list, inits_list, built, built_value, with_case, call_value, assign};
+ghost use Rattle.educe_body_values.specs.Meaning.{scene, scene_at, look_up, read_flow, key_of, leave, value, parts_of, outcome_of, own_of, changed_or_given, own_outcome, shown_outcome, outcome_of_thing, list_value, taken, arms_list, with_named, go_on, block_arm, form_value, args_list, inits_list, built, built_value, with_case, call_value, assign};
 
 use crate::arguments::argument_flow;
 use crate::assigning::assign;
 use crate::calls::called;
 use crate::cases::case_named;
+use crate::changing::any_assigns;
 use crate::environments::started;
 use crate::flows::{
     add_counted, end_if, hash_part, known_thing, leave, made_value, number_flow, opposite,
@@ -32,20 +33,20 @@ use educe_tree::{ExprPath, Field, Ident};
 use std::alloc::{AllocError, Global};
 use std::cmp::Ordering;
 
-/// What a body evaluates to over a definition, two values and a table: what it returns, or the
-/// value of its last form; for a body with two parameters, a hasher and its type, what it feeds to the
-/// hasher; for one that gives nothing, what `self` becomes; and for one that ends in what it hands to
-/// its parameter, a formatter, what this shows. `Stuck` where a name stands for
-/// nothing, a value has no field of that key, no arm or no field of a pattern fits, a path that is not
-/// built in, an expression, a default value or the type of an argument has a name in scope, more than two
-/// arguments of a call count, the table has no answer, a form takes another kind of value, no variant has
-/// the name of what is built, its fields have other keys or there are more or fewer, what is assigned to
-/// is not `self` and no field of it, the fields of `self` are read behind an assignment to the whole,
-/// something is shown already or through another name than that of the formatter or of the builder, an
-/// entry has a key of another form, or the result is no truth, no order, nothing that is shown, no value
-/// that is built and none that is made.
-/// What is built of a variant, and a default value by the type of its field, are also `Stuck` where
-/// the place of the variant or of the type is 2^32 or more.
+/// What a body evaluates to over a definition, two values and a table: what it returns, or the value of its
+/// last form; for a body with two parameters, a hasher and its type, what it feeds to the hasher; for one
+/// with fewer in which an assignment or a discard stands, what `self` becomes; and for one that ends in
+/// what it hands to its parameter, a formatter, what this shows. `Stuck` where a name stands for nothing, a
+/// value has no field of that key, no arm or no field of a pattern fits, a path that is not built in, an
+/// expression, a default value or the type of an argument has a name in scope, more than two arguments of a
+/// call count, the table has no answer, a form takes another kind of value, no variant has the name of what
+/// is built, its fields have other keys or there are more or fewer, what is assigned to is not `self` and
+/// no field of it, the fields of `self` are read behind an assignment to the whole, something is shown
+/// already or through another name than that of the formatter or of the builder, an entry has a key of
+/// another form, or the result is no truth, no order, nothing that is shown, no value that is built and
+/// none that is made.
+/// What is built of a variant, and a default value by the type of its field, are also `Stuck` where the
+/// place of the variant or of the type is 2^32 or more.
 pub fn eval<'a>(
     alloc: Global,
     body: &Body,
@@ -61,16 +62,40 @@ pub fn eval<'a>(
         field: None,
     };
     let flow = run_block(alloc, &body.block, env, &stage)?;
-    Ok(ended(&body.params, flow))
+    Ok(ended(&body.params, &body.block, flow))
 }
 
-/// What a body of these parameters comes to.
-fn ended(params: &Names, flow: Flow) -> Outcome
-    ensures { result ≡ meaning.ended params.now flow }
+/// What a body of these parameters and forms comes to.
+fn ended(params: &Names, block: &Forms, flow: Flow) -> Outcome
+    ensures { result ≡ meaning.ended params.now block.now flow }
 {
     match params.as_slice() {
+        [] => changed_or_given(any_assigns(block), flow),
+        [_] => changed_or_given(any_assigns(block), flow),
         [_, _] => parts_of(flow),
         _ => outcome_of(flow),
+    }
+}
+
+/// What `self` becomes, or else the value that is given or returned.
+fn changed_or_given(assigns: bool, flow: Flow) -> Outcome
+    ensures { result ≡ changed_or_given assigns flow }
+{
+    if assigns {
+        own_of(flow)
+    } else {
+        outcome_of(flow)
+    }
+}
+
+/// What `self` becomes.
+fn own_of(flow: Flow) -> Outcome
+    ensures { result ≡ own_of flow }
+{
+    match flow {
+        Flow::Gives(env, _) => own_outcome(env.own),
+        Flow::Returns(env, _) => own_outcome(env.own),
+        Flow::Stuck => Outcome::Stuck,
     }
 }
 
@@ -121,7 +146,6 @@ fn ended_with(env: Env, thing: Thing) -> Outcome
     ensures { result ≡ outcome_of_thing env thing }
 {
     match thing {
-        Thing::Nothing => own_outcome(env.own),
         Thing::Truth(b) => Outcome::Truth(b),
         Thing::Order(o) => Outcome::Order(o),
         Thing::PartialOrder(p) => Outcome::PartialOrder(p),

@@ -5,6 +5,7 @@ mod arguments;
 mod assigning;
 mod calls;
 mod cases;
+mod changing;
 mod environments;
 mod evaluator;
 mod flows;

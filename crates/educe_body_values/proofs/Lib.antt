@@ -1,4 +1,5 @@
 pub mod Rows
+pub mod Changing
 pub mod Steps
 pub mod Tables
 pub mod Fields

@@ -43,18 +43,18 @@ go_on-alike (Returns env thing) next other same = refl
 go_on-alike Stuck next other same = refl
 
 -- the forms that a call or a block holds
-abbrev row_of : Form → (n : Count) × Row_of-Form n
+abbrev pub row_of : Form → (n : Count) × Row_of-Form n
 row_of (Call' path shape row) = (_, row)
 row_of (Block' shape row) = (_, row)
 row_of _ = (_, end_of-Form)
 
 -- the arms that a match holds
-abbrev arms_of : Form → (n : Count) × Row_of-Arm n
+abbrev pub arms_of : Form → (n : Count) × Row_of-Arm n
 arms_of (MatchValue' name shape row) = (_, row)
 arms_of _ = (_, end_of-Arm)
 
 -- the initializers that a value is built of
-abbrev inits_of : Form → (n : Count) × Row_of-Init n
+abbrev pub inits_of : Form → (n : Count) × Row_of-Init n
 inits_of (Construct' name written shape row) = (_, row)
 inits_of _ = (_, end_of-Init)
 
@@ -193,7 +193,7 @@ module _ (scene : Scene) where
   arms_value-items : (env : Env) (n : _) (row : Row_of-Arm n) (value : Value) (referents : List Referent)
       → arms_value scene env row value referents ≡ arms_list scene env (items-the_row-Arm n row) value referents
   arms_value-items env n end_of-Arm value referents = refl
-  arms_value-items env n (more_of-Arm pattern shape row rest) value referents =
+  arms_value-items env n (more_of-Arm pattern braced comma shape row rest) value referents =
       let forms = λ (inner : Env). row_value-items inner _ row Nothing ∙ ap (list_value scene inner Nothing) (sym (items_shown-the_row-Form-0 shape row)) in
       let others = arms_value-items env _ rest value referents in
       λ i. if fits scene.definition pattern value then within env (bindings_of scene.definition pattern value referents) (λ inner. forms inner i) else others i

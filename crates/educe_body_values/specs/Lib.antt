@@ -5,6 +5,7 @@ pub mod Types
 pub mod Cases
 pub mod Matching
 pub mod Constants
+pub mod Changing
 pub mod Meaning
 pub mod PlainTexts
 pub mod BuiltIn

@@ -55,6 +55,7 @@ use Rattle.educe_body_values.specs.declared.flow.Flow.TheVariants.{Gives, Return
 use Rattle.educe_body_values.specs.Answering.{answer_of}
 use Rattle.educe_body_values.specs.Callees.{text_of_path}
 use Rattle.educe_body_values.specs.Cases.{case_named}
+use Rattle.educe_body_values.specs.Changing.{any_assigns}
 use Rattle.educe_body_values.specs.Constants.{key_number}
 use Rattle.educe_body_forms.specs.Keys.{keys_of}
 use Rattle.educe_body_values.specs.Matching.{has_key, fits, bindings_of}
@@ -657,7 +658,7 @@ abbrev mutual
   -- the first arm whose pattern fits, with what the pattern binds of a value whose fields stand for these
   pub arms_value : Scene → Env → {m : _} → Row_of-Arm m → Value → List Referent → Flow
   arms_value scene env end_of-Arm value referents = Stuck
-  arms_value scene env (more_of-Arm pattern shape row rest) value referents =
+  arms_value scene env (more_of-Arm pattern braced comma shape row rest) value referents =
       if fits scene.definition pattern value
       then within env (bindings_of scene.definition pattern value referents) (λ inner. row_value scene inner row Nothing)
       else arms_value scene env rest value referents
@@ -729,9 +730,8 @@ abbrev pub shown_outcome : Option DebugShape → Outcome
 shown_outcome None = OutcomeStuck
 shown_outcome (Some shown) = OutcomeShape shown
 
--- what a body may evaluate to; one that gives nothing is there for what it does to `self`, and one that shows something for that
+-- what a body may evaluate to; one that shows something is there for that
 abbrev pub outcome_of_thing : Env → Thing → Outcome
-outcome_of_thing env Nothing = own_outcome env.own
 outcome_of_thing env (Truth b) = OutcomeTruth b
 outcome_of_thing env (Order o) = OutcomeOrder o
 outcome_of_thing env (PartialOrder p) = OutcomePartialOrder p
@@ -746,16 +746,30 @@ outcome_of (Gives env thing) = outcome_of_thing env thing
 outcome_of (Returns env thing) = outcome_of_thing env thing
 outcome_of Stuck = OutcomeStuck
 
+-- what `self` becomes, whatever is given or returned
+abbrev pub own_of : Flow → Outcome
+own_of (Gives env thing) = own_outcome env.own
+own_of (Returns env thing) = own_outcome env.own
+own_of Stuck = OutcomeStuck
+
 -- what was fed to a hasher, whatever is given or returned
 abbrev pub parts_of : Flow → Outcome
 parts_of (Gives env thing) = OutcomeParts env.parts
 parts_of (Returns env thing) = OutcomeParts env.parts
 parts_of Stuck = OutcomeStuck
 
--- what a body of these parameters comes to: with two, a hasher and its type, it feeds the hasher
-abbrev pub ended : List Word → Flow → Outcome
-ended (state ∷ hasher ∷ []) flow = parts_of flow
-ended params flow = outcome_of flow
+-- what a body comes to that has no hasher: with true, where it assigns, what `self` becomes, and else its result
+abbrev pub changed_or_given : Bool → Flow → Outcome
+changed_or_given true flow = own_of flow
+changed_or_given false flow = outcome_of flow
+
+-- what a body of these parameters and forms comes to: with two, a hasher and its type, it feeds the hasher; with fewer it may be there
+-- for what it does to `self`; and with more it has a result alone
+abbrev pub ended : List Word → List Form → Flow → Outcome
+ended [] block flow = changed_or_given (any_assigns block) flow
+ended (param ∷ []) block flow = changed_or_given (any_assigns block) flow
+ended (state ∷ hasher ∷ []) block flow = parts_of flow
+ended params block flow = outcome_of flow
 
 -- what the parameters of a body stand for: a single one for the other value; of several, none has a value of its own
 abbrev pub param_referent : List Word → Referent
@@ -776,4 +790,4 @@ start params this = record { names = first_bindings params; parts = []; own = fi
 
 -- the value of a body
 abbrev pub value : Body → Scene → Outcome
-value body scene = ended body.params (list_value scene (start body.params scene.this) Nothing body.block)
+value body scene = ended body.params body.block (list_value scene (start body.params scene.this) Nothing body.block)

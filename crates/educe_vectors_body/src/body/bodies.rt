@@ -8,6 +8,8 @@
 //!   which may have no names
 //! - `answer PATH(ARGUMENT, ..)`: a call's answer; `not ..`, its opposite; `some ..`, the answer in `Some`; `test ..`, it
 //!   is tested; `part ..`, it is fed to a hasher
+//! - `assign FIELD = PATH(ARGUMENT)`: what a call makes is assigned to a field of `self`
+//! - `discard NAME`: nothing is done with what a name stands for
 //!
 //! An argument is `self.FIELD`, the place of a variant or a name.
 
@@ -95,12 +97,27 @@ fn path(alloc: Global, text: &str) -> Result<Shared<ExprPath>, Fail> {
     Ok(Shared::new(alloc, path)?)
 }
 
+/// The path of a call, and what stands in its brackets.
+fn call_parts(text: &str) -> Result<(&str, &str), Fail> {
+    let call = text.strip_suffix(')').ok_or(text)?;
+    Ok(call.rsplit_once('(').ok_or(text)?)
+}
+
 /// The call that a text is.
 fn called(alloc: Global, text: &str) -> Result<Form, Fail> {
-    let call = text.strip_suffix(')').ok_or(text)?;
-    let (path_text, list) = call.rsplit_once('(').ok_or(text)?;
+    let (path_text, list) = call_parts(text)?;
     let path = path(alloc, path_text)?;
     Ok(Form::Call(path, arguments(alloc, list)?))
+}
+
+/// What a call makes is assigned to a field of `self`.
+fn assigned(alloc: Global, text: &str) -> Result<Form, Fail> {
+    let (name, call) = text.split_once(" = ").ok_or(text)?;
+    let (path_text, held) = call_parts(call)?;
+    let key = Word::new(ident(alloc, name)?.text);
+    let path = path(alloc, path_text)?;
+    let held = Boxed::new(alloc, argument(alloc, held)?)?;
+    Ok(Form::AssignField(key, path, held, false))
 }
 
 /// The form that does with a call what a word says.
@@ -162,6 +179,8 @@ fn form(alloc: Global, text: &str) -> Result<Form, Fail> {
     match word {
         "text" => pasted(alloc, rest),
         "build" => built(alloc, rest),
+        "assign" => assigned(alloc, rest),
+        "discard" => Ok(Form::Discard(ident(alloc, rest)?)),
         _ => used(alloc, word, called(alloc, rest)?),
     }
 }
@@ -170,7 +189,9 @@ fn form(alloc: Global, text: &str) -> Result<Form, Fail> {
 fn forms(alloc: Global, text: &str) -> Result<Forms, Fail> {
     let mut forms = Seq::new(alloc);
     for part in text.split("; ") {
-        forms.push(form(alloc, part)?)?;
+        if !part.is_empty() {
+            forms.push(form(alloc, part)?)?;
+        }
     }
     Ok(forms)
 }
@@ -178,9 +199,9 @@ fn forms(alloc: Global, text: &str) -> Result<Forms, Fail> {
 /// The body that a text is.
 fn body(alloc: Global, text: &str) -> Result<Body, Fail> {
     let behind = text.strip_prefix('|').ok_or(text)?;
-    let (params, block) = behind.split_once("| ").ok_or(text)?;
+    let (params, block) = behind.split_once('|').ok_or(text)?;
     let params = words(alloc, params)?;
-    let block = forms(alloc, block)?;
+    let block = forms(alloc, block.strip_prefix(' ').unwrap_or(block))?;
     Ok(Body { params, block })
 }
 
@@ -190,7 +211,7 @@ const FIVE: FieldValue = FieldValue { ty: 0, number: 5 };
 /// The second field of the value, and what the text `7` makes.
 const SEVEN: FieldValue = FieldValue { ty: 0, number: 7 };
 
-/// What the text `b` makes.
+/// What the text `b` makes, and the function `made` of the second field.
 const EIGHT: FieldValue = FieldValue { ty: 0, number: 8 };
 
 /// What the text of the call of `Default::default` makes.
@@ -243,6 +264,8 @@ fn answers(alloc: Global) -> Result<Answers, AllocError> {
     for (text, made) in &EXPRESSIONS {
         rows.push(row(alloc, text, None, None, Answer::Made(*made))?)?;
     }
+    let made = Answer::Made(EIGHT);
+    rows.push(row(alloc, "made", Some(SEVEN), None, made)?)?;
     let by_number = true;
     Ok(Answers { rows, by_number })
 }

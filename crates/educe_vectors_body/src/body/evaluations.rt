@@ -208,7 +208,7 @@ struct S { a: u8, b: u8 }
 a body with three parameters is that of no hasher
 struct S { a: u8, b: u8 }
 |state, H, other| part ::core::hash::Hash::hash(self.a, state)
-: Made(0, [FieldValue { ty: 0, number: 5 }, FieldValue { ty: 0, number: 7 }])
+: Stuck
 "#;
 
 #[test]
@@ -281,4 +281,61 @@ struct S { a: u8, b: u8 }
 #[test]
 fn values_are_made_of_their_fields(rt: HostRuntime) -> Result<(), Fail> {
     check_bodies(rt.alloc(), MADE)
+}
+
+static CHANGED: &str = r#"
+one parameter and no forms
+struct S { a: u8, b: u8 }
+|other|
+: Stuck
+
+a block that ends in a test that is false
+struct S { a: u8, b: u8 }
+|other| test ::core::cmp::PartialEq::ne(self.a, self.a)
+: Stuck
+
+a body that assigns to a field
+struct S { a: u8, b: u8 }
+|other| assign a = made(self.b)
+: Made(0, [FieldValue { ty: 0, number: 8 }, FieldValue { ty: 0, number: 7 }])
+
+without a parameter
+struct S { a: u8, b: u8 }
+|| assign a = made(self.b)
+: Made(0, [FieldValue { ty: 0, number: 8 }, FieldValue { ty: 0, number: 7 }])
+
+and gives a truth value
+struct S { a: u8, b: u8 }
+|other| assign a = made(self.b); answer ::core::cmp::PartialEq::ne(self.a, self.b)
+: Made(0, [FieldValue { ty: 0, number: 8 }, FieldValue { ty: 0, number: 7 }])
+
+with two parameters
+struct S { a: u8, b: u8 }
+|state, H| assign a = made(self.b); answer ::core::cmp::PartialEq::ne(self.a, self.b)
+: Parts([])
+
+with three parameters
+struct S { a: u8, b: u8 }
+|x, y, z| assign a = made(self.b); answer ::core::cmp::PartialEq::ne(self.a, self.b)
+: Truth(true)
+
+a return before the assignment
+struct S { a: u8, b: u8 }
+|other| test a::b(self.a, self.b); assign a = made(self.b)
+: Made(0, [FieldValue { ty: 0, number: 5 }, FieldValue { ty: 0, number: 7 }])
+
+an assignment of which the table has no row
+struct S { a: u8, b: u8 }
+|other| assign a = made(self.a)
+: Stuck
+
+a discard and a truth value
+struct S { a: u8, b: u8 }
+|other| discard other; answer a::b(self.a, self.b)
+: Made(0, [FieldValue { ty: 0, number: 5 }, FieldValue { ty: 0, number: 7 }])
+"#;
+
+#[test]
+fn bodies_that_assign_change_the_value(rt: HostRuntime) -> Result<(), Fail> {
+    check_bodies(rt.alloc(), CHANGED)
 }
