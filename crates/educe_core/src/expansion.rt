@@ -82,9 +82,9 @@ fn expanded(alloc: Global, source: &str) -> Result<Expansion, EduceError>
 
 /// The expansion of a definition with `educe` attributes. A source is refused, in this order, where it
 /// does not lex, is no definition within the limits, or gives a name twice; where what the type lists
-/// is wrong; and where an attribute of a listed trait is wrong, two fields have one rank, not one variant
-/// is the default one, or `Debug` has no name to show. Of several causes of one phase any may be reported
-/// (documentation of `educe`, Traits).
+/// is wrong; and where an `educe` attribute of a variant or a field, or what is said of a listed trait, is
+/// wrong, two fields have one rank, not one variant is the default one, or `Debug` has no name to show. Of
+/// several causes of one phase any may be reported (documentation of `educe`, Traits).
 pub fn expand(alloc: Global, source: &str) -> Result<Expansion, EduceError>
     requires { length source.now ≤ 131_072 }
     ensures done { IfOk result (λ e.

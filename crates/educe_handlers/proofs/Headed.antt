@@ -7,7 +7,7 @@ use Rattle.educe_bound_traits.specs.declared.traits.Trait.{Trait}
 use Rattle.educe_bound_traits.specs.Traits.{is_listed}
 use Rattle.educe_handlers.proofs.Lists.{zip_push}
 use Rattle.educe_laws.specs.Handlers.{Noted, IsNoted, AreNoted, handled_of, traits_before, traits_through}
-use Rattle.educe_laws.specs.Headers.{AreOf}
+use Rattle.educe_laws.specs.Headers.{ImplAdds}
 use Rattle.educe_laws.specs.Listed.{listed}
 
 module _ (d : DeriveInput) (which : Trait) (lists : is_listed (listed d) which ≡ true) where
@@ -19,8 +19,8 @@ module _ (d : DeriveInput) (which : Trait) (lists : is_listed (listed d) which �
 
   -- what is noted of it behind what was noted before is what the handler of the next trait asks for
   pub noted_through : (before after : List Noted) (own : Noted) → AreNoted d (traits_before which) before → after ≡ before ++ own ∷ []
-      → own.which ≡ which → AreOf d which own.added → AreNoted d (traits_through which) after
-  noted_through before after own noted pushed which_is added_are =
+      → own.which ≡ which → ImplAdds d which own.added → AreNoted d (traits_through which) after
+  noted_through before after own noted pushed which_is adds =
       subst (λ traits. AllZip (IsNoted d) traits after) (sym handled_through)
       (subst (AllZip (IsNoted d) (handled_of (listed d) (traits_before which) ++ which ∷ [])) (sym pushed)
-      (zip_push (IsNoted d) (handled_of (listed d) (traits_before which)) before which own noted (record { which_is = which_is; added_are = added_are })))
+      (zip_push (IsNoted d) (handled_of (listed d) (traits_before which)) before which own noted (record { which_is = which_is; adds = adds })))

@@ -22,7 +22,7 @@ use std::alloc::Global;
 /// wrong, or memory fails.
 pub fn bound_of_type(alloc: Global, task: Task<'_, '_>) -> Result<Bound, Stop>
     requires { task.listed.now ≡ listing.listed task.ast.now }
-    ensures ok { IfOk result (λ bound. bound ≡ settings.bound_for task.entry.which task.entry.ast.now) }
+    ensures ok { IfOk result (settings.IsBoundOf task.entry.which task.entry.ast.now) }
     ensures uncaused { IfOk result (λ _. NoCause (OfPlace task.entry.which (rows.type_row task.entry.which task.entry.ast.now) (listing.listed task.entry.ast.now) task.entry.ast.now.attrs)) }
     ensures err { IfErr result (λ s. OfStop (OfPlace task.entry.which (rows.type_row task.entry.which task.entry.ast.now) (listing.listed task.entry.ast.now) task.entry.ast.now.attrs) s) }
 {
@@ -38,7 +38,7 @@ pub fn checked_bound(alloc: Global, task: Task<'_, '_>) -> Result<Bound, Stop>
     requires fieldwise { IsTrue (rows.is_fieldwise task.which) }
     requires unranked { rows.is_order task.which ≡ false }
     requires other { same_trait task.which Clone ≡ false }
-    ensures ok { IfOk result (λ bound. bound ≡ settings.bound_for task.entry.which task.entry.ast.now) }
+    ensures ok { IfOk result (settings.IsBoundOf task.entry.which task.entry.ast.now) }
     ensures uncaused { IfOk result (λ _. NoCause (OfHandler (handling task.entry.ast.now) task.entry.which)) }
     ensures err { IfErr result (λ s. OfStop (OfHandler (handling task.entry.ast.now) task.entry.which) s) }
 {

@@ -3,15 +3,13 @@ ghost use Rattle.std.specs.Prelude.{◌≡◌, ◌≤◌, ◌^◌, Bool, IsTrue,
 ghost use Rattle.std.specs.List.{AllByRecursion};
 ghost use Rattle.educe_tokens.specs.Prefix.{HasPrefix};
 ghost use Rattle.educe_syntax.specs.Shape.{Shape};
-ghost use Rattle.educe_syntax.specs.Refusal.{IsDefinition};
-ghost use Rattle.educe_bound.specs.Predicates.{keys_of};
 ghost use Rattle.educe_bound_traits.specs.declared.traits.Trait.{Trait};
 ghost use Rattle.educe_attrs.specs.Causes.{NoCause, OfStop};
 ghost use Rattle.educe_attrs.specs.Phases.{OfHandler};
 ghost use Rattle.educe_laws.specs.Blocks.{IsBlock, EachEvaluates};
 ghost use Rattle.educe_laws.specs.Handled.{handling};
 ghost use Rattle.educe_laws.specs.Handlers.{IsReady, AddsBlock, AddsMeaning, AreNoted, traits_through};
-ghost use Rattle.educe_laws.specs.Headers.{AreOf};
+ghost use Rattle.educe_laws.specs.Headers.{ImplAdds};
 
 use educe_attrs::Stop;
 use educe_body::Items;
@@ -21,7 +19,7 @@ use educe_syntax::{DeriveInput, Predicates};
 use std::alloc::Global;
 
 /// The handler of a trait, or a part of one, which takes definitions of one shape. It has no values: what
-/// it does depends on the definition and on what is listed alone.
+/// it does depends on the definition, on what is listed, and on what the context notes.
 pub trait TraitHandler {
     /// The trait whose items are made.
     const TRAIT: Trait;
@@ -42,7 +40,7 @@ pub trait TraitHandler {
         ensures block { IfOk result (λ found. IsBlock TRAIT ast.now found.0) }
         // Its functions evaluate to what the trait means, where the tokens are as few as a `usize` can count.
         ensures means { IfOk result (λ found. length ast.now.tokens ≤ 2 ^ 64 → AllByRecursion (EachEvaluates ast.now) found.0) }
-        ensures added { IfOk result (λ found. AreOf ast.now TRAIT (keys_of found.1)) }
+        ensures added { IfOk result (λ found. ImplAdds ast.now TRAIT found.1) }
         // It refuses exactly where a cause stands, or memory fails.
         ensures uncaused { IfOk result (λ _. NoCause (OfHandler (handling ast.now) TRAIT)) }
         ensures err { IfErr result (λ s. OfStop (OfHandler (handling ast.now) TRAIT) s) };
@@ -61,8 +59,8 @@ pub trait TraitHandler {
         requires takes { IsTrue (takes ast.now.shape) }
         ensures kept { HasPrefix items.old items.new }
         ensures adds { OnOk result (AddsBlock TRAIT ast.now items.old items.new) }
-        // Its functions evaluate to what the trait means, where the definition is one that a text gives.
-        ensures means { IsDefinition ast.now.tokens ast.now → OnOk result (AddsMeaning ast.now items.old items.new) }
+        // Its functions evaluate to what the trait means.
+        ensures means { OnOk result (AddsMeaning ast.now items.old items.new) }
         // The context is the one that the handler of the next trait asks for.
         ensures notes { OnOk result (AreNoted ast.now (traits_through TRAIT) ctx.new) }
         ensures unnoted { OnErr result (ctx.new ≡ ctx.old) }

@@ -1,9 +1,13 @@
 //! The headers of impls: their generic parameters and where clauses.
 ghost use Rattle.std.specs.Prelude.{◌≡◌, ◌++◌, ◌&&◌, IfOk};
-ghost use Rattle.educe_bound.specs.Predicates.{keys_of, exceptions_of, AreByBound, lifetimes_first};
+ghost use Rattle.std.specs.List.{AllByRecursion};
+ghost use Rattle.educe_syntax.specs.Readings.{IsReadType};
+ghost use Rattle.educe_syntax.specs.Refusal.{IsDefinition};
+ghost use Rattle.educe_bound.specs.Predicates.{keys_of, exceptions_of, AreByBound, AreRead, IsReadBound, lifetimes_first};
+ghost use Rattle.educe_bound_classes.specs.Needs.{AreNames};
 ghost use Rattle.educe_handlers.specs.Adding.{Adds};
 ghost use Rattle.educe_handlers.specs.SeenTypes.{read_of, touched_of};
-ghost use Rattle.educe_laws.specs.Handlers.{IsReady, inherited_from};
+ghost use Rattle.educe_laws.specs.Handlers.{IsReady, AreNotedRead, inherited_from};
 ghost use Rattle.educe_laws.specs.Headers as spec;
 ghost use Rattle.educe_laws.specs.Rows as rows;
 ghost use Rattle.educe_laws.specs.Settings as settings;
@@ -46,8 +50,9 @@ fn own_predicates(
     bound: &Bound,
     types: &SeenTypes<'_>,
 ) -> Result<Predicates, AllocError>
-    ensures { let which = task.entry.which in let ast = task.entry.ast.now in
+    ensures keys { let which = task.entry.which in let ast = task.entry.ast.now in
         IfOk result (λ found. AreByBound bound.now (exceptions_of which) ast.generics.params ast.ident.text which (touched_of types.now) (keys_of found)) }
+    ensures read { IsReadBound bound.now → AreNames task.entry.ast.now.generics.params → AllByRecursion IsReadType (touched_of types.now) → IfOk result AreRead }
 {
     let exceptions = exceptions_of(task.which);
     bound.into_where_predicates_by_generic_parameters_check_types(
@@ -75,7 +80,8 @@ fn copy_predicates(
     types: &SeenTypes<'_>,
     copied: bool,
 ) -> Result<Predicates, AllocError>
-    ensures { IfOk result (λ found. spec.ArePacked copied bound.now ast.now (read_of types.now) (keys_of found)) }
+    ensures keys { IfOk result (λ found. spec.ArePacked copied bound.now ast.now (read_of types.now) (keys_of found)) }
+    ensures read { AreNames ast.now.generics.params → AllByRecursion IsReadType (read_of types.now) → IfOk result AreRead }
 {
     if copied {
         bound.packed_copy_predicates(alloc, &ast.generics.params, &types.read, &ast.ident)
@@ -94,10 +100,13 @@ fn added(
     copied: bool,
     ctx: &TraitHandlerContext,
 ) -> Result<Predicates, AllocError>
-    requires bound { bound.now ≡ settings.bound_for task.which task.ast.now }
+    requires is_read { IsDefinition task.ast.now.tokens task.ast.now }
+    requires bound { settings.IsBoundOf task.which task.ast.now bound.now }
     requires types { AreTypes task.which task.ast.now (read_of types.now) (touched_of types.now) }
     requires copied { spec.AreCopied task.ast.now copied }
-    ensures { IfOk result (λ all. Adds task.entry.which task.entry.ast.now (inherited_from ctx.now (spec.prerequisites task.entry.which)) (keys_of all)) }
+    requires noted { AreNotedRead ctx.now }
+    ensures adds { IfOk result (λ all. Adds task.entry.which task.entry.ast.now (inherited_from ctx.now (spec.prerequisites task.entry.which)) (keys_of all)) }
+    ensures read { IfOk result AreRead }
 {
     let by_copies = are_copied(task.which, copied);
     let mut all = own_predicates(alloc, task, bound, types)?;
@@ -131,11 +140,11 @@ pub fn header_of(
     ctx: &TraitHandlerContext,
 ) -> Result<Header, AllocError>
     requires ready { IsReady task.which task.ast.now task.listed.now ctx.now }
-    requires bound { bound.now ≡ settings.bound_for task.which task.ast.now }
+    requires bound { settings.IsBoundOf task.which task.ast.now bound.now }
     requires types { AreTypes task.which task.ast.now (read_of types.now) (touched_of types.now) }
     requires copied { spec.AreCopied task.ast.now copied }
     ensures generics { IfOk result (λ header. spec.IsHeader task.entry.which task.entry.ast.now header.generics) }
-    ensures added { IfOk result (λ header. spec.AreOf task.entry.ast.now task.entry.which (keys_of header.added)) }
+    ensures added { IfOk result (λ header. spec.ImplAdds task.entry.ast.now task.entry.which header.added) }
 {
     let added = added(alloc, task, bound, types, copied, ctx)?;
     let generics = generics_with(alloc, &task.ast.generics, &added)?;

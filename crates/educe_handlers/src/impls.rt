@@ -1,11 +1,10 @@
 //! The impl of a trait that is next, with its header.
 ghost use Rattle.std.specs.Prelude.{◌≡◌, [], ◌∷◌, IfOk};
-ghost use Rattle.educe_bound.specs.Predicates.{keys_of};
 ghost use Rattle.educe_handlers.specs.SeenTypes.{read_of, touched_of};
 ghost use Rattle.educe_laws.specs.Blocks.{IsImpl, IsImplBlock};
 ghost use Rattle.educe_laws.specs.Handlers.{IsReady};
-ghost use Rattle.educe_laws.specs.Headers.{AreOf};
-ghost use Rattle.educe_laws.specs.Settings.{bound_for};
+ghost use Rattle.educe_laws.specs.Headers.{ImplAdds};
+ghost use Rattle.educe_laws.specs.Settings.{IsBoundOf};
 ghost use Rattle.educe_laws.specs.Types.{AreTypes};
 
 use crate::header::{Header, header_of, is_copied};
@@ -30,10 +29,10 @@ pub fn impl_of(
     ctx: &TraitHandlerContext,
 ) -> Result<(ImplItem, Predicates), AllocError>
     requires ready { IsReady task.which task.ast.now task.listed.now ctx.now }
-    requires bound { bound.now ≡ bound_for task.which task.ast.now }
+    requires bound { IsBoundOf task.which task.ast.now bound.now }
     requires types { AreTypes task.which task.ast.now (read_of types.now) (touched_of types.now) }
     ensures item { IfOk result (λ made. IsImpl task.entry.which task.entry.ast.now (λ own. own ≡ functions) made.0) }
-    ensures added { IfOk result (λ made. AreOf task.entry.ast.now task.entry.which (keys_of made.1)) }
+    ensures added { IfOk result (λ made. ImplAdds task.entry.ast.now task.entry.which made.1) }
 {
     let copied = is_copied(alloc, task.ast)?;
     let Header { generics, added } = header_of(alloc, task, bound, types, copied, ctx)?;
@@ -60,10 +59,10 @@ pub fn impl_block(
     ctx: &TraitHandlerContext,
 ) -> Result<(Items, Predicates), AllocError>
     requires ready { IsReady task.which task.ast.now task.listed.now ctx.now }
-    requires bound { bound.now ≡ bound_for task.which task.ast.now }
+    requires bound { IsBoundOf task.which task.ast.now bound.now }
     requires types { AreTypes task.which task.ast.now (read_of types.now) (touched_of types.now) }
     ensures block { IfOk result (λ made. IsImplBlock task.entry.which task.entry.ast.now (λ own. own ≡ functions) made.0) }
-    ensures added { IfOk result (λ made. AreOf task.entry.ast.now task.entry.which (keys_of made.1)) }
+    ensures added { IfOk result (λ made. ImplAdds task.entry.ast.now task.entry.which made.1) }
 {
     let (item, added) = impl_of(alloc, task, bound, types, functions, ctx)?;
     let items = impl_alone(alloc, item)?;

@@ -6,7 +6,7 @@ use Rattle.educe_bound_classes.specs.Deriving.{Extends}
 use Rattle.educe_bound_traits.specs.Traits.{same_trait}
 use Rattle.educe_laws.specs.Handlers.{Noted, noted_of, inherited_from}
 use Rattle.educe_bound_traits.specs.declared.traits.Trait.{Trait}
-use Rattle.educe_bound.specs.Predicates.{Key}
+use Rattle.educe_bound.specs.Predicates.{Key, keys_of}
 
 -- a list that is extended by one list and then by another is extended by both
 pub extended_both : {K : Type 0} {known first middle second all : List K} → Extends known first middle → Extends middle second all → Extends known (first ++ second) all
@@ -31,7 +31,7 @@ noted_of-other : (which : Trait) (n : Noted) (ns : List Noted) → same_trait n.
 noted_of-other which n ns other = rw other
 
 -- and one that is noted of the trait is found
-noted_of-same : (which : Trait) (n : Noted) (ns : List Noted) → same_trait n.which which ≡ true → noted_of which (n ∷ ns) ≡ n.added
+noted_of-same : (which : Trait) (n : Noted) (ns : List Noted) → same_trait n.which which ≡ true → noted_of which (n ∷ ns) ≡ keys_of n.added
 noted_of-same which n ns is = rw is
 
 -- a search that has passed over what is noted of other traits, at one more
@@ -43,6 +43,6 @@ noted_passed which noted i d n less item other before =
 
 -- and at what is noted of the trait
 pub noted_found : (which : Trait) (noted : List Noted) (i : ℕ) (d n : Noted) → i < length noted → n ≡ get_or noted i d → same_trait n.which which ≡ true
-    → noted_of which noted ≡ noted_of which (drop i noted) → noted_of which noted ≡ n.added
+    → noted_of which noted ≡ noted_of which (drop i noted) → noted_of which noted ≡ keys_of n.added
 noted_found which noted i d n less item is before =
     before ∙ ap (noted_of which) (drop-cons noted i d less ∙ ap (λ first. first ∷ drop (suc i) noted) (sym item)) ∙ noted_of-same which n (drop (suc i) noted) is

@@ -1,7 +1,8 @@
 //! What handlers note for those that follow.
 ghost use Rattle.std.specs.Prelude.{◌≡◌, [], ◌∷◌, ◌++◌, OnOk, OnErr};
+ghost use Rattle.educe_tokens.specs.Prefix.{HasPrefix};
 ghost use Rattle.educe_bound_classes.specs.Deriving.{Extends};
-ghost use Rattle.educe_bound.specs.Predicates.{keys_of};
+ghost use Rattle.educe_bound.specs.Predicates.{keys_of, AreRead};
 ghost use Rattle.educe_bound_traits.specs.Traits as traits;
 ghost use Rattle.educe_laws.specs.Handlers as spec;
 
@@ -20,18 +21,17 @@ pub struct Noted {
 }
 
 impl Model for Noted {
-    ghost use Rattle.educe_bound.specs.Predicates.{keys_of};
     ghost use Rattle.educe_laws.specs.Handlers as spec;
 
     ghost Value = { spec.Noted };
 
-    ghost view = { λ noted. record { which = noted.which; added = keys_of noted.predicates } };
+    ghost view = { λ noted. record { which = noted.which; added = noted.predicates } };
 }
 
 impl Noted {
     /// What is noted of a trait.
     fn new(which: Trait, predicates: Predicates) -> Noted
-        ensures { result ≡ record { which = which; added = keys_of predicates } }
+        ensures { result ≡ record { which = which; added = predicates } }
     {
         Noted { which, predicates }
     }
@@ -45,7 +45,9 @@ impl Noted {
 
     /// Appends, one after the other, those of the predicates that are not there yet.
     fn add_to(&self, alloc: Global, own: &mut Predicates) -> Result<(), AllocError>
-        ensures { OnOk result (Extends (keys_of own.old) self.now.added (keys_of own.new)) }
+        ensures ok { OnOk result (Extends (keys_of own.old) (keys_of self.now.added) (keys_of own.new)) }
+        ensures kept { HasPrefix own.old own.new }
+        ensures read { AreRead own.old → AreRead self.now.added → OnOk result (AreRead own.new) }
     {
         extend_where_predicates(alloc, own, &self.predicates)
     }
@@ -83,7 +85,7 @@ impl TraitHandlerContext {
         which: Trait,
         predicates: Predicates,
     ) -> Result<(), AllocError>
-        ensures ok { OnOk result (self.new ≡ self.old ++ record { which = which; added = keys_of predicates } ∷ []) }
+        ensures ok { OnOk result (self.new ≡ self.old ++ record { which = which; added = predicates } ∷ []) }
         ensures err { OnErr result (self.new ≡ self.old) }
     {
         self.noted.push(Noted::new(which, predicates))
@@ -91,7 +93,9 @@ impl TraitHandlerContext {
 
     /// Appends the predicates that are noted of a trait, as far as they are not there yet.
     fn inherit(&self, alloc: Global, which: Trait, own: &mut Predicates) -> Result<(), AllocError>
-        ensures { OnOk result (Extends (keys_of own.old) (spec.noted_of which self.now) (keys_of own.new)) }
+        ensures ok { OnOk result (Extends (keys_of own.old) (spec.noted_of which self.now) (keys_of own.new)) }
+        ensures kept { HasPrefix own.old own.new }
+        ensures read { spec.AreNotedRead self.now → AreRead own.old → OnOk result (AreRead own.new) }
     {
         for noted in self.noted.as_slice() {
             if noted.is_of(which) {
@@ -110,6 +114,8 @@ impl TraitHandlerContext {
         own: &mut Predicates,
     ) -> Result<(), AllocError>
         ensures ok { OnOk result (Extends (keys_of own.old) (spec.inherited_from self.now prerequisites.now) (keys_of own.new)) }
+        ensures kept { HasPrefix own.old own.new }
+        ensures read { spec.AreNotedRead self.now → AreRead own.old → OnOk result (AreRead own.new) }
     {
         for which in prerequisites {
             self.inherit(alloc, *which, own)?;

@@ -1,7 +1,8 @@
 //! The traits whose predicates an impl inherits.
 ghost use Rattle.std.specs.Prelude.{◌≡◌, OnOk};
-ghost use Rattle.educe_bound.specs.Predicates.{keys_of};
-ghost use Rattle.educe_laws.specs.Handlers.{inherited_from};
+ghost use Rattle.educe_tokens.specs.Prefix.{HasPrefix};
+ghost use Rattle.educe_bound.specs.Predicates.{keys_of, AreRead};
+ghost use Rattle.educe_laws.specs.Handlers.{AreNotedRead, inherited_from};
 ghost use Rattle.educe_laws.specs.Headers as spec;
 
 use crate::context::TraitHandlerContext;
@@ -31,7 +32,9 @@ pub fn inherit(
     ctx: &TraitHandlerContext,
     own: &mut Predicates,
 ) -> Result<(), AllocError>
-    ensures { OnOk result (spec.Inherits bound.now (keys_of own.old) (inherited_from ctx.now (spec.prerequisites which)) (keys_of own.new)) }
+    ensures ok { OnOk result (spec.Inherits bound.now (keys_of own.old) (inherited_from ctx.now (spec.prerequisites which)) (keys_of own.new)) }
+    ensures kept { HasPrefix own.old own.new }
+    ensures read { AreNotedRead ctx.now → AreRead own.old → OnOk result (AreRead own.new) }
 {
     match bound {
         Bound::Disabled => Ok(()),

@@ -10,7 +10,7 @@ use Rattle.educe_syntax.specs.Variant.{Variant}
 use Rattle.educe_bound_traits.specs.declared.traits.Trait.TheVariants as trait
 use Rattle.educe_body_values.specs.Cases.{case_of_shape}
 use Rattle.educe_body_forms.specs.Keys.{AreDifferent}
-use Rattle.educe_body_values.specs.Meaning.{Scene, for_field, first_bindings, own_fields, look_up, local_flow, leave, within, form_value, list_value, outcome_of, outcome_of_thing}
+use Rattle.educe_body_values.specs.Meaning.{Scene, for_field, first_bindings, own_fields, look_up, local_flow, leave, within, form_value, list_value, outcome_of, outcome_of_thing, own_of}
 use Rattle.educe_body_values.specs.Scoping.{IsApart}
 use Rattle.educe_body_values.specs.declared.answers.Answers.{Answers}
 use Rattle.educe_body_values.specs.declared.environment.Binding.{Binding}
@@ -49,7 +49,6 @@ AreAllKept d variants = AllByRecursion (λ v. AreKept trait.Clone d (fields_in v
 
 -- what a body evaluates to does not depend on the names in scope
 thing_left : (env : Env) (names : List Binding) (thing : Thing) → outcome_of_thing (record env { names = names }) thing ≡ outcome_of_thing env thing
-thing_left env names Nothing = refl
 thing_left env names Shown = refl
 thing_left env names thing = refl
 
@@ -58,6 +57,12 @@ pub outcome_left : (names : List Binding) (flow : Flow) → outcome_of (leave na
 outcome_left names (Gives env thing) = thing_left env (take (length names) env.names) thing
 outcome_left names (Returns env thing) = thing_left env (take (length names) env.names) thing
 outcome_left names Stuck = refl
+
+-- and so with what `self` becomes
+pub own_left : (names : List Binding) (flow : Flow) → own_of (leave names flow) ≡ own_of flow
+own_left names (Gives env thing) = refl
+own_left names (Returns env thing) = refl
+own_left names Stuck = refl
 
 -- what is there where a test holds
 if_some : {X : Type 0} (b : Bool) (o : Option X) (x : X) → (if b then o else None) ≡ Some x → (b ≡ true) × (o ≡ Some x)

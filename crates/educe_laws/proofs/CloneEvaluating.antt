@@ -1,5 +1,5 @@
 -- The functions of the blocks of `Clone` and of `Copy` evaluate to what they mean.
-use Rattle.std.proofs.Common.{◌≡◌, ◌≢◌, ◌≤◌, ◌^◌, ◌↔◌, Bool, true, false, List, [], ◌∷◌, Some, length, refl, sym, ap, ◌∙◌, subst}
+use Rattle.std.proofs.Common.{◌≡◌, ◌≢◌, ◌≤◌, ◌^◌, ◌↔◌, Bool, true, false, List, [], ◌∷◌, Some, None, length, refl, sym, ap, ◌∙◌, subst}
 use Rattle.std.specs.Prelude.{IsTrue, if◌then◌else◌, codes}
 use Rattle.std.specs.List.{AllByRecursion, flat_map}
 use Rattle.std.proofs.lemmas.Bool.{false≢true}
@@ -15,7 +15,8 @@ use Rattle.educe_syntax.specs.Variant.{Variant}
 use Rattle.educe_bound_traits.specs.declared.traits.Trait.{Trait}
 use Rattle.educe_bound_traits.specs.declared.traits.Trait.TheVariants as trait
 use Rattle.educe_attrs.specs.Fields.{HaveNoCauses}
-use Rattle.educe_body_values.specs.Meaning.{first_bindings, start, form_value, list_value, outcome_of, ended, value}
+use Rattle.educe_body_values.specs.Changing.{assigns}
+use Rattle.educe_body_values.specs.Meaning.{first_bindings, start, form_value, list_value, outcome_of, own_of, changed_or_given, ended, value}
 use Rattle.educe_body_forms.specs.declared.body.Body.{Body}
 use Rattle.educe_body_items.specs.declared.items.Function.{Function}
 use Rattle.educe_body_items.specs.declared.items.Item.{Item}
@@ -36,6 +37,7 @@ use Rattle.educe_laws.specs.Listed.{listed}
 use Rattle.educe_laws.specs.Making.{HasOneForm, placed_value}
 use Rattle.educe_laws.specs.Rows.{field_row}
 use Rattle.educe_laws.specs.Settings.{is_kept, kept_fields}
+use Rattle.educe_laws.specs.Steps.{of_base}
 use Rattle.educe_laws.proofs.AllKept.{AreKept}
 use Rattle.educe_laws.proofs.Arms.{is_of}
 use Rattle.educe_laws.proofs.CloneEnums.{AreAllKept, enum_clones}
@@ -45,6 +47,7 @@ use Rattle.educe_laws.proofs.Elements.{each_joined, each_apart}
 use Rattle.educe_laws.proofs.Fitting.{enum_of, struct_fits, are_fit, function_means, none_evaluate, markers_evaluate}
 use Rattle.educe_laws.proofs.FromEnums.{enum_clones_from}
 use Rattle.educe_laws.proofs.Making.{one_form}
+use Rattle.educe_laws.proofs.Still.{still_clone, still_clones, from_assigns}
 use Rattle.educe_laws.proofs.Structs.{names_for, env_of}
 use Rattle.educe_laws.proofs.Unignored.{all_kept}
 
@@ -83,7 +86,7 @@ module _ (d : DeriveInput) (is : IsDefinition d.tokens d) (small : length d.toke
   copying_clones : copies_whole d ≡ true → (body : Body) → HasOneForm (λ x. x ≡ form.WholeCopy) body → Clones d body
   copying_clones copies body k table a other found has means =
       let meant : Some (Made a) ≡ Some found = ap (λ (b : Bool). if b then Some (Made a) else placed_value a.variant (fields_cloned table (valued trait.Clone d a))) (sym copies) ∙ means in
-      one_form (scene_with d a other table) body k.form found k.params_are k.block_is
+      one_form (scene_with d a other table) body k.form found k.params_are k.block_is (ap assigns k.form_is)
       (ap (λ (x : Form). outcome_of (form_value (scene_with d a other table) (env_of a (first_bindings [])) x)) k.form_is ∙ same_Some (Made a) found meant)
 
   module _ (names : CloneNames) (are : AreCloneNames d names) where
@@ -98,20 +101,22 @@ module _ (d : DeriveInput) (is : IsDefinition d.tokens d) (small : length d.toke
         by_shape (Struct shape) same block =
             let fits = struct_fits trait.Clone d is small uncaused shape same in
             one_form (scene_with d a other table) body block.form found k.params_are block.block_is
+            (still_clone d (of_base block.copied (codes "self")) None shape block.form block.form_is)
             (struct_clones d shape body.block same fits.differ fits.methods (struct_every shape.fields (ap shape_fields same)) block table a other found has meant)
         by_shape (Enum []) same block = absurd (is_of d [] (enum_of d is small [] same) a has).inside
         by_shape (Enum (v ∷ vs)) same block =
             one_form (scene_with d a other table) body (MatchValue block.value block.arms) found k.params_are block.block_is
+            (still_clones d names (v ∷ vs) body.block block)
             (enum_clones d (v ∷ vs) (are_fit trait.Clone d is small uncaused (v ∷ vs) same) (enum_every (v ∷ vs) same) names are table a other has body.block block found meant)
 
     -- the body of `clone_from`
     body_clones_from : (body : Body) → IsFromBody d names body → ClonesFrom d body
     body_clones_from body k table a b copied found copied_are has_a has_b means =
-        (λ i. ended (k.params_are i) (list_value (scene_of d a b table) (start (k.params_are i) (Some a)) Nothing body.block))
-        ∙ (λ i. outcome_of (list_value (scene_of d a b table) (env_of a (names_for (k.param_is i))) Nothing body.block)) ∙ by_shape d.shape refl k.block_is
+        (λ i. ended (k.params_are i) body.block (list_value (scene_of d a b table) (start (k.params_are i) (Some a)) Nothing body.block))
+        ∙ (λ i. changed_or_given (from_assigns d names d.shape body.block k.block_is i) (list_value (scene_of d a b table) (env_of a (names_for (k.param_is i))) Nothing body.block)) ∙ by_shape d.shape refl k.block_is
       where
         by_shape : (shape : Shape) → d.shape ≡ shape → IsFromBlockFor d names shape body.block
-            → outcome_of (list_value (scene_of d a b table) (env_of a (names_for names.source)) Nothing body.block) ≡ found
+            → own_of (list_value (scene_of d a b table) (env_of a (names_for names.source)) Nothing body.block) ≡ found
         by_shape (Struct shape) same block =
             let fits = struct_fits trait.Clone d is small uncaused shape same in
             let steps = subst (λ (copied : Bool). AreAssignments copied names.source (kept_fields trait.Clone d shape.fields) body.block)

@@ -13,7 +13,7 @@ use Rattle.educe_syntax.specs.Shape.TheVariants.{Struct}
 use Rattle.educe_bound_traits.specs.declared.traits.Trait.TheVariants as trait
 use Rattle.educe_body_values.specs.Cases.{case_of_shape}
 use Rattle.educe_body_forms.specs.Keys.{AreDifferent, shape_fields, keys_from, keys_of}
-use Rattle.educe_body_values.specs.Meaning.{Scene, for_field, first_bindings, look_up, part_flow, go_on, place_named, field_named, discarded, assign, form_value, list_value, outcome_of}
+use Rattle.educe_body_values.specs.Meaning.{Scene, for_field, first_bindings, look_up, part_flow, go_on, place_named, field_named, discarded, assign, form_value, list_value, outcome_of, own_of}
 use Rattle.educe_body_values.specs.Scoping.{IsApart, own_self}
 use Rattle.educe_body_values.specs.declared.answers.Answers.{Answers}
 use Rattle.educe_body_values.specs.declared.environment.Binding.{Binding}
@@ -112,7 +112,7 @@ module _ (d : DeriveInput) (names : CloneNames) (are : AreCloneNames d names) (t
   -- so it means
   pub struct_clones_from : (shape : FieldShape) (block : List Form) → d.shape ≡ Struct shape → AreDifferent (keys_of d) → HaveOwnMethods trait.Clone d shape.fields → AreKept trait.Clone d shape.fields
       → AreAssignments copied names.source (kept_fields trait.Clone d shape.fields) block → (found : Outcome) → HasShape d a → HasShape d b → clone_from_of table copied d a b ≡ Some found
-      → outcome_of (list_value scene (env_of a outer) Nothing block) ≡ found
+      → own_of (list_value scene (env_of a outer) Nothing block) ≡ found
   struct_clones_from shape block is differ own all steps found has_a has_b means =
       let fs = shape.fields in
       let kept = kept_fields trait.Clone d fs in
@@ -131,6 +131,6 @@ module _ (d : DeriveInput) (names : CloneNames) (are : AreCloneNames d names) (t
       let given_b = each_given at_b (settings_of trait.Clone d) 0 fs b.fields of_b.give in
       let known = each_weaker (λ k. In k kept) (λ k. IsGiven at_b k × IsNamed (keys_of d) k)
       (λ k found. (In-all (IsGiven at_b) kept k given_b found, In-all (IsNamed (keys_of d)) kept k named found)) kept (each_in kept) in
-      ap (λ (fields : List FieldValue). outcome_of (list_value scene (env_of (record a { fields = fields }) outer) Nothing block)) (sym (kept_values trait.Clone d at_a fs a.fields all of_a.give))
-      ∙ ap outcome_of (block_value kept block of.values steps (kept_in_place trait.Clone d fs all) own known made)
+      ap (λ (fields : List FieldValue). own_of (list_value scene (env_of (record a { fields = fields }) outer) Nothing block)) (sym (kept_values trait.Clone d at_a fs a.fields all of_a.give))
+      ∙ ap own_of (block_value kept block of.values steps (kept_in_place trait.Clone d fs all) own known made)
       ∙ of.is

@@ -10,7 +10,7 @@ use Rattle.std.proofs.lemmas.Map.Lookups.{exact_signed}
 use Rattle.std.proofs.lemmas.Option.{none-some}
 use Rattle.educe_syntax.specs.DeriveInput.{DeriveInput}
 use Rattle.educe_syntax.specs.Variant.{Variant}
-use Rattle.educe_body_values.specs.Meaning.{Scene, form_value, list_value, go_on, leave, start, some_of, order_thing, order_match, held_list, outcome_of, ended}
+use Rattle.educe_body_values.specs.Meaning.{Scene, form_value, list_value, go_on, leave, start, some_of, order_thing, order_match, held_list, outcome_of, changed_or_given, ended}
 use Rattle.educe_body_values.specs.declared.answers.Answers.{Answers}
 use Rattle.educe_body_forms.specs.declared.body.Body.{Body}
 use Rattle.educe_bound_traits.specs.declared.traits.Trait.TheVariants as trait
@@ -38,6 +38,7 @@ use Rattle.educe_laws.proofs.Elements.{In-found, In-all}
 use Rattle.educe_laws.proofs.Facts.{AreFit, unit_has_none, IsOuter}
 use Rattle.educe_laws.proofs.KeyFunctions.{keyed, outer_values, outer_keyed, number_at, keys_value, keys_compared}
 use Rattle.educe_laws.proofs.Meanings.{same_case}
+use Rattle.educe_laws.proofs.Still.{still_enum}
 use Rattle.educe_laws.proofs.Structs.{names_for, env_of}
 
 -- ---- numbers
@@ -191,8 +192,8 @@ equal_value d variants fit names are table a b covers block k = by_variant (a.va
 -- the body of a comparison of an enum evaluates to what it means
 pub enum_evaluates : (which : Comparison) (d : DeriveInput) (variants : List Variant) (body : Body) → AreFit (trait_of which) d variants → IsEnumBody which d variants body → Compares which d body
 enum_evaluates which d variants body fit k table a b covers =
-    (λ i. ended (k.params_are i) (list_value (scene_of d a b table) (start (k.params_are i) (Some a)) Nothing body.block))
-    ∙ (λ i. outcome_of (list_value (scene_of d a b table) (env_of a (names_for (k.param_is i))) Nothing body.block))
+    (λ i. ended (k.params_are i) body.block (list_value (scene_of d a b table) (start (k.params_are i) (Some a)) Nothing body.block))
+    ∙ (λ i. changed_or_given (still_enum which d k.names variants body.block k.block_is i) (list_value (scene_of d a b table) (env_of a (names_for (k.param_is i))) Nothing body.block))
     ∙ by_trait which variants fit k.block_is covers
   where
     by_trait : (which : Comparison) (variants : List Variant) (fit : AreFit (trait_of which) d variants) → IsEnumBlock which d k.names variants body.block → (covers : Covers which table d a b)

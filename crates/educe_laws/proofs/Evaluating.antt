@@ -21,7 +21,7 @@ use Rattle.educe_laws.proofs.Enums.{enum_evaluates}
 use Rattle.educe_laws.proofs.Fitting.{struct_fits, are_fit, impl_evaluates}
 use Rattle.educe_laws.proofs.KeyFunctions.{constants_are}
 use Rattle.educe_laws.proofs.Structs.{scope_apart, struct_evaluates}
-use Rattle.educe_laws.proofs.Variables.{arm_scope}
+use Rattle.educe_laws.proofs.Variables.{arm_scope, key_scope}
 
 -- what a function of a comparison evaluates to is what its trait means
 of_comparison : (which : Comparison) (d : DeriveInput) (f : Function) → Compares which d f.body → Evaluates (trait_of which) d f
@@ -50,6 +50,7 @@ pub lawful_comparisons : ComparisonLaws
 lawful_comparisons = record {
   scope = scope_apart;
   arm_scope = arm_scope;
+  key_scope = key_scope;
   constants = constants_are;
   evaluates = λ which d items is small uncaused block. block_evaluates which d is small uncaused items block;
 }

@@ -11,7 +11,7 @@ use Rattle.educe_bound_traits.specs.declared.traits.Trait.TheVariants as trait
 use Rattle.educe_body_values.specs.Answering.{answer_of}
 use Rattle.educe_body_forms.specs.Keys.{AreDifferent}
 use Rattle.educe_body_values.specs.Matching.{variant_of, fits}
-use Rattle.educe_body_values.specs.Meaning.{Scene, own_fields, whole_value, look_up, local_flow, with_named, go_on, within, or_nothing, with_own, if_made, assigned, assign, form_value, list_value, held_list, taken, if_let_value, outcome_of}
+use Rattle.educe_body_values.specs.Meaning.{Scene, own_fields, whole_value, look_up, local_flow, with_named, go_on, within, or_nothing, with_own, if_made, assigned, assign, form_value, list_value, held_list, taken, if_let_value, own_of}
 use Rattle.educe_body_values.specs.Scoping.{IsApart}
 use Rattle.educe_body_values.specs.declared.answers.Answers.{Answers}
 use Rattle.educe_body_values.specs.declared.callee.BuiltIn.TheVariants.{Clone}
@@ -41,7 +41,7 @@ use Rattle.educe_laws.specs.Making.{value_made}
 use Rattle.educe_laws.specs.Settings.{Kept, plainly, settings_of, kept_fields}
 use Rattle.educe_laws.proofs.AllKept.{AreKept, kept_in_place, kept_values}
 use Rattle.educe_laws.proofs.Arms.{look_in, IsOf, is_of, places_bound, values_bound, apart_at, fits_own, fits_no_other, arms_placed, arm_at, self_matched, go_on-end}
-use Rattle.educe_laws.proofs.CloneEnums.{AreAllKept, outcome_left}
+use Rattle.educe_laws.proofs.CloneEnums.{AreAllKept, own_left}
 use Rattle.educe_laws.proofs.CloneNames.{self_found, own_names, both_names, own_self_found, own_source_found, place_found, value_found, own_hides_none, both_hide_none}
 use Rattle.educe_laws.proofs.CloneSteps.{all_made, whole_made, means_by, one_call, Assigns, steps_value}
 use Rattle.educe_laws.proofs.Elements.{In, In-all, each_in, zip_weaker}
@@ -131,40 +131,40 @@ module _ (d : DeriveInput) (variants : List Variant) (fit : AreFit trait.Clone d
     inner_or_else t = if t then taken scene behind is.inner is.steps b (map Bound b.fields) else or_nothing behind (held_list scene (Some (is.whole ∷ [])))
 
     -- an arm comes to one of these
-    arm_is : outcome_of (taken scene env arm.pattern arm.block a (own_fields 0 a.fields)) ≡ outcome_of (inner_or_else (fits d is.inner b))
+    arm_is : own_of (taken scene env arm.pattern arm.block a (own_fields 0 a.fields)) ≡ own_of (inner_or_else (fits d is.inner b))
     arm_is =
         let others = Some (is.whole ∷ []) in
         let next = if_let_value scene behind is.inner is.steps others in
-        ap (λ (o : Option (List Binding)). outcome_of (within env o (λ inner. list_value scene inner Nothing arm.block)))
+        ap (λ (o : Option (List Binding)). own_of (within env o (λ inner. list_value scene inner Nothing arm.block)))
         (places_bound names.own at_a (settings_of trait.Clone d) d v a arm.pattern of_a.found of_a.give is.own_is)
-        ∙ outcome_left env.names (list_value scene behind Nothing arm.block)
-        ∙ ap (λ (forms : List Form). outcome_of (list_value scene behind Nothing forms)) is.block_is
-        ∙ ap outcome_of (go_on-end (form_value scene behind (IfLet is.inner is.value is.steps others))
+        ∙ own_left env.names (list_value scene behind Nothing arm.block)
+        ∙ ap (λ (forms : List Form). own_of (list_value scene behind Nothing forms)) is.block_is
+        ∙ ap own_of (go_on-end (form_value scene behind (IfLet is.inner is.value is.steps others))
         ∙ lawful_forms.if_let scene behind is.inner is.value is.steps others
         ∙ ap (λ (text : List ℕ). with_named scene behind (look_up behind.names text) next) is.value_is.is
         ∙ ap (λ (o : Option Referent). with_named scene behind o next) (own_source_found d names are kept differ))
 
     -- the steps leave `self` with what is made of each field
     arm_same : variant_of d b ≡ Some v → FieldsGive at_b 0 (fields_in v) b.fields → (values : List FieldValue) → fields_cloned_from table false (map (seen at_a at_b) kept) ≡ Some values
-        → outcome_of (inner_or_else true) ≡ Made (record a { fields = values })
+        → own_of (inner_or_else true) ≡ Made (record a { fields = values })
     arm_same found_b give_b values made =
         let all = In-all (λ (v : Variant). AreKept trait.Clone d (fields_in v)) variants v every of_a.inside in
         let own = In-all (λ (v : Variant). HaveOwnMethods trait.Clone d (fields_in v)) variants v fit.methods of_a.inside in
         let assigns = zip_weaker (λ k. In k kept) (IsThrough names) (Assigns scene false inner d.tokens apart a at_a at_b) is_assigning kept is.steps (each_in kept) is.steps_are in
-        ap (λ (o : Option (List Binding)). outcome_of (within behind o (λ inner. list_value scene inner Nothing is.steps)))
+        ap (λ (o : Option (List Binding)). own_of (within behind o (λ inner. list_value scene inner Nothing is.steps)))
         (values_bound names.sources at_b (settings_of trait.Clone d) d v b is.inner found_b give_b is.inner_is)
-        ∙ outcome_left behind.names (list_value scene (env_of a inner) Nothing is.steps)
-        ∙ ap (λ (fields : List FieldValue). outcome_of (list_value scene (env_of (record a { fields = fields }) inner) Nothing is.steps)) (sym (kept_values trait.Clone d at_a (fields_in v) a.fields all of_a.give))
-        ∙ ap outcome_of (steps_value scene false inner d.tokens apart a at_a at_b [] kept is.steps values (kept_in_place trait.Clone d (fields_in v) all) assigns own made)
+        ∙ own_left behind.names (list_value scene (env_of a inner) Nothing is.steps)
+        ∙ ap (λ (fields : List FieldValue). own_of (list_value scene (env_of (record a { fields = fields }) inner) Nothing is.steps)) (sym (kept_values trait.Clone d at_a (fields_in v) a.fields all of_a.give))
+        ∙ ap own_of (steps_value scene false inner d.tokens apart a at_a at_b [] kept is.steps values (kept_in_place trait.Clone d (fields_in v) all) assigns own made)
 
     -- the `else` makes it what is made of the source
-    arm_other : (w : FieldValue) → value_made (answer_of table callee.Clone source None) ≡ Some w → outcome_of (inner_or_else false) ≡ Whole w
+    arm_other : (w : FieldValue) → value_made (answer_of table callee.Clone source None) ≡ Some w → own_of (inner_or_else false) ≡ Whole w
     arm_other w made =
-        outcome_left behind.names (list_value scene behind Nothing (is.whole ∷ []))
-        ∙ ap outcome_of (go_on-end (form_value scene behind is.whole) ∙ whole_assigned is.whole w is.whole_is made)
+        own_left behind.names (list_value scene behind Nothing (is.whole ∷ []))
+        ∙ ap own_of (go_on-end (form_value scene behind is.whole) ∙ whole_assigned is.whole w is.whole_is made)
 
     -- it is what is meant
-    arm_means : (found : Outcome) (same : Bool) → (a.variant == b.variant) ≡ same → clone_from_of table false d a b ≡ Some found → outcome_of (inner_or_else (fits d is.inner b)) ≡ found
+    arm_means : (found : Outcome) (same : Bool) → (a.variant == b.variant) ≡ same → clone_from_of table false d a b ≡ Some found → own_of (inner_or_else (fits d is.inner b)) ≡ found
     arm_means found true test means =
         let same = eqb-true a.variant b.variant test in
         let one : of_b.variant ≡ v = same_Some of_b.variant v (sym of_b.at ∙ ap (slice_get variants) (sym same) ∙ of_a.at) in
@@ -173,21 +173,21 @@ module _ (d : DeriveInput) (variants : List Variant) (fit : AreFit trait.Clone d
         let with_looks : paired trait.Clone d a b ≡ map (seen at_a at_b) kept =
         ap (λ (all : List Field). paired_from trait.Clone d 0 all a.fields b.fields) of_a.case_is ∙ paired-seen at_a at_b trait.Clone d 0 (fields_in v) a.fields b.fields of_a.give give_b in
         let of = all_made a.variant (fields_cloned_from table false (paired trait.Clone d a b)) found (means_by table false d a b found true test means) in
-        ap (λ (t : Bool). outcome_of (inner_or_else t)) (fits_own d b v found_b is.inner is.inner_is.variant_is)
+        ap (λ (t : Bool). own_of (inner_or_else t)) (fits_own d b v found_b is.inner is.inner_is.variant_is)
         ∙ arm_same found_b give_b of.values (ap (fields_cloned_from table false) (sym with_looks) ∙ of.made) ∙ of.is
     arm_means found false test means =
         let differs : a.variant ≡ b.variant → ⊥ = λ same. false≢true (sym test ∙ eq-eqb a.variant b.variant same) in
         let made = whole_made (value_made (answer_of table callee.Clone source None)) found (means_by table false d a b found false test means) in
-        ap (λ (t : Bool). outcome_of (inner_or_else t))
+        ap (λ (t : Bool). own_of (inner_or_else t))
         (fits_no_other d b of_b.variant of_b.found v is.inner is.inner_is.variant_is (apart_at variants a.variant b.variant v of_b.variant fit.enum.names of_a.at of_b.at differs))
         ∙ arm_other made.0 made.1 ∙ made.2
 
   -- so the match leaves `self` as it is meant
   pub enum_clones_from : (block : List Form) → IsMatchOnSelf (IsFromArm d names) variants block → (found : Outcome) → clone_from_of table false d a b ≡ Some found
-      → outcome_of (list_value scene env Nothing block) ≡ found
+      → own_of (list_value scene env Nothing block) ≡ found
   enum_clones_from block m found means =
       let picked = arm_at (λ _. IsFromArm d names) (λ place w arm is. is.own_is.variant_is) scene env a (own_fields 0 a.fields) v of_a.found 0 variants m.arms a.variant
       (arms_placed (IsFromArm d names) 0 variants m.arms m.arms_are) fit.enum.names of_a.at in
-      ap (λ (forms : List Form). outcome_of (list_value scene env Nothing forms)) m.block_is
-      ∙ ap outcome_of (go_on-end (form_value scene env (MatchValue m.value m.arms)) ∙ self_matched scene env a refl (self_found d names are) m.value m.arms m.value_is.is ∙ picked.value_is)
+      ap (λ (forms : List Form). own_of (list_value scene env Nothing forms)) m.block_is
+      ∙ ap own_of (go_on-end (form_value scene env (MatchValue m.value m.arms)) ∙ self_matched scene env a refl (self_found d names are) m.value m.arms m.value_is.is ∙ picked.value_is)
       ∙ arm_is picked.arm picked.is ∙ arm_means picked.arm picked.is found (a.variant == b.variant) refl means

@@ -87,7 +87,7 @@ module _ (d : DeriveInput) (names : HashNames) (are : AreHashNames d names) wher
 pub begins : (scene : Scene) (names : HashNames) (body : Body) (k : AreHashParams names body.params)
     → value body scene ≡ parts_of (list_value scene (at (outer names) [] (first_own scene.this)) Nothing body.block)
 begins scene names body k =
-    (λ i. ended (k.are i) (list_value scene (start (k.are i) scene.this) Nothing body.block))
+    (λ i. ended (k.are i) body.block (list_value scene (start (k.are i) scene.this) Nothing body.block))
     ∙ (λ i. parts_of (list_value scene (at (hash_scope (k.state_is i) (k.hasher_is i)) [] (first_own scene.this)) Nothing body.block))
 
 -- ---- structs

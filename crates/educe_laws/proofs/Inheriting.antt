@@ -7,10 +7,10 @@ use Rattle.std.proofs.lemmas.Map.Views.{any-filter_same}
 use Rattle.educe_syntax.specs.DeriveInput.{DeriveInput}
 use Rattle.educe_bound_traits.specs.declared.traits.Trait.{Trait}
 use Rattle.educe_bound_traits.specs.declared.traits.Trait.TheVariants as trait
-use Rattle.educe_bound.specs.Predicates.{Key}
+use Rattle.educe_bound.specs.Predicates.{Key, keys_of}
 use Rattle.educe_bound_traits.specs.Traits.{is_listed, same_trait}
 use Rattle.educe_bound_traits.proofs.Apart.{same_is}
-use Rattle.educe_laws.specs.Handlers.{traits_before, handled_of, Noted, IsNoted, AreNoted, noted_of, inherited_from}
+use Rattle.educe_laws.specs.Handlers.{traits_before, handled_of, Noted, IsNoted, AreNoted, AreNotedRead, noted_of, inherited_from}
 use Rattle.educe_laws.specs.Headers.{AreOf, AreInherited, from_none, unlisted, from_listed, prerequisites}
 use Rattle.educe_laws.specs.Listed.{listed}
 use Rattle.educe_laws.proofs.Elements.{each_weaker}
@@ -26,8 +26,8 @@ handled_is traits done which =
 
 module _ (d : DeriveInput) (which : Trait) where
   -- a note of this trait has what its impl adds; one of another is passed over
-  noted_step : (n : Noted) (t : Trait) (rest : List Key) (b : Bool) → same_trait n.which which ≡ b → IsNoted d t n → (b ≡ false → AreOf d which rest) → AreOf d which (if b then n.added else rest)
-  noted_step n t rest true same is later = subst (λ own. AreOf d own n.added) (sym is.which_is ∙ (same_is n.which which).0 same) is.added_are
+  noted_step : (n : Noted) (t : Trait) (rest : List Key) (b : Bool) → same_trait n.which which ≡ b → IsNoted d t n → (b ≡ false → AreOf d which rest) → AreOf d which (if b then keys_of n.added else rest)
+  noted_step n t rest true same is later = subst (λ own. AreOf d own (keys_of n.added)) (sym is.which_is ∙ (same_is n.which which).0 same) is.adds.are
   noted_step n t rest false apart is later = later refl
 
   -- a note of this trait is that of the handler of this trait
@@ -47,7 +47,7 @@ module _ (d : DeriveInput) (which : Trait) where
       ])
 
   -- where a note is of another trait, nothing is noted if nothing is behind it
-  none_step : (n : Noted) (rest : List Key) (b : Bool) → (b ≡ true → ⊥) → rest ≡ [] → (if b then n.added else rest) ≡ []
+  none_step : (n : Noted) (rest : List Key) (b : Bool) → (b ≡ true → ⊥) → rest ≡ [] → (if b then keys_of n.added else rest) ≡ []
   none_step n rest true apart none = absurd (apart refl)
   none_step n rest false apart none = none
 
@@ -99,3 +99,12 @@ pub trait_inherits : (which : Trait) (d : DeriveInput) (noted : List Noted) → 
 trait_inherits which d noted are =
     let Done : Trait → Type 0 = λ t. is_listed (listed d) t ≡ true → is_listed (traits_before which) t ≡ true in
     all_inherited d (traits_before which) noted are (prerequisites which) (each_weaker (IsBefore which) Done (λ t before lists. before) (prerequisites which) (all_before which))
+
+-- ---- readings
+
+-- what handlers note is read
+pub noted_read : (d : DeriveInput) (handled : List Trait) (noted : List Noted) → AllZip (IsNoted d) handled noted → AreNotedRead noted
+noted_read d [] [] are = tt
+noted_read d [] (n ∷ ns) are = absurd are
+noted_read d (t ∷ ts) [] are = absurd are
+noted_read d (t ∷ ts) (n ∷ ns) are = (are.0.adds.read, noted_read d ts ns are.1)

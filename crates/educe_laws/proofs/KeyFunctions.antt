@@ -154,7 +154,7 @@ pub constants_are : (table : Answers) (d : DeriveInput) (ty : DiscriminantType) 
 constants_are table d ty numbers constants have is k =
     let cs = counted d in
     let reads = each_weaker (λ (c : Counted). In c cs) (λ (c : Counted). ReadsBase table [] c.written) (λ c found. plain_base table c.written) cs (each_in cs) in
-    numbers_are table [] ty k.base cs constants (each_numbered table [] ty k.base cs numbers reads have.are (have.in_range ty is)) k.each ∙ have.are
+    numbers_are table [] ty k.names.base cs constants (each_numbered table [] ty k.names.base cs numbers reads have.are (have.in_range ty is)) k.each ∙ have.are
 
 -- ---- what is counted
 

@@ -3,6 +3,7 @@ pub mod Rising
 pub mod Least
 pub mod Pairing
 pub mod Stepping
+pub mod Still
 pub mod Meanings
 pub mod Structs
 pub mod OwnTexts
@@ -18,6 +19,9 @@ pub mod ShownFields
 pub mod ShownCauses
 pub mod Refused
 pub mod Choosing
+pub mod TraitTypes
+pub mod ReadBounds
+pub mod ReadHeaders
 pub mod Bounding
 pub mod Fitting
 pub mod Evaluating

@@ -44,7 +44,8 @@ use Rattle.educe_body_values.specs.declared.value.Value.{Value}
 use Rattle.educe_body_values.specs.Answering.{answer_of}
 use Rattle.educe_body_values.specs.Callees.{spellings}
 use Rattle.educe_body_values.specs.Cases.{case_at, variant_named, case_of_shape, case_named}
-use Rattle.educe_body_values.specs.Meaning.{Scene, first_bindings, start, go_on, answer_flow, call_named, with_case, built, if_made, for_field, form_value, inits_list, list_value, outcome_of, ended, value}
+use Rattle.educe_body_values.specs.Changing.{assigns}
+use Rattle.educe_body_values.specs.Meaning.{Scene, first_bindings, start, go_on, answer_flow, call_named, with_case, built, if_made, for_field, form_value, inits_list, list_value, outcome_of, changed_or_given, ended, value}
 use Rattle.educe_body_values.specs.Scoping.{is_ident, is_hidden, is_bound, names_bound}
 use Rattle.educe_body_values.specs.Types.{type_spellings, default_call, text_callee}
 use Rattle.educe_body_values.proofs.Fields.{bytes_eq-differ}
@@ -54,6 +55,7 @@ use Rattle.educe_laws.specs.Defaults.{Choice, by_value, of_struct, of_variant, f
 use Rattle.educe_laws.specs.Making.{spelled, text_called, type_called, called_by, called_for, value_made, made_by, made_with, fields_made, value_of, case_made, whole_of, outcome_by, default_outcome, scene_without, MakesDefault, default_tokens, field_tokens, IsPasted, IsInit, IsConstruct, IsMaking, IsDefaultBody, self_tokens, IsNewBody, MakesNew}
 use Rattle.educe_laws.proofs.Arms.{key_fits, apart_first}
 use Rattle.educe_laws.proofs.Choosing.{Fits, chosen_fits}
+use Rattle.educe_laws.proofs.Still.{still_one, still_pasted, still_making}
 
 -- ---- calls
 
@@ -163,10 +165,12 @@ inits_give scene this (f ∷ fs) (i ∷ inits) values next are made =
 
 -- ---- what is built
 
--- a form that gives a value is a body that evaluates to it
-pub one_form : (scene : Scene) (body : Body) (x : Form) (found : Outcome) → body.params ≡ [] → body.block ≡ x ∷ [] → outcome_of (form_value scene (start [] scene.this) x) ≡ found → value body scene ≡ found
-one_form scene body x found params block is =
-    (λ i. ended (params i) (list_value scene (start (params i) scene.this) Nothing (block i)))
+-- a form that gives a value, and in which no assignment stands, is a body that evaluates to it
+pub one_form : (scene : Scene) (body : Body) (x : Form) (found : Outcome) → body.params ≡ [] → body.block ≡ x ∷ [] → assigns x ≡ false → outcome_of (form_value scene (start [] scene.this) x) ≡ found
+    → value body scene ≡ found
+one_form scene body x found params block still is =
+    (λ i. ended (params i) (block i) (list_value scene (start (params i) scene.this) Nothing (block i)))
+    ∙ ap (λ (b : Bool). changed_or_given b (list_value scene (start [] scene.this) Nothing (x ∷ []))) (still_one x (x ∷ []) refl still)
     ∙ ap outcome_of (ends (form_value scene (start [] scene.this) x)) ∙ is
   where
     ends : (flow : Flow) → go_on flow (λ env thing. Gives env thing) ≡ flow
@@ -261,11 +265,11 @@ module _ (d : DeriveInput) (apart : AreNamesApart d) (table : Answers) (this oth
 
   default_evaluates : (body : Body) (k : IsDefaultBody d body) (found : Outcome) → default_outcome table d ≡ Some found → value body scene ≡ found
   default_evaluates body k found means =
-      one_form scene body k.body_has.form found k.body_has.params_are k.body_has.block_is
+      one_form scene body k.body_has.form found k.body_has.params_are k.body_has.block_is (still_making d k.choice k.body_has.form k.body_has.form_is)
       (choice_gives k.choice k.body_has.form found (chosen_fits d k.choice k.choice_is) k.body_has.form_is (ap (outcome_by table d) (sym k.choice_is) ∙ means))
 
   new_evaluates : (body : Body) (k : IsNewBody body) (found : Outcome) → whole_of (made_by table (text_called self_tokens)) ≡ Some found → value body scene ≡ found
-  new_evaluates body k found means = one_form scene body k.form found k.params_are k.block_is (whole_gives self_tokens k.form found k.form_is means)
+  new_evaluates body k found means = one_form scene body k.form found k.params_are k.block_is (still_pasted self_tokens k.form k.form_is) (whole_gives self_tokens k.form found k.form_is means)
 
 -- the body of `default` evaluates to what `default` means
 pub makes_default : (d : DeriveInput) → AreNamesApart d → (body : Body) → IsDefaultBody d body → MakesDefault d body

@@ -11,8 +11,8 @@ use Rattle.educe_grammar.specs.Parsed.{depth_limit, IsWhole}
 use Rattle.educe_grammar.specs.Reading.{Parses}
 use Rattle.educe_grammar.specs.Rules.{Rule, lone, types, part}
 use Rattle.educe_grammar.proofs.Inherited.{Each, Inherits, inherits_any, inherits_empty, inherits_made, inherits_first, inherits_second, inherits_skipping, inherits_leaving, inherits_either, inherits_sliced, inherits_list, inherits_nest}
+use Rattle.educe_grammar.proofs.OfDefinitions.{type_tokens}
 use Rattle.educe_grammar.proofs.Unrolling.{parts_unroll}
-use Rattle.educe_syntax_self.proofs.Visiting.{type_tokens}
 use Rattle.educe_syntax.specs.DeriveInput.{DeriveInput}
 use Rattle.educe_syntax.specs.Few.{shape_fields, all_fields}
 use Rattle.educe_syntax.specs.Field.{Field}

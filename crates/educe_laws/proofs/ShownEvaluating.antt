@@ -15,7 +15,7 @@ use Rattle.educe_body_forms.specs.declared.body.Body.{Body}
 use Rattle.educe_body_forms.specs.declared.form.Form.{Form}
 use Rattle.educe_body_items.specs.declared.items.Function.{Function}
 use Rattle.educe_body_items.specs.declared.items.Item.{Item}
-use Rattle.educe_body_values.specs.Meaning.{start, list_value, outcome_of, ended}
+use Rattle.educe_body_values.specs.Meaning.{start, list_value, outcome_of, changed_or_given, ended}
 use Rattle.educe_body_values.specs.declared.answers.Answers.{Answers}
 use Rattle.educe_body_values.specs.declared.environment.Referent.TheVariants.{Helper}
 use Rattle.educe_body_values.specs.declared.outcome.Outcome.TheVariants.{Shape as OutcomeShape}
@@ -37,6 +37,7 @@ use Rattle.educe_laws.proofs.ShownScope.{outer}
 use Rattle.educe_laws.proofs.ShownSteps.{HasOwnTexts}
 use Rattle.educe_laws.proofs.ShownStructs.{struct_shows}
 use Rattle.educe_laws.proofs.Stepping.{HasOwnPath}
+use Rattle.educe_laws.proofs.Still.{still_helper}
 use Rattle.educe_laws.proofs.Structs.{env_of, names_for}
 
 -- ---- the texts of a definition
@@ -101,8 +102,9 @@ module _ (d : DeriveInput) (is : IsDefinition d.tokens d) (small : length d.toke
   -- and the body
   body_shows : (body : Body) → IsDebugBody d names body → Shows d body
   body_shows body k table a other has =
-      (λ i. ended (k.params_are i) (list_value (scene_with d a other table) (start (k.params_are i) (Some a)) Nothing body.block))
-      ∙ (λ i. outcome_of (list_value (scene_with d a other table) (env_of a (names_for (k.param_is i))) Nothing body.block))
+      (λ i. ended (k.params_are i) body.block (list_value (scene_with d a other table) (start (k.params_are i) (Some a)) Nothing body.block))
+      ∙ (λ i. changed_or_given (still_helper d names (uses_map d) d.shape k.forms body.block k.forms_are k.block_is i)
+      (list_value (scene_with d a other table) (env_of a (names_for (k.param_is i))) Nothing body.block))
       ∙ block_shows (uses_map d) body.block k.forms refl k.block_is k.forms_are table a other has
 
 -- the functions of the block of `Debug` evaluate to what they mean

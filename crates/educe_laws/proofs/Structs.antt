@@ -33,7 +33,7 @@ use Rattle.educe_body_forms.specs.declared.form.Form as form
 use Rattle.educe_body.specs.Chosen.{underscored}
 use Rattle.educe_body_forms.specs.Keys.{AreDifferent, key_of, keys_from, shape_fields, fields_of, keys_of}
 use Rattle.educe_body_values.specs.Laws.{KeysGive}
-use Rattle.educe_body_values.specs.Meaning.{Scene, start, innermost, look_up, part_of, part_flow, reference_value, read_flow, form_value, list_value, outcome_of, ended}
+use Rattle.educe_body_values.specs.Meaning.{Scene, start, innermost, look_up, part_of, part_flow, reference_value, read_flow, form_value, list_value, outcome_of, changed_or_given, ended}
 use Rattle.educe_body_values.specs.Scoping.{IsApart, own_self, apart}
 use Rattle.educe_body.specs.Words.{HasWord}
 use Rattle.educe_laws.specs.Settings.{Kept, settings_of, kept_fields}
@@ -49,6 +49,7 @@ use Rattle.educe_laws.proofs.Least.{first_where}
 use Rattle.educe_laws.proofs.Meanings.{each_in_order, means_in_order, same_case, steps_ended}
 use Rattle.educe_laws.proofs.Pairing.{Look, FieldsGive, value_in, IsGiven, seen, paired-seen, each_given, length_from_types}
 use Rattle.educe_laws.proofs.Stepping.{HasOwnPath, steps-value, Reads, read_steps}
+use Rattle.educe_laws.proofs.Still.{still_struct}
 
 -- ---- the parameter
 
@@ -210,7 +211,9 @@ struct_evaluates which d shape body is differ named k table a b covers =
     let each = covers.each same in
     let known = each_map Known (seen at_a at_b) kept (subst (AllByRecursion Known) paired each) in
     let none : (v : Value) → discriminant_of table d v ≡ None = λ v. ap (λ (s : Shape). flat (slice_get (map (discriminant table) (counted_from None 0 (shape_variants s))) v.variant)) is in
-    (λ i. ended (k.params_are i) (list_value (scene_of d a b table) (start (k.params_are i) (Some a)) Nothing (k.block_has.block_is i)))
+    (λ i. ended (k.params_are i) body.block (list_value (scene_of d a b table) (start (k.params_are i) (Some a)) Nothing body.block))
+    ∙ (λ i. changed_or_given (still_struct which (of_base k.copied (codes "self")) (of_base k.copied k.param.text) k.ordered body.block k.block_has i)
+    (list_value (scene_of d a b table) (start (k.param ∷ []) (Some a)) Nothing (k.block_has.block_is i)))
     ∙ steps_value d a b table k.param.text k.param_is which k.copied k.ordered k.block_has.steps k.block_has.steps_are
     (each_in_order (trait_of which) (λ k. HasOwnPath d.tokens k.how) kept k.ordered k.ordered_is named)
     (each_in_order (trait_of which) (IsGiven at_a) kept k.ordered k.ordered_is (each_given at_a (settings_of (trait_of which) d) 0 fs a.fields of_a.give))

@@ -444,3 +444,7 @@ module _ (d : DeriveInput) (names : Names) (are : AreNames d names) where
 pub arm_scope : (which : Comparison) (d : DeriveInput) (names : Names) (fields : List Field) → AreNames d names → AreNamesApart (field_names fields) → length fields ≤ 2 ^ 64
     → AreScoped d (names.other ∷ names.discriminant ∷ variables names.own (trait_of which) d fields ++ variables names.others (trait_of which) d fields)
 arm_scope which d names fields are distinct few = names_scoped d names are (kept_fields (trait_of which) d fields) (fields_different (trait_of which) d fields distinct few)
+
+-- so are those in the scope of a key function
+pub key_scope : (d : DeriveInput) (names : Names) → AreNames d names → AreScoped d (chosen_names names)
+key_scope d names are = chosen_scoped d plain_names (chosen_names names) are.are are_plain

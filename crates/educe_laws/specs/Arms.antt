@@ -137,6 +137,11 @@ IsPattern which definition prefix variant pattern = IsPatternBy prefix variant (
 
 -- ---- arms
 
+-- an arm has braces around its block, or none, and a comma behind it, or none
+pub record IsSpelled (braced comma : Bool) (arm : Arm) : Type 0 where
+  pub braced_is : arm.braced ≡ braced
+  pub comma_is : arm.comma ≡ comma
+
 -- one arm for each variant, of which the first has this place
 abbrev pub AreArms : (ℕ → Variant → Arm → Type 0) → ℕ → List Variant → List Arm → Type 0
 AreArms IsOwn place [] [] = Unit {0}
@@ -160,8 +165,9 @@ IsOtherwise PartialOrd others = others ≡ None
 IsOtherwise Ord others = others ≡ None
 
 -- the arm of a variant: the pattern for the value of `self`; and behind it, if the other value is of this variant, one step for
--- each field that takes part, in the order of the trait, on its two variables
+-- each field that takes part, in the order of the trait, on its two variables; it has braces and no comma
 pub record IsArm (which : Comparison) (definition : DeriveInput) (names : Names) (variant : Variant) (arm : Arm) : Type 0 where
+  pub spelled : IsSpelled true false arm
   pub own_is : IsPattern (trait_of which) definition names.own variant arm.pattern
   pub inner : Pattern
   pub inner_is : IsPattern (trait_of which) definition names.others variant inner
@@ -215,10 +221,12 @@ pub record IsConstant (ty : DiscriminantType) (base : List ℕ) (c : Counted) (c
   pub value_is : IsBase c.written constant.value
   pub distance_is : IsDistance ty base c.distance constant.distance
 
--- the constants of the variants of a definition, in written order; what a distance is added to has one name in all
+-- The constants of the variants of a definition, in written order. What a distance is added to has the name that is chosen for it in
+-- the functions of an enum.
 pub record AreConstants (definition : DeriveInput) (ty : DiscriminantType) (constants : List Constant) : Type 0 where
-  pub base : List ℕ
-  pub each : AllZip (IsConstant ty base) (counted definition) constants
+  pub names : Names
+  pub names_are : AreNames definition names
+  pub each : AllZip (IsConstant ty names.base) (counted definition) constants
 
 -- the numbers of the constants, where no name is in scope, are these
 abbrev pub AreNumbers : Answers → List ℤ → List Constant → Type 0

@@ -9,10 +9,8 @@ use Rattle.educe_syntax.specs.DeriveInput.{DeriveInput}
 use Rattle.educe_syntax.specs.Generics.{Generics}
 use Rattle.educe_syntax.specs.Steps.{Tokens}
 use Rattle.educe_syntax.specs.Ty.{Ty}
-use Rattle.educe_syntax.specs.Types.{any_type}
 use Rattle.educe_syntax_self.specs.Heads.{head_for}
-use Rattle.educe_syntax_self.specs.Splicing.{replaced_in}
-use Rattle.educe_syntax_self.specs.Visits.{AreReplaced}
+use Rattle.educe_syntax_self.specs.Visits.{IsVisitedType, AreVisitedGenerics}
 use Rattle.educe_attrs.specs.Lints.{lints}
 use Rattle.educe_body_items.specs.declared.items.CheckItem.{CheckItem}
 use Rattle.educe_laws.specs.Arms.{AreChosenFor}
@@ -35,10 +33,6 @@ pub record IsHeadFor (definition : DeriveInput) (head : Tokens) : Type 0 where
   pub is : lexemes head ≡ head_for definition
   pub nowhere : LieNowhere head
 
--- the tokens of the new type are those of the old one, with the head in place of each `Self` that a path begins with
-abbrev pub IsReplacedType : Tokens → Ty → Ty → Type 0
-IsReplacedType head old new = new.written.tokens ≡ replaced_in any_type head old.written.tokens
-
 -- ---- checks
 
 -- A check of these types, with these generics, and with the head of the definition in place of each `Self` that a path of them begins
@@ -48,6 +42,6 @@ pub record IsCheck (definition : DeriveInput) (generics : Generics) (types : Lis
   pub attributes_are : written_lexemes check.attributes ≡ lints definition.attrs
   pub head : Tokens
   pub head_is : IsHeadFor definition head
-  pub generics_are : AreReplaced head generics check.generics
-  pub types_are : AllZip (IsReplacedType head) types check.types
+  pub generics_are : AreVisitedGenerics head generics check.generics
+  pub types_are : AllZip (IsVisitedType head) types check.types
   pub names_are : AreChosenFor definition plain_names (texts_of check.names)

@@ -21,7 +21,7 @@ use Rattle.educe_body_forms.specs.declared.form.Arm.{Arm}
 use Rattle.educe_body_forms.specs.declared.form.Form.{Form, Local, Call, Construct, IfLet, Unreachable, Discard, AssignField, AssignThrough}
 use Rattle.educe_body_forms.specs.declared.form.Init.{Init}
 use Rattle.educe_body_forms.specs.declared.pattern.Pattern.{Pattern}
-use Rattle.educe_laws.specs.Arms.{AreChosenFor, IsName, IsKey, IsPattern, IsMatchOnSelf}
+use Rattle.educe_laws.specs.Arms.{AreChosenFor, IsName, IsKey, IsPattern, IsMatchOnSelf, IsSpelled}
 use Rattle.educe_laws.specs.Cases.{fields_in}
 use Rattle.educe_laws.specs.Headers.{AreCopied}
 use Rattle.educe_laws.specs.Settings.{Kept, How, plainly, by_method, by_order, kept_fields}
@@ -79,8 +79,9 @@ pub record IsCloneStruct (definition : DeriveInput) (shape : FieldShape) (block 
   pub form_is : IsCloneConstruct definition (of_base copied (codes "self")) None shape form
   pub block_is : block ≡ form ∷ []
 
--- the arm of a variant in `clone`: the variant, of its variables
+-- the arm of a variant in `clone`: the variant, of its variables, without braces and with a comma behind it
 pub record IsCloneArm (definition : DeriveInput) (names : CloneNames) (variant : Variant) (arm : Arm) : Type 0 where
+  pub spelled : IsSpelled false true arm
   pub pattern_is : IsPattern trait.Clone definition names.sources variant arm.pattern
   pub form : Form
   pub form_is : IsCloneConstruct definition (bound names.sources) (Some variant.ident.text) variant.fields form
@@ -162,8 +163,9 @@ pub record IsWhole (source : List ℕ) (x : Form) : Type 0 where
   pub is : x ≡ AssignThrough target path (Local name) false
 
 -- the arm of a variant in `clone_from`: if the source is of this variant, one step for each field, in written order; else `self`
--- becomes a clone of the source as a whole
+-- becomes a clone of the source as a whole; it has braces and a comma
 pub record IsFromArm (definition : DeriveInput) (names : CloneNames) (variant : Variant) (arm : Arm) : Type 0 where
+  pub spelled : IsSpelled true true arm
   pub own_is : IsPattern trait.Clone definition names.own variant arm.pattern
   pub inner : Pattern
   pub inner_is : IsPattern trait.Clone definition names.sources variant inner

@@ -2,9 +2,8 @@
 use Rattle.std.specs.Prelude.{ℕ, List}
 use Rattle.std.specs.List.{AllByRecursion}
 use Rattle.educe_syntax.specs.DeriveInput.{DeriveInput}
+use Rattle.educe_syntax.specs.Readings.{AreNamed, IsReadType}
 use Rattle.educe_syntax.specs.Refusal.{IsDefinition}
-use Rattle.educe_syntax_self.specs.Heads.{AreNamed}
-use Rattle.educe_syntax_self.specs.Visits.{MayVisitType}
 use Rattle.educe_body_items.specs.declared.items.Item.{Item}
 use Rattle.educe_laws.specs.Arms.{AreChosenFor, AreScoped}
 use Rattle.educe_laws.specs.Blocks.{IsEqBlock, EachEvaluates}
@@ -17,7 +16,7 @@ pub record EqLaws : Type 0 where
   pub scope : (definition : DeriveInput) (names : List (List ℕ)) → AreChosenFor definition plain_names names → AreScoped definition names
   -- the name of a definition and those of its parameters are names, which may stand in place of `Self`
   pub named : (definition : DeriveInput) → IsDefinition definition.tokens definition → AreNamed definition
-  -- the types that are checked may be visited to replace `Self`
-  pub visits : (definition : DeriveInput) → IsDefinition definition.tokens definition → AllByRecursion MayVisitType (checked_types definition)
+  -- the types that are checked are readings of their tokens, so that `Self` may be replaced in them
+  pub visits : (definition : DeriveInput) → IsDefinition definition.tokens definition → AllByRecursion IsReadType (checked_types definition)
   -- no function of the block is called, so that there is nothing to evaluate
   pub evaluates : (definition : DeriveInput) (items : List Item) → IsEqBlock definition items → AllByRecursion (EachEvaluates definition) items

@@ -3,15 +3,16 @@ use Rattle.std.specs.Prelude.{◌≡◌, true, List, [], ◌∷◌, ◌++◌, if
 use Rattle.std.specs.List.{filter, flat_map, before_first, AllByRecursion, AllZip}
 use Rattle.educe_syntax.specs.DeriveInput.{DeriveInput}
 use Rattle.educe_syntax.specs.Refusal.{IsDefinition}
+use Rattle.educe_syntax.specs.WherePredicate.{WherePredicate}
 use Rattle.educe_bound_traits.specs.declared.traits.Trait.{Trait}
-use Rattle.educe_bound.specs.Predicates.{Key}
+use Rattle.educe_bound.specs.Predicates.{Key, keys_of, AreRead}
 use Rattle.educe_bound_traits.specs.Traits.{variants, is_listed, same_trait}
 use Rattle.educe_attrs.specs.Causes.{NoCause}
 use Rattle.educe_attrs.specs.Phases.{OfHandler}
 use Rattle.educe_body_items.specs.declared.items.Item.{Item}
 use Rattle.educe_laws.specs.Blocks.{IsBlock, EachEvaluates}
 use Rattle.educe_laws.specs.Handled.{handling}
-use Rattle.educe_laws.specs.Headers.{AreOf}
+use Rattle.educe_laws.specs.Headers.{ImplAdds}
 use Rattle.educe_laws.specs.Listed.{listed}
 
 -- the traits that are handled before this one
@@ -29,21 +30,25 @@ handled_of traits done = filter (is_listed traits) done
 -- what a handler notes for later ones: its trait, and the predicates that its impl adds
 pub record Noted : Type 0 where
   pub which : Trait
-  pub added : List Key
+  pub added : List WherePredicate
 
 -- what is noted of a trait
 pub record IsNoted (definition : DeriveInput) (which : Trait) (noted : Noted) : Type 0 where
   pub which_is : noted.which ≡ which
-  pub added_are : AreOf definition which noted.added
+  pub adds : ImplAdds definition which noted.added
 
 -- the handlers of those of these traits that are listed noted this, in their order
 abbrev pub AreNoted : DeriveInput → List Trait → List Noted → Type 0
 AreNoted definition done noted = AllZip (IsNoted definition) (handled_of (listed definition) done) noted
 
--- the predicates that are noted of a trait; none where it was not handled
+-- each predicate that is noted is the reading of its tokens
+abbrev pub AreNotedRead : List Noted → Type 0
+AreNotedRead noted = AllByRecursion (λ n. AreRead n.added) noted
+
+-- the predicates that are noted of a trait, by their tokens; none where it was not handled
 abbrev pub noted_of : Trait → List Noted → List Key
 noted_of which [] = []
-noted_of which (n ∷ ns) = if same_trait n.which which then n.added else noted_of which ns
+noted_of which (n ∷ ns) = if same_trait n.which which then keys_of n.added else noted_of which ns
 
 -- those that are noted of these traits, one behind the other
 abbrev pub inherited_from : List Noted → List Trait → List Key

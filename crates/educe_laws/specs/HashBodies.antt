@@ -1,5 +1,5 @@
 -- The body of the derived `hash`.
-use Rattle.std.specs.Prelude.{◌≡◌, ℕ, Bool, List, [], ◌∷◌, ◌++◌, codes}
+use Rattle.std.specs.Prelude.{◌≡◌, ℕ, Bool, true, false, List, [], ◌∷◌, ◌++◌, codes}
 use Rattle.std.specs.List.{AllZip}
 use Rattle.educe_tokens.specs.declared.word.Word.{Word}
 use Rattle.educe_syntax.specs.DeriveInput.{DeriveInput}
@@ -17,7 +17,7 @@ use Rattle.educe_body_forms.specs.declared.form.Arm.{Arm}
 use Rattle.educe_body_forms.specs.declared.form.Form.{Form, Local, Call, HashPart, MatchValue}
 use Rattle.educe_body_forms.specs.declared.form.Form as form
 use Rattle.educe_body_forms.specs.declared.position.Position.{Position}
-use Rattle.educe_laws.specs.Arms.{AreChosenFor, IsName, IsPattern, AreArms}
+use Rattle.educe_laws.specs.Arms.{AreChosenFor, IsName, IsPattern, AreArms, IsSpelled}
 use Rattle.educe_laws.specs.Cases.{fields_in}
 use Rattle.educe_laws.specs.Headers.{AreCopied}
 use Rattle.educe_laws.specs.Settings.{Kept, How, plainly, kept_fields}
@@ -88,8 +88,9 @@ pub record IsHashStructBlock (definition : DeriveInput) (names : HashNames) (fie
   pub steps_are : AreHashSteps names.state (of_base copied (codes "self")) (kept_fields trait.Hash definition fields) block
 
 -- the arm of the variant at a place: the step on the place, and then one for each field that takes part, in written order, on its
--- variable
+-- variable; it has braces and no comma
 pub record IsHashArm (definition : DeriveInput) (names : HashNames) (place : ℕ) (variant : Variant) (arm : Arm) : Type 0 where
+  pub spelled : IsSpelled true false arm
   pub pattern_is : IsPattern trait.Hash definition names.prefix variant arm.pattern
   pub first : Form
   pub first_is : IsPlaceStep names.state place first

@@ -10,7 +10,7 @@ use Rattle.educe_bound.specs.declared.bound.Bound.{Bound}
 use Rattle.educe_bound.specs.declared.bound.Bound.TheVariants.{Disabled, Auto, All, Custom}
 use Rattle.educe_bound_traits.specs.declared.traits.Trait.{Trait}
 use Rattle.educe_bound_traits.specs.declared.traits.Trait.TheVariants as trait
-use Rattle.educe_bound.specs.Predicates.{Key, keys_of, exceptions_of, asks_for, AreByBound, AreCopies, lifetimes_first}
+use Rattle.educe_bound.specs.Predicates.{Key, keys_of, AreRead, exceptions_of, asks_for, AreByBound, AreCopies, lifetimes_first}
 use Rattle.educe_bound_traits.specs.Traits.{is_listed}
 use Rattle.educe_attrs.specs.Packed.{IsPacked}
 use Rattle.educe_laws.specs.Cases.{is_struct}
@@ -76,10 +76,15 @@ mutual
     from_listed : (which : Trait) {traits : List Trait} (own : List Key) {more : List Key} → is_listed (listed definition) which ≡ true
         → AreOf definition which own → AreInherited definition traits more → AreInherited definition (which ∷ traits) (own ++ more)
 
+-- the impl of a trait adds these predicates, and each is the reading of its tokens
+pub record ImplAdds (definition : DeriveInput) (which : Trait) (predicates : List WherePredicate) : Type 0 where
+  pub are : AreOf definition which (keys_of predicates)
+  pub read : AreRead predicates
+
 -- ---- headers
 
 -- The header of the impl of a trait: the parameters without their defaults, lifetimes first; and the predicates of the definition as
--- they were written, behind which stand those that the impl adds.
+-- they were written, behind which stand those that the impl adds, each the reading of its tokens.
 pub record IsHeader (which : Trait) (definition : DeriveInput) (generics : Generics) : Type 0 where
   pub params_are : generics.params ≡ lifetimes_first definition.generics.params
   pub inherited : List Key
@@ -87,6 +92,7 @@ pub record IsHeader (which : Trait) (definition : DeriveInput) (generics : Gener
   pub added : List WherePredicate
   pub inherited_are : AreInherited definition (prerequisites which) inherited
   pub added_are : AreAdded which definition inherited own (keys_of added)
+  pub added_read : AreRead added
   pub predicates_are : generics.predicates ≡ definition.generics.predicates ++ added
 
 -- ---- automatic bounds

@@ -20,7 +20,7 @@ use Rattle.educe_body_items.specs.declared.items.Item.{Item}
 use Rattle.educe_body_forms.specs.declared.comparison.Comparison.{Comparison}
 use Rattle.educe_syntax.specs.Few.{all_fields}
 use Rattle.educe_body.specs.Words.{HasWord}
-use Rattle.educe_laws.specs.Arms.{Names, AreNames, AreScoped, variables, AreConstants, AreNumbers}
+use Rattle.educe_laws.specs.Arms.{Names, chosen_names, AreNames, AreScoped, variables, AreConstants, AreNumbers}
 use Rattle.educe_laws.specs.Blocks.{IsParameter, IsComparisonBlock, OneEach, EachEvaluates, HasTightBounds}
 use Rattle.educe_laws.specs.Comparisons.{trait_of}
 use Rattle.educe_laws.specs.Discriminants.{HaveNumbers}
@@ -57,6 +57,9 @@ pub record ComparisonLaws : Type 0 where
   pub arm_scope : (which : Comparison) (definition : DeriveInput) (names : Names) (fields : List Field) → AreNames definition names → AreApart (field_names fields)
       → length fields ≤ 2 ^ 64
       → AreScoped definition (names.other ∷ names.discriminant ∷ variables names.own (trait_of which) definition fields ++ variables names.others (trait_of which) definition fields)
+  -- so it is with the names in the scope of a key function: the second value, the function itself, its parameter, and what a distance is
+  -- added to
+  pub key_scope : (definition : DeriveInput) (names : Names) → AreNames definition names → AreScoped definition (chosen_names names)
   -- where the discriminants are numbers of the type, they are the numbers of the constants
   pub constants : (table : Answers) (definition : DeriveInput) (ty : DiscriminantType) (numbers : List ℤ) (constants : List Constant)
       → HaveNumbers table definition numbers → IsDiscriminantType definition.attrs ty → AreConstants definition ty constants → AreNumbers table numbers constants

@@ -44,3 +44,4 @@ pub mod DefaultLaws
 pub mod EqLaws
 pub mod CloneLaws
 pub mod DebugLaws
+pub mod HeaderLaws

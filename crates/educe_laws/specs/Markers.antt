@@ -4,16 +4,14 @@ use Rattle.std.specs.List.{AllZip, filter_map}
 use Rattle.educe_tokens.specs.WrittenLexemes.{written_lexemes}
 use Rattle.educe_syntax.specs.DeriveInput.{DeriveInput}
 use Rattle.educe_syntax.specs.ExprPath.{ExprPath}
-use Rattle.educe_syntax.specs.Expressions.{expr_path}
 use Rattle.educe_syntax.specs.Generics.{Generics}
 use Rattle.educe_syntax.specs.Steps.{Tokens}
 use Rattle.educe_syntax.specs.Ty.{Ty}
-use Rattle.educe_syntax_self.specs.Splicing.{replaced_in}
-use Rattle.educe_syntax_self.specs.Visits.{AreReplaced}
+use Rattle.educe_syntax_self.specs.Visits.{IsVisitedType, IsVisitedPath, AreVisitedGenerics}
 use Rattle.educe_attrs.specs.Lints.{lints}
 use Rattle.educe_bound_traits.specs.declared.traits.Trait.{Trait}
 use Rattle.educe_body_items.specs.declared.items.MarkerItem.{MarkerItem}
-use Rattle.educe_laws.specs.Checks.{IsHeadFor, IsReplacedType, texts_of}
+use Rattle.educe_laws.specs.Checks.{IsHeadFor, texts_of}
 use Rattle.educe_laws.specs.Settings.{Kept, How, plainly, by_method, by_order}
 
 -- the type of a field, and its method
@@ -38,9 +36,9 @@ pub record IsMarker (which : Trait) (definition : DeriveInput) (generics : Gener
   pub attributes_are : written_lexemes marker.attributes ≡ lints definition.attrs
   pub head : Tokens
   pub head_is : IsHeadFor definition head
-  pub generics_are : AreReplaced head generics marker.generics
-  pub ty_is : IsReplacedType head marked.ty marker.ty
-  pub method_is : marker.method.written.tokens ≡ replaced_in expr_path head marked.method.written.tokens
+  pub generics_are : AreVisitedGenerics head generics marker.generics
+  pub ty_is : IsVisitedType head marked.ty marker.ty
+  pub method_is : IsVisitedPath head marked.method marker.method
   pub names_are : texts_of marker.names ≡ names
 
 -- one marker for each of these fields that has a method, in their order

@@ -12,6 +12,7 @@ use Rattle.educe_attrs.specs.WherePredicatesOrBool.{WherePredicatesOrBool}
 use Rattle.educe_bound.specs.declared.bound.Bound.{Bound}
 use Rattle.educe_bound.specs.declared.bound.Bound.TheVariants.{Auto}
 use Rattle.educe_bound.specs.Bounds.{bound_of}
+use Rattle.educe_bound.specs.Predicates.{IsReadBound}
 use Rattle.educe_attrs.specs.Causes.{NoCause}
 use Rattle.educe_attrs.specs.FieldSettings.{FieldSettings}
 use Rattle.educe_attrs.specs.Fields.{settings_at}
@@ -47,6 +48,11 @@ bound_said (Some value) = bound_of value
 -- the bound that the type says for a trait
 abbrev pub bound_for : Trait → DeriveInput → Bound
 bound_for which definition = bound_said (type_settings which definition).bound
+
+-- the bound is the one that the type says for a trait, and the predicates that it lists are readings of their tokens
+pub record IsBoundOf (which : Trait) (definition : DeriveInput) (bound : Bound) : Type 0 where
+  pub is : bound ≡ bound_for which definition
+  pub read : IsReadBound bound
 
 -- The settings of the type, among them its bound, and those of each variant are what their attributes say of the trait. Those of
 -- each field are what its attributes say of it, or, where both orders are listed and an order has none of its own, of the other.

@@ -1,5 +1,5 @@
 -- The body of the derived `fmt`.
-use Rattle.std.specs.Prelude.{ℕ, ◌≡◌, Bool, true, false, List, [], ◌∷◌, ◌++◌, map, codes}
+use Rattle.std.specs.Prelude.{ℕ, ◌≡◌, Bool, true, false, not, List, [], ◌∷◌, ◌++◌, map, codes}
 use Rattle.std.specs.List.{list_any}
 use Rattle.educe_tokens.specs.declared.word.Word.{Word}
 use Rattle.educe_syntax.specs.DeriveInput.{DeriveInput}
@@ -23,7 +23,7 @@ use Rattle.educe_body_forms.specs.declared.shown.Opening.{Opening}
 use Rattle.educe_body_forms.specs.declared.shown.Opening.TheVariants as opening
 use Rattle.educe_body_values.specs.declared.shape.ShapeForm.{ShapeForm}
 use Rattle.educe_body_values.specs.declared.shape.ShapeForm.TheVariants as form
-use Rattle.educe_laws.specs.Arms.{AreChosenFor, IsName, IsPatternBy, IsMatchOnSelf}
+use Rattle.educe_laws.specs.Arms.{AreChosenFor, IsName, IsPatternBy, IsMatchOnSelf, IsSpelled}
 use Rattle.educe_laws.specs.Cases.{fields_in}
 use Rattle.educe_laws.specs.Headers.{AreCopied}
 use Rattle.educe_laws.specs.Settings.{Kept, How, plainly, by_method, by_order, type_settings}
@@ -195,8 +195,9 @@ abbrev pub IsArmBlock : Bool → DeriveInput → DebugNames → ShownCase → Li
 IsArmBlock true definition names case block = IsWritten names case.name block
 IsArmBlock false definition names case block = IsBuilt definition names (bound names.prefix) case block
 
--- the arm of a variant
+-- the arm of a variant: it has a comma, and braces where it does not only write the name
 pub record IsDebugArm (definition : DeriveInput) (names : DebugNames) (variant : Variant) (arm : Arm) : Type 0 where
+  pub spelled : IsSpelled (not (variant_shown definition variant).unit) true arm
   pub pattern_is : IsPatternBy names.prefix variant (map (entry_settings (variant_shown definition variant).named definition) (fields_in variant)) arm.pattern
   pub block_is : IsArmBlock (variant_shown definition variant).unit definition names (variant_shown definition variant) arm.block
 

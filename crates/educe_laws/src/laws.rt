@@ -5,6 +5,7 @@ ghost use Rattle.educe_laws.specs.DebugLaws.{DebugLaws};
 ghost use Rattle.educe_laws.specs.DefaultLaws.{DefaultLaws};
 ghost use Rattle.educe_laws.specs.EqLaws.{EqLaws};
 ghost use Rattle.educe_laws.specs.HashLaws.{HashLaws};
+ghost use Rattle.educe_laws.specs.HeaderLaws.{HeaderLaws};
 ghost use Rattle.educe_laws.specs.Laws.{ComparisonLaws, TraitLaws};
 
 /// Where no cause of a listed trait stands, its settings are what the attributes say, and of a trait that
@@ -60,4 +61,10 @@ pub fn clone_laws()
 /// each other and, `self` aside, no words of the input.
 pub fn debug_laws()
     ensures { DebugLaws }
+{}
+
+/// The parameters and predicates of a header are readings of their tokens, and so are the predicates that
+/// the bound of a place lists.
+pub fn header_laws()
+    ensures { HeaderLaws }
 {}

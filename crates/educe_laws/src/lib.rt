@@ -6,5 +6,6 @@
 mod laws;
 
 pub use laws::{
-    clone_laws, comparison_laws, debug_laws, default_laws, eq_laws, hash_laws, trait_laws,
+    clone_laws, comparison_laws, debug_laws, default_laws, eq_laws, hash_laws, header_laws,
+    trait_laws,
 };

@@ -1,4 +1,3 @@
-use Rattle.std.proofs.Common.{[]}
 use Rattle.educe_handlers.specs.Laws.{lawful_traits}
 use Rattle.educe_core.proofs.Composing.{none_handled, one_each, all_said, last_uncaused}
 use Rattle.educe_core.proofs.composition.blocks.Goals as goal

@@ -23,7 +23,7 @@ returns-then-is_listed-clause-through g c =
     let d = c.args.ast.now in
     let lists : is_listed (listed d) which ≡ true = rw (← c.requires.listed, ← c.TRAIT.ensures) (sym c.is_listed.ensures ∙ c.if-is_listed.true) in
     let ran = c.trait_meta_handler in
-    listed_answered (traits_before which) which d c.args.ctx.now c.args.items.now c.requires.before ran.result ran.new.ctx ran.new.items lists ran.ensures.adds (ran.ensures.means c.requires.is_read) ran.ensures.notes
+    listed_answered (traits_before which) which d c.args.ctx.now c.args.items.now c.requires.before ran.result ran.new.ctx ran.new.items lists ran.ensures.adds ran.ensures.means ran.ensures.notes
     ran.ensures.uncaused
 
 pub returns-then-is_listed-clause-err : goal.returns-then-is_listed-clause-err

@@ -8,7 +8,7 @@ pub returns-clause-adds : goal.returns-clause-adds
 returns-clause-adds g c = record { own = c.in_ok-own.own; is = c.in_ok-append.ensures.ok; block = c.in_ok-own.ensures.block }
 
 pub returns-clause-means : goal.returns-clause-means
-returns-clause-means g c = λ definition.
+returns-clause-means g c =
     let few : length c.args.ast.now.tokens ≤ 2 ^ 64 = rw (← c.len-count.ensures) (omega (arith, c.len-count.auto)) in
     record { own = c.in_ok-own.own; is = c.in_ok-append.ensures.ok; each = c.in_ok-own.ensures.means few }
 
