@@ -3,14 +3,13 @@ ghost use Rattle.std.specs.Prelude.{◌≡◌, ◌≤◌, ◌^◌, length, OnOk,
 ghost use Rattle.std.specs.List.{AllByRecursion};
 ghost use Rattle.educe_attrs.specs.Causes.{NoCause, OfStop};
 ghost use Rattle.educe_attrs.specs.Phases.{OfHandler};
-ghost use Rattle.educe_bound.specs.Predicates.{keys_of};
 ghost use Rattle.educe_handlers.specs.SeenTypes.{Sees};
 ghost use Rattle.educe_laws.specs.Blocks.{IsComparisonBlock, IsBody, IsFunction, EachEvaluates, function_name};
 ghost use Rattle.educe_laws.specs.Cases.{cases_of};
 ghost use Rattle.educe_laws.specs.Comparisons as comparisons;
 ghost use Rattle.educe_laws.specs.Handled.{OfShape, handling};
 ghost use Rattle.educe_laws.specs.Handlers.{IsReady};
-ghost use Rattle.educe_laws.specs.Headers.{AreCopied, AreOf};
+ghost use Rattle.educe_laws.specs.Headers.{AreCopied, ImplAdds};
 ghost use Rattle.educe_laws.specs.Listed as listing;
 
 use educe_attrs::Stop;
@@ -71,7 +70,7 @@ pub fn comparison_block(
     requires ready { IsReady task.which task.ast.now task.listed.now ctx.now }
     ensures block { IfOk result (λ found. IsComparisonBlock which task.entry.ast.now found.0) }
     ensures means { IfOk result (λ found. length task.entry.ast.now.tokens ≤ 2 ^ 64 → AllByRecursion (EachEvaluates task.entry.ast.now) found.0) }
-    ensures added { IfOk result (λ found. AreOf task.entry.ast.now task.entry.which (keys_of found.1)) }
+    ensures added { IfOk result (λ found. ImplAdds task.entry.ast.now task.entry.which found.1) }
     ensures uncaused { IfOk result (λ _. NoCause (OfHandler (handling task.entry.ast.now) task.entry.which)) }
     ensures err { IfErr result (λ s. OfStop (OfHandler (handling task.entry.ast.now) task.entry.which) s) }
 {

@@ -65,6 +65,8 @@ pub fn arm(
     block.push(Form::IfLet(inner, value, steps, others))?;
     Ok(Arm {
         pattern: own,
+        braced: true,
+        comma: false,
         block,
     })
 }

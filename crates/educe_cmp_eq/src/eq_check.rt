@@ -1,8 +1,8 @@
 //! The check that the types of fields implement `Eq`.
 ghost use Rattle.std.specs.Prelude.{IfOk};
 ghost use Rattle.std.specs.List.{AllByRecursion, AllZip};
-ghost use Rattle.educe_syntax_self.specs.Heads.{AreNamed};
-ghost use Rattle.educe_syntax_self.specs.Visits.{MayVisitType};
+ghost use Rattle.educe_syntax.specs.Readings.{AreNamed, AreReadGenerics, IsReadType};
+ghost use Rattle.educe_syntax_self.specs.Visits.{IsVisitedType};
 ghost use Rattle.educe_handlers.specs.EveryType.{behind};
 ghost use Rattle.educe_laws.specs.Arms.{AreChosenFor};
 ghost use Rattle.educe_laws.specs.Checks as spec;
@@ -35,8 +35,8 @@ fn replaced_types(
     replace: &ReplaceSelf,
     types: &Vec<&Ty>,
 ) -> Result<Types, AllocError>
-    requires { AllByRecursion MayVisitType (behind types.now.items) }
-    ensures { IfOk result (AllZip (spec.IsReplacedType replace.now.head) (behind types.now.items)) }
+    requires { AllByRecursion IsReadType (behind types.now.items) }
+    ensures { IfOk result (AllZip (IsVisitedType replace.now.head) (behind types.now.items)) }
 {
     let mut found = Seq::new(alloc);
     for own in types {
@@ -53,7 +53,8 @@ pub fn check_item(
     types: &Vec<&Ty>,
 ) -> Result<CheckItem, AllocError>
     requires named { AreNamed ast.now }
-    requires types { AllByRecursion MayVisitType (behind types.now.items) }
+    requires generics { AreReadGenerics generics.now }
+    requires types { AllByRecursion IsReadType (behind types.now.items) }
     ensures { IfOk result (spec.IsCheck ast.now generics.now (behind types.now.items)) }
 {
     let replace = ReplaceSelf::new(alloc, ast)?;

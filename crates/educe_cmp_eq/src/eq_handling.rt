@@ -1,16 +1,14 @@
 //! The items of `Eq`.
 ghost use Rattle.std.specs.Prelude.{◌≡◌, IfOk};
 ghost use Rattle.std.specs.List.{AllByRecursion};
-ghost use Rattle.educe_syntax_self.specs.Heads.{AreNamed};
-ghost use Rattle.educe_syntax_self.specs.Visits.{MayVisitType};
-ghost use Rattle.educe_bound.specs.Predicates.{keys_of};
+ghost use Rattle.educe_syntax.specs.Readings.{AreNamed, AreReadGenerics, IsReadType};
 ghost use Rattle.educe_bound_traits.specs.declared.traits.Trait.TheVariants.{Eq};
 ghost use Rattle.educe_handlers.specs.EveryType.{behind};
 ghost use Rattle.educe_handlers.specs.SeenTypes.{read_of, touched_of};
 ghost use Rattle.educe_laws.specs.Blocks as spec;
 ghost use Rattle.educe_laws.specs.Handlers.{IsReady};
-ghost use Rattle.educe_laws.specs.Headers.{AreOf};
-ghost use Rattle.educe_laws.specs.Settings.{bound_for};
+ghost use Rattle.educe_laws.specs.Headers.{ImplAdds};
+ghost use Rattle.educe_laws.specs.Settings.{IsBoundOf};
 ghost use Rattle.educe_laws.specs.Types.{AreUnread, checked_types};
 
 use crate::eq_check::check_item;
@@ -44,7 +42,8 @@ fn checked_block(
     requires item { spec.IsImpl Eq ast.now spec.AreNone item }
     requires types { behind checked.now.items ≡ checked_types ast.now }
     requires named { AreNamed ast.now }
-    requires visits { AllByRecursion MayVisitType (behind checked.now.items) }
+    requires generics { AreReadGenerics item.generics }
+    requires visits { AllByRecursion IsReadType (behind checked.now.items) }
     ensures { IfOk result (spec.IsCheckedBlock ast.now) }
 {
     let check = check_item(alloc, ast, &item.generics, checked)?;
@@ -75,7 +74,8 @@ fn eq_items(
     requires item { spec.IsImpl Eq ast.now spec.AreNone item }
     requires types { behind checked.now.items ≡ checked_types ast.now }
     requires named { AreNamed ast.now }
-    requires visits { AllByRecursion MayVisitType (behind checked.now.items) }
+    requires generics { AreReadGenerics item.generics }
+    requires visits { AllByRecursion IsReadType (behind checked.now.items) }
     ensures { IfOk result (spec.IsEqBlockWith checks ast.now) }
 {
     if checks {
@@ -95,10 +95,10 @@ pub fn make_eq(
     ctx: &TraitHandlerContext,
 ) -> Result<(Items, Predicates), AllocError>
     requires ready { IsReady Eq ast.now listed.now ctx.now }
-    requires bound { bound.now ≡ bound_for Eq ast.now }
+    requires bound { IsBoundOf Eq ast.now bound.now }
     requires types { AreUnread (checked_types ast.now) (read_of types.now) (touched_of types.now) }
     ensures block { IfOk result (λ found. spec.IsEqBlock ast.now found.0) }
-    ensures added { IfOk result (λ found. AreOf ast.now Eq (keys_of found.1)) }
+    ensures added { IfOk result (λ found. ImplAdds ast.now Eq found.1) }
 {
     let which = Trait::Eq;
     let task = Task { which, ast, listed };

@@ -21,7 +21,7 @@ use Rattle.educe_laws.specs.Listed.{listed}
 use Rattle.educe_laws.specs.Settings.{settings_of, bound_for}
 use Rattle.educe_make_markers.specs.Methods.{has_method}
 use Rattle.educe_make_clone.proofs.Variants.{tested_variants}
-use Rattle.educe_make_clone.specs.Bitwise.{is_closed, is_closed_shape, is_unbounded}
+use Rattle.educe_make_clone.specs.Bitwise.{is_closed, is_closed_shape, is_unbounded, copies_with}
 
 -- both tests of one item, and of the rest, in another order
 exchanged : (m c n d : Bool) → ((not m && c) && (not n && d)) ≡ (not (m || n) && (c && d))
@@ -74,14 +74,19 @@ pub closed_shape : (params : List GenericParam) (shape : Shape) → is_closed_sh
 closed_shape params (Struct shape) = refl
 closed_shape params (Enum variants) = tested_variants (is_closed params) variants
 
--- the whole test, where `Copy` is listed
+-- the whole test, with this bound, where `Copy` is listed
 pub copies_by : (d : DeriveInput) (methods : Bool) (bound : Bound) → is_listed (listed d) Copy ≡ true → bound ≡ bound_for Copy d
-    → methods ≡ list_any (list_any has_method) (settings_in Clone d (cases_of d))
-    → ((not methods && is_closed_shape d.generics.params d.shape) && is_unbounded d bound) ≡ copies_whole d
-copies_by d methods bound lists same own =
+    → ((not methods && is_closed_shape d.generics.params d.shape) && is_unbounded d bound) ≡ copies_with d methods
+copies_by d methods bound lists same =
+    let fields = not methods && is_closed_shape d.generics.params d.shape in
+    ap (λ (b : Bound). fields && is_unbounded d b) same ∙ sym (ap (λ (b : Bool). b && fields && is_unbounded d (bound_for Copy d)) lists)
+
+-- it says whether the value is copied as a whole, where it is known whether a field has a method
+pub copies_known : (d : DeriveInput) (methods : Bool) → methods ≡ list_any (list_any has_method) (settings_in Clone d (cases_of d)) → copies_with d methods ≡ copies_whole d
+copies_known d methods own =
     let fields : (not methods && is_closed_shape d.generics.params d.shape) ≡ list_all (is_bitwise d) (all_fields d) =
     (λ i. not (own i) && closed_shape d.generics.params d.shape i) ∙ sym (shape_bitwise d d.shape) in
-    (λ i. fields i && is_unbounded d (same i)) ∙ sym (ap (λ (b : Bool). b && list_all (is_bitwise d) (all_fields d) && is_unbounded d (bound_for Copy d)) lists)
+    ap (λ (b : Bool). is_listed (listed d) Copy && b && is_unbounded d (bound_for Copy d)) fields
 
 -- a list is empty where it has no item
 pub empty_counted : {X : Type 0} (xs : List X) → (length xs == 0) ≡ is_empty xs

@@ -1,5 +1,5 @@
 -- What decides whether `clone` copies values as a whole.
-use Rattle.std.specs.Prelude.{◌≡◌, Bool, true, not, ◌||◌, List}
+use Rattle.std.specs.Prelude.{◌≡◌, Bool, true, not, ◌&&◌, ◌||◌, List}
 use Rattle.std.specs.List.{list_all}
 use Rattle.educe_tokens.specs.declared.error.EduceError.{EduceError}
 use Rattle.educe_syntax.specs.DeriveInput.{DeriveInput}
@@ -17,6 +17,7 @@ use Rattle.educe_laws.specs.Cases.{fields_in}
 use Rattle.educe_laws.specs.Copying.{is_empty, has_predicates}
 use Rattle.educe_laws.specs.Listed.{listed}
 use Rattle.educe_laws.specs.Rows.{type_row}
+use Rattle.educe_laws.specs.Settings.{bound_for}
 
 -- the type of the field names none of the type and const parameters
 abbrev pub is_closed : List GenericParam → Field → Bool
@@ -30,6 +31,12 @@ is_closed_shape params (Enum variants) = list_all (λ v. list_all (is_closed par
 -- the definition has no generic parameter, or the bound lists no predicate
 abbrev pub is_unbounded : DeriveInput → Bound → Bool
 is_unbounded definition bound = is_empty definition.generics.params || not (has_predicates bound)
+
+-- `clone` copies the value as a whole, by whether a field has a method of `Clone`
+abbrev pub copies_with : DeriveInput → Bool → Bool
+copies_with definition has_method =
+    is_listed (listed definition) trait.Copy && (not has_method && is_closed_shape definition.generics.params definition.shape)
+    && is_unbounded definition (bound_for trait.Copy definition)
 
 -- where `Copy` is listed, nothing that the type says of it is wrong
 abbrev pub IsCopyUncaused : DeriveInput → Type 0

@@ -121,7 +121,12 @@ pub fn clone_arm(
     let (name, shape) = (Some(&variant.ident), &variant.fields);
     let form = cloned(alloc, plain, reading, name, shape, fields)?;
     let block = block_of(alloc, form)?;
-    Ok(Arm { pattern, block })
+    Ok(Arm {
+        pattern,
+        braced: false,
+        comma: true,
+        block,
+    })
 }
 
 /// A match on the value of `self` with these arms.

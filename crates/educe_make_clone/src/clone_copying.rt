@@ -1,14 +1,11 @@
 //! Whether `clone` copies values as a whole (documentation of `educe`, Clone).
 ghost use Rattle.std.specs.Prelude.{◌≡◌, not, ◌&&◌, IfOk, IfErr};
-ghost use Rattle.std.specs.List.{list_any, list_all};
+ghost use Rattle.std.specs.List.{list_all};
 ghost use Rattle.educe_attrs.specs.Causes.{OfStop};
-ghost use Rattle.educe_bound_traits.specs.declared.traits.Trait.TheVariants as derived;
-ghost use Rattle.educe_handlers.specs.CaseSettings.{settings_in};
-ghost use Rattle.educe_laws.specs.Cases.{fields_in, cases_of};
+ghost use Rattle.educe_laws.specs.Cases.{fields_in};
 ghost use Rattle.educe_laws.specs.Copying as spec;
 ghost use Rattle.educe_laws.specs.Listed as listing;
 ghost use Rattle.educe_make_clone.specs.Bitwise as bitwise;
-ghost use Rattle.educe_make_markers.specs.Methods.{has_method};
 
 use educe_attrs::Stop;
 use educe_bound::{Bound, Trait, is_listed};
@@ -85,8 +82,7 @@ pub fn can_use_bitwise_copy(
     has_custom_method: bool,
 ) -> Result<bool, Stop>
     requires listed { task.listed.now ≡ listing.listed task.ast.now }
-    requires methods { has_custom_method ≡ list_any (list_any has_method) (settings_in derived.Clone task.ast.now (cases_of task.ast.now)) }
-    ensures copies { IfOk result (λ copies. copies ≡ spec.copies_whole task.entry.ast.now) }
+    ensures copies { IfOk result (λ copies. copies ≡ bitwise.copies_with task.entry.ast.now has_custom_method) }
     ensures uncaused { IfOk result (λ _. bitwise.IsCopyUncaused task.entry.ast.now) }
     ensures err { IfErr result (λ s. OfStop (bitwise.OfCopy task.entry.ast.now) s) }
 {

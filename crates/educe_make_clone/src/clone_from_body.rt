@@ -194,7 +194,12 @@ pub fn from_arm(
 {
     let pattern = pattern(alloc, &names.own, variant, settings)?;
     let block = arm_block(alloc, paths, names, variant, settings, fields)?;
-    Ok(Arm { pattern, block })
+    Ok(Arm {
+        pattern,
+        braced: true,
+        comma: true,
+        block,
+    })
 }
 
 /// The block for an enum with these arms; without variants there is no value.

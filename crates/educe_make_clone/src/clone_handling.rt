@@ -3,8 +3,8 @@ ghost use Rattle.std.specs.Prelude.{◌≡◌, [], map, OnOk, IfOk, codes};
 ghost use Rattle.std.specs.List.{AllByRecursion};
 ghost use Rattle.educe_syntax.specs.DeriveInput.{DeriveInput};
 ghost use Rattle.educe_syntax.specs.Few.{all_fields};
+ghost use Rattle.educe_syntax.specs.Readings.{AreNamed, AreReadGenerics};
 ghost use Rattle.educe_attrs.specs.Fields.{HaveNoCauses};
-ghost use Rattle.educe_bound.specs.Predicates.{keys_of};
 ghost use Rattle.educe_bound_traits.specs.declared.traits.Trait.TheVariants as derived;
 ghost use Rattle.educe_handlers.specs.CaseSettings.{settings_in};
 ghost use Rattle.educe_handlers.specs.Ranked.{kept_of};
@@ -15,14 +15,13 @@ ghost use Rattle.educe_laws.specs.CloneBodies as bodies;
 ghost use Rattle.educe_laws.specs.CloneBodies.{AreCloneNames};
 ghost use Rattle.educe_laws.specs.Copying.{copies_whole};
 ghost use Rattle.educe_laws.specs.Handlers.{IsReady};
-ghost use Rattle.educe_laws.specs.Headers.{AreCopied, AreOf};
+ghost use Rattle.educe_laws.specs.Headers.{AreCopied, ImplAdds};
 ghost use Rattle.educe_laws.specs.Listed as listing;
 ghost use Rattle.educe_laws.specs.Rows.{field_row};
-ghost use Rattle.educe_laws.specs.Settings.{all_kept, bound_for};
+ghost use Rattle.educe_laws.specs.Settings.{all_kept, IsBoundOf};
 ghost use Rattle.educe_laws.specs.Types.{AreCloneTypes};
 ghost use Rattle.educe_make_clone.specs.CloneNames.{names_of};
 ghost use Rattle.educe_make_markers.specs.Marking.{MayMark};
-ghost use Rattle.educe_syntax_self.specs.Heads.{AreNamed};
 
 use crate::clone_cases::{CloneBlocks, clone_blocks};
 use crate::clone_fields::all_kept;
@@ -125,6 +124,7 @@ fn clone_items(
     requires item { spec.IsImpl derived.Clone ast.now (spec.AreCloneFunctions (copies_whole ast.now) ast.now (names_of names.now)) item }
     requires kept { map kept_of kept.now ≡ all_kept derived.Clone ast.now }
     requires named { AreNamed ast.now }
+    requires generics { AreReadGenerics item.generics }
     requires marks { AllByRecursion MayMark (map kept_of kept.now) }
     ensures { IfOk result (spec.IsCloneBlock ast.now) }
 {
@@ -148,12 +148,12 @@ pub fn make_clone(
     ctx: &TraitHandlerContext,
 ) -> Result<(Items, Predicates), AllocError>
     requires ready { IsReady derived.Clone ast.now listed.now ctx.now }
-    requires bound { bound.now ≡ bound_for derived.Clone ast.now }
+    requires bound { IsBoundOf derived.Clone ast.now bound.now }
     requires settings { settings.now ≡ settings_in derived.Clone ast.now (cases_of ast.now) }
     requires copies { copies ≡ copies_whole ast.now }
     requires read { HaveNoCauses derived.Clone (field_row derived.Clone) (listing.listed ast.now) (all_fields ast.now) }
     ensures block { IfOk result (λ found. spec.IsCloneBlock ast.now found.0) }
-    ensures added { IfOk result (λ found. AreOf ast.now derived.Clone (keys_of found.1)) }
+    ensures added { IfOk result (λ found. ImplAdds ast.now derived.Clone found.1) }
 {
     let which = Trait::Clone;
     let task = Task { which, ast, listed };

@@ -1,5 +1,5 @@
 -- Of each case of a definition something is shown.
-use Rattle.std.proofs.Common.{◌≡◌, ◌∙◌, Bool, true, false, ◌||◌, List, [], ◌∷◌, ◌++◌, map, refl, ap, sym}
+use Rattle.std.proofs.Common.{◌≡◌, ◌∙◌, Bool, true, ◌||◌, List, [], ◌∷◌, ◌++◌, map, refl, ap, sym}
 use Rattle.std.specs.List.{AllByRecursion, AllZip, list_any, flat_map}
 use Rattle.educe_syntax.specs.DeriveInput.{DeriveInput}
 use Rattle.educe_attrs.specs.Causes.{NoCause}
@@ -11,7 +11,7 @@ use Rattle.educe_laws.specs.Listed.{listed}
 use Rattle.educe_laws.specs.Rows.{type_row}
 use Rattle.educe_laws.specs.Settings.{keeps, kept_by, type_settings}
 use Rattle.educe_laws.specs.Shown.{ShownCase, entry_settings, shown_fields, shown_cases, all_shown, type_text}
-use Rattle.educe_make_debug.specs.Cases.{AreSettled, IsCaseOf, AreCases, IsTyped, IsShown, shown_of, kept_in, shows}
+use Rattle.educe_make_debug.specs.Cases.{IsCaseOf, IsTyped, IsShown, kept_in, shows}
 use Rattle.educe_make_debug.specs.Needs.{AreEnough}
 use Rattle.educe_make_debug.specs.Texts.{is_shown}
 use Rattle.educe_make_debug.specs.declared.debug_shown.Case.{Case}

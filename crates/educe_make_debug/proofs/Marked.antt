@@ -28,7 +28,7 @@ module _ (d : DeriveInput) where
       let (v, outer, same) = In-image (variant_shown d) variants case found in
       in_flat fields_in variants v f outer (subst (λ (c : ShownCase). In f c.fields) (sym same) inner)
 
-  -- what stands in the markers may be visited
+  -- what stands in the markers is read
   pub shown_visit : IsDefinition d.tokens d → AreRead d → AllByRecursion MayMark (all_shown d)
   shown_visit is read =
       markers_visit Debug d (λ (c : ShownCase). entry_row c.named) (λ (c : ShownCase). c.fields) (shown_cases d)

@@ -91,7 +91,12 @@ fn arm(
 {
     let pattern = pattern(alloc, &names.prefix, variant, case.settings.as_slice())?;
     let block = arm_block(alloc, names, case)?;
-    Ok(Arm { pattern, block })
+    Ok(Arm {
+        pattern,
+        braced: !case.unit,
+        comma: true,
+        block,
+    })
 }
 
 /// An arm for each variant, in their order.

@@ -1,14 +1,13 @@
 //! The items of `Debug`.
 ghost use Rattle.std.specs.Prelude.{◌≡◌, map, IfOk, codes};
 ghost use Rattle.std.specs.List.{AllByRecursion};
-ghost use Rattle.educe_syntax_self.specs.Heads.{AreNamed};
-ghost use Rattle.educe_bound.specs.Predicates.{keys_of};
+ghost use Rattle.educe_syntax.specs.Readings.{AreNamed, AreReadGenerics};
 ghost use Rattle.educe_bound_traits.specs.declared.traits.Trait.TheVariants.{Debug};
 ghost use Rattle.educe_handlers.specs.Ranked.{kept_of};
 ghost use Rattle.educe_laws.specs.Blocks.{IsDebugBlock, IsFunction, IsImpl};
 ghost use Rattle.educe_laws.specs.Handlers.{IsReady};
-ghost use Rattle.educe_laws.specs.Headers.{AreOf};
-ghost use Rattle.educe_laws.specs.Settings.{bound_for};
+ghost use Rattle.educe_laws.specs.Headers.{ImplAdds};
+ghost use Rattle.educe_laws.specs.Settings.{IsBoundOf};
 ghost use Rattle.educe_laws.specs.Shown as laws;
 ghost use Rattle.educe_laws.specs.ShownBodies as bodies;
 ghost use Rattle.educe_make_debug.specs.Cases.{AreRead, IsShown};
@@ -52,6 +51,7 @@ fn debug_items(
     requires item { IsImpl Debug ast.now (IsFunction (codes "fmt") (bodies.IsDebugBody ast.now (names_of names.now))) item }
     requires shown { map kept_of shown.now ≡ laws.all_shown ast.now }
     requires named { AreNamed ast.now }
+    requires generics { AreReadGenerics item.generics }
     requires marks { AllByRecursion marking.MayMark (map kept_of shown.now) }
     ensures { IfOk result (IsDebugBlock ast.now) }
 {
@@ -103,10 +103,10 @@ fn debug_impl(
     ctx: &TraitHandlerContext,
 ) -> Result<(ImplItem, Predicates), AllocError>
     requires ready { IsReady Debug ast.now listed.now ctx.now }
-    requires bound { bound.now ≡ bound_for Debug ast.now }
+    requires bound { IsBoundOf Debug ast.now bound.now }
     requires kept { map kept_of kept.now ≡ laws.all_shown ast.now }
     ensures item { IfOk result (λ made. IsImpl Debug ast.now (λ own. own ≡ functions) made.0) }
-    ensures added { IfOk result (λ made. AreOf ast.now Debug (keys_of made.1)) }
+    ensures added { IfOk result (λ made. ImplAdds ast.now Debug made.1) }
 {
     let which = Trait::Debug;
     let task = Task { which, ast, listed };
@@ -129,9 +129,9 @@ pub fn make_debug(
     requires ast { shown.now.ast.now ≡ ast.now }
     requires shown { IsShown shown.now }
     requires read { AreRead ast.now }
-    requires bound { bound.now ≡ bound_for Debug ast.now }
+    requires bound { IsBoundOf Debug ast.now bound.now }
     ensures block { IfOk result (λ found. IsDebugBlock ast.now found.0) }
-    ensures added { IfOk result (λ found. AreOf ast.now Debug (keys_of found.1)) }
+    ensures added { IfOk result (λ found. ImplAdds ast.now Debug found.1) }
 {
     let kept = fields_of(alloc, ast, shown)?;
     let names = DebugNames::choose(alloc, ast)?;

@@ -5,7 +5,7 @@ ghost use Rattle.educe_attrs.specs.Phases.{OfHandler};
 ghost use Rattle.educe_bound_traits.specs.declared.traits.Trait.TheVariants.{Debug};
 ghost use Rattle.educe_laws.specs.Handled.{handling};
 ghost use Rattle.educe_laws.specs.Listed as listing;
-ghost use Rattle.educe_laws.specs.Settings.{bound_for, type_settings};
+ghost use Rattle.educe_laws.specs.Settings.{IsBoundOf, type_settings};
 ghost use Rattle.educe_make_debug.specs.Cases.{IsTyped, AreRead, IsShown};
 ghost use Rattle.educe_make_debug.specs.Needs.{AreEnough};
 
@@ -62,7 +62,7 @@ pub fn read<'d>(
     requires { listed.now ≡ listing.listed ast.now }
     ensures ast { IfOk result (λ found. found.0.ast.now ≡ ast.now) }
     ensures are { IfOk result (λ found. IsShown found.0) }
-    ensures bound { IfOk result (λ found. found.1 ≡ bound_for Debug ast.now) }
+    ensures bound { IfOk result (λ found. IsBoundOf Debug ast.now found.1) }
     ensures typed { IfOk result (λ _. IsTyped ast.now listed.now) }
     ensures read { IfOk result (λ _. AreRead ast.now) }
     ensures enough { IfOk result (λ found. AreEnough found.0) }

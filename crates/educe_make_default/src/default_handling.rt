@@ -6,13 +6,12 @@ ghost use Rattle.educe_syntax.specs.Ty.{Ty};
 ghost use Rattle.educe_attrs.specs.Causes.{NoCause, OfStop};
 ghost use Rattle.educe_attrs.specs.Phases.{OfHandler};
 ghost use Rattle.educe_bound_traits.specs.declared.traits.Trait.TheVariants as derived;
-ghost use Rattle.educe_bound.specs.Predicates.{keys_of};
 ghost use Rattle.educe_bound_traits.specs.Traits.{is_listed};
 ghost use Rattle.educe_laws.specs.Blocks.{IsDefaultBlock, IsFunction, AreNew, IsNew};
 ghost use Rattle.educe_laws.specs.Defaults as said;
 ghost use Rattle.educe_laws.specs.Handled.{handling};
 ghost use Rattle.educe_laws.specs.Handlers.{IsReady};
-ghost use Rattle.educe_laws.specs.Headers.{AreOf};
+ghost use Rattle.educe_laws.specs.Headers.{ImplAdds};
 ghost use Rattle.educe_laws.specs.Making as spec;
 ghost use Rattle.educe_laws.specs.Settings as settings;
 ghost use Rattle.educe_make_default.specs.Defaults.{IsTyped, IsMadeForm, new_items};
@@ -156,12 +155,12 @@ pub fn make_default(
     ctx: &TraitHandlerContext,
 ) -> Result<(Items, Predicates), AllocError>
     requires ready { IsReady derived.Default ast.now listed.now ctx.now }
-    requires bound { bound.now ≡ settings.bound_for derived.Default ast.now }
+    requires bound { settings.IsBoundOf derived.Default ast.now bound.now }
     requires form { IsMadeForm ast.now made.form }
     requires types { map (λ (t : Bor Ty). t.now) made.types.items ≡ said.default_types ast.now }
     requires new { has_new ≡ spec.has_new ast.now }
     ensures block { IfOk result (λ found. IsDefaultBlock ast.now found.0) }
-    ensures added { IfOk result (λ found. AreOf ast.now derived.Default (keys_of found.1)) }
+    ensures added { IfOk result (λ found. ImplAdds ast.now derived.Default found.1) }
 {
     let which = Trait::Default;
     let task = Task { which, ast, listed };

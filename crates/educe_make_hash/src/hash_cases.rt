@@ -79,7 +79,12 @@ fn arm(
     let reading = Reading::Bound(&names.prefix);
     let steps = steps(alloc, plain, &names.state, reading, kept)?;
     block.append(steps)?;
-    Ok(Arm { pattern, block })
+    Ok(Arm {
+        pattern,
+        braced: true,
+        comma: false,
+        block,
+    })
 }
 
 /// The arm of the variant at a place. It is refused exactly where an attribute of the variant or of a

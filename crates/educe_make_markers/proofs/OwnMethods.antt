@@ -8,6 +8,7 @@ use Rattle.educe_syntax.specs.ExprPath.{ExprPath}
 use Rattle.educe_syntax.specs.Laws.{lawful_parts}
 use Rattle.educe_syntax.specs.Meta.{Meta}
 use Rattle.educe_syntax.specs.Parsed.{IsWhole}
+use Rattle.educe_syntax.specs.Readings.{IsReadPath}
 use Rattle.educe_bound_traits.specs.declared.traits.Trait.{Trait}
 use Rattle.educe_bound_traits.specs.declared.traits.Trait.TheVariants.{PartialOrd}
 use Rattle.educe_attrs_values.specs.declared.kind.ValueKind.TheVariants as kind
@@ -24,10 +25,6 @@ use Rattle.educe_attrs_rows.proofs.Reported.{IsOther, behind_leaves}
 use Rattle.educe_attrs_places.specs.declared.place.FieldSettings.{FieldSettings}
 use Rattle.educe_attrs_places.specs.Places.{taken, IsFieldSaid}
 
--- the path is the value of its own tokens
-abbrev pub IsOwn : ExprPath → Type 0
-IsOwn path = IsWhole expr_path path.written.tokens path
-
 -- what stands behind `=` gives no method
 method_other : IsOther (λ (values : Values). values.method)
 method_other = record { name = λ values x. refl; ignore = λ values b. refl; expression = λ values x. refl }
@@ -37,19 +34,19 @@ taken_method : (which : Trait) (values : Values) (path : ExprPath) → (taken wh
 taken_method PartialOrd values path is = is
 taken_method _ values path is = absurd (cc)
 
-read_own : (tokens : List Token) (path : ExprPath) (o : Option (List ℕ)) → ReadsBy expr_path o tokens path → IsOwn path
+read_own : (tokens : List Token) (path : ExprPath) (o : Option (List ℕ)) → ReadsBy expr_path o tokens path → IsReadPath path
 read_own tokens path None reads = subst (λ (own : List Token). IsWhole expr_path own path) (sym (lawful_parts.path tokens path reads)) reads
 read_own tokens path (Some text) reads = subst (λ (own : List Token). IsWhole expr_path own path) (sym (lawful_parts.path reads.inner path reads.whole)) reads.whole
 
-held_own : (path : ExprPath) (o : Option Source) → HoldsAmong kind.Path o path → IsOwn path
+held_own : (path : ExprPath) (o : Option Source) → HoldsAmong kind.Path o path → IsReadPath path
 held_own path None holds = absurd (cc)
 held_own path (Some s) holds = read_own s.tokens path (only_text s.tokens) holds
 
-given_own : (row : Row) (params : List Meta) (o : Option ExprPath) → IsGiven row Method params o → (path : ExprPath) → o ≡ Some path → IsOwn path
+given_own : (row : Row) (params : List Meta) (o : Option ExprPath) → IsGiven row Method params o → (path : ExprPath) → o ≡ Some path → IsReadPath path
 given_own row params None gives path is = absurd (cc)
-given_own row params (Some x) gives path is = subst IsOwn (sym gives.3.is ∙ same_Some x path is) (held_own gives.3.value (value_source gives.0) gives.3.holds)
+given_own row params (Some x) gives path is = subst IsReadPath (sym gives.3.is ∙ same_Some x path is) (held_own gives.3.value (value_source gives.0) gives.3.holds)
 
-says_own : (row : Row) (m : Meta) (values : Values) → Says row m values → (path : ExprPath) → values.method ≡ Some path → IsOwn path
+says_own : (row : Row) (m : Meta) (values : Values) → Says row m values → (path : ExprPath) → values.method ≡ Some path → IsReadPath path
 says_own row _ _ (Says.bare name flag) path is = absurd (cc)
 says_own row _ _ (Says.equals name x place b v behind_is holds) path is =
     let none : None ≡ Some path = sym (behind_leaves (λ (values : Values). values.method) method_other row.equals b behind_is v (values_at place)) ∙ is in absurd (cc)
@@ -57,7 +54,7 @@ says_own row _ _ (Says.params name group place found values whole given span_is)
 
 -- the method of a field, as its attributes say
 pub method_own : (which : Trait) (row : Row) (listed : List Trait) (attributes : List Attribute) (settings : FieldSettings) (path : ExprPath)
-    → IsFieldSaid which row listed attributes settings → settings.values.method ≡ Some path → IsOwn path
+    → IsFieldSaid which row listed attributes settings → settings.values.method ≡ Some path → IsReadPath path
 method_own which row listed attributes _ path (IsFieldSaid.own_said values says) is = says_own row says.meta values says.says path is
 method_own which row listed attributes _ path (IsFieldSaid.other_said other values other_is none says) is = says_own row says.meta values says.says path (taken_method which values path is)
 method_own which row listed attributes _ path (IsFieldSaid.none_said none others) is = absurd (cc)

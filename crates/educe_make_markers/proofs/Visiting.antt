@@ -1,16 +1,15 @@
--- What stands in the markers of fields may be visited to replace `Self`.
-use Rattle.std.proofs.Common.{◌≡◌, ◌∙◌, Bool, true, false, List, [], ◌∷◌, Option, Some, None, inl, inr, refl, ap, sym, subst}
+-- What stands in the markers of fields is read, so that `Self` may be replaced in it.
+use Rattle.std.proofs.Common.{◌≡◌, ◌∙◌, Bool, true, false, List, Option, Some, None, inl, inr, refl, ap, sym, subst}
 use Rattle.std.specs.List.{AllByRecursion, flat_map}
 use Rattle.educe_syntax.specs.DeriveInput.{DeriveInput}
 use Rattle.educe_syntax.specs.ExprPath.{ExprPath}
 use Rattle.educe_syntax.specs.Few.{shape_fields, all_fields}
 use Rattle.educe_syntax.specs.Field.{Field}
+use Rattle.educe_syntax.specs.Laws.{lawful_definitions}
+use Rattle.educe_syntax.specs.Readings.{IsReadType, IsReadPath, IsReadField}
 use Rattle.educe_syntax.specs.Refusal.{IsDefinition}
 use Rattle.educe_syntax.specs.Shape.{Shape}
 use Rattle.educe_syntax.specs.Shape.TheVariants.{Struct, Enum}
-use Rattle.educe_syntax.specs.Variant.{Variant}
-use Rattle.educe_syntax_self.specs.Visits.{MayVisitType, MayVisitPath, IsOwnField, AreOwnFields}
-use Rattle.educe_syntax_self.proofs.Lawful.{lawful_definitions}
 use Rattle.educe_attrs.specs.Causes.{NoCause}
 use Rattle.educe_attrs.specs.FieldSettings.{FieldSettings}
 use Rattle.educe_attrs.specs.Fields.{settings_at}
@@ -22,12 +21,12 @@ use Rattle.educe_laws.specs.Cases.{fields_in, shape_cases}
 use Rattle.educe_laws.specs.Listed.{listed}
 use Rattle.educe_laws.specs.Markers.{marked_by}
 use Rattle.educe_laws.specs.Settings.{Kept, how_with}
-use Rattle.educe_laws.proofs.Elements.{In, In-all, In-image, each_in, each_joined, each_weaker}
-use Rattle.educe_make_markers.specs.Marking.{MayVisitMarked, MayMark}
+use Rattle.educe_laws.proofs.Elements.{In, In-all, In-image, each_in, each_weaker}
+use Rattle.educe_make_markers.specs.Marking.{IsReadMarked, MayMark}
 use Rattle.educe_make_markers.proofs.KeptFields.{in_flat, IsMadeOf, kept_in, from_cases}
 use Rattle.educe_make_markers.proofs.OwnMethods.{method_own}
 
--- ---- fields that are their own
+-- ---- fields that are read
 
 -- a field of a case is one of all
 pub in_case : (shape : Shape) (fields : List Field) (f : Field) → In fields (shape_cases shape) → In f fields → In f (shape_fields shape)
@@ -37,32 +36,24 @@ in_case (Enum variants) fields f found inner =
     let (v, outer, is) = In-image fields_in variants fields found in
     in_flat fields_in variants v f outer (subst (In f) (sym is) inner)
 
-variants_own : (variants : List Variant) → AllByRecursion (λ (v : Variant). AllByRecursion IsOwnField v.fields.fields) variants → AllByRecursion IsOwnField (flat_map fields_in variants)
-variants_own [] own = tt
-variants_own (v ∷ vs) own = each_joined IsOwnField (fields_in v) (flat_map fields_in vs) own.0 (variants_own vs own.1)
-
-shape_own : (shape : Shape) → AreOwnFields shape → AllByRecursion IsOwnField (shape_fields shape)
-shape_own (Struct shape) own = own
-shape_own (Enum variants) own = variants_own variants own
-
--- each field of a definition is the value of its own tokens
-pub own_field : (d : DeriveInput) → IsDefinition d.tokens d → (f : Field) → In f (all_fields d) → IsOwnField f
-own_field d is f found = In-all IsOwnField (all_fields d) f (shape_own d.shape (lawful_definitions.own d.tokens d is.whole).fields) found
+-- the type of each field of a definition is the reading of its tokens
+pub own_field : (d : DeriveInput) → IsDefinition d.tokens d → (f : Field) → In f (all_fields d) → IsReadField f
+own_field d is f found = In-all IsReadField (all_fields d) f (lawful_definitions.parts d.tokens d is.whole).fields found
 
 -- ---- markers
 
-module _ (which : Trait) (row : Row) (d : DeriveInput) (f : Field) (own : IsOwnField f) (none : NoCause (OfField which row (listed d) f.attrs)) where
+module _ (which : Trait) (row : Row) (d : DeriveInput) (f : Field) (own : IsReadField f) (none : NoCause (OfField which row (listed d) f.attrs)) where
   -- what is said of the field
   abbrev said : FieldSettings
   said = settings_at which row (listed d) f
 
-  -- the type of the field and its method may be visited
-  both : (path : ExprPath) → said.values.method ≡ Some path → MayVisitType f.ty × MayVisitPath path
+  -- the type of the field and its method are read
+  both : (path : ExprPath) → said.values.method ≡ Some path → IsReadType f.ty × IsReadPath path
   both path method =
-      (record { reads = own }, record { reads = method_own which row (listed d) f.attrs said path (lawful_settings.field_said which row (listed d) f.attrs none) method })
+      (own, method_own which row (listed d) f.attrs said path (lawful_settings.field_said which row (listed d) f.attrs none) method)
 
-  -- so may what stands in the marker, if there is one
-  with_method : (ordering : Bool) (method : Option ExprPath) → said.values.method ≡ method → MayVisitMarked (marked_by (how_with ordering method) f.ty)
+  -- so is what stands in the marker, if there is one
+  with_method : (ordering : Bool) (method : Option ExprPath) → said.values.method ≡ method → IsReadMarked (marked_by (how_with ordering method) f.ty)
   with_method ordering None is = tt
   with_method false (Some path) is = both path is
   with_method true (Some path) is = both path is
@@ -73,15 +64,15 @@ module _ (which : Trait) (row : Row) (d : DeriveInput) (f : Field) (own : IsOwnF
       let how_is : k.how ≡ how_with said.method_returns_ordering said.values.method =
       made.how_is ∙ ap (λ (own : Field). how_with (settings_at which row (listed d) own).method_returns_ordering (settings_at which row (listed d) own).values.method) is in
       let both_are : marked_by k.how k.field.ty ≡ marked_by (how_with said.method_returns_ordering said.values.method) f.ty = λ i. marked_by (how_is i) (field_is i).ty in
-      subst MayVisitMarked (sym both_are) (with_method said.method_returns_ordering said.values.method refl)
+      subst IsReadMarked (sym both_are) (with_method said.method_returns_ordering said.values.method refl)
 
 module _ (which : Trait) (d : DeriveInput) {X : Type 0} (row_of : X → Row) (fields_of : X → List Field) (cases : List X) where
   -- the fields of these cases that take part
   abbrev pub kept_of_cases : List Kept
   kept_of_cases = flat_map (kept_in (λ x. settings_at which (row_of x) (listed d)) fields_of) cases
 
-  -- what stands in their markers may be visited
-  pub markers_visit : ((x : X) → In x cases → (f : Field) → In f (fields_of x) → IsOwnField f × NoCause (OfField which (row_of x) (listed d) f.attrs))
+  -- what stands in their markers is read
+  pub markers_visit : ((x : X) → In x cases → (f : Field) → In f (fields_of x) → IsReadField f × NoCause (OfField which (row_of x) (listed d) f.attrs))
       → AllByRecursion MayMark kept_of_cases
   markers_visit each =
       each_weaker (λ k. In k kept_of_cases) MayMark

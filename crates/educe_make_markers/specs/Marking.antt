@@ -5,8 +5,8 @@ use Rattle.educe_syntax.specs.DeriveInput.{DeriveInput}
 use Rattle.educe_syntax.specs.ExprPath.{ExprPath}
 use Rattle.educe_syntax.specs.Generics.{Generics}
 use Rattle.educe_syntax.specs.Ident.{Ident}
+use Rattle.educe_syntax.specs.Readings.{IsReadType, IsReadPath, AreReadGenerics}
 use Rattle.educe_syntax.specs.Ty.{Ty}
-use Rattle.educe_syntax_self.specs.Visits.{MayVisitType, MayVisitPath}
 use Rattle.educe_bound_traits.specs.declared.traits.Trait.{Trait}
 use Rattle.educe_body_items.specs.declared.items.Item.{Item}
 use Rattle.educe_body_items.specs.declared.items.Item.TheVariants.{Marker}
@@ -17,18 +17,18 @@ use Rattle.educe_laws.specs.Settings.{Kept}
 use Rattle.educe_make_markers.specs.declared.markers.MarkerNames.{MarkerNames}
 use Rattle.educe_make_markers.specs.declared.markers.MethodMarker.{MethodMarker}
 
--- what stands in the marker of a field may be visited
-abbrev pub MayVisitMarked : Option Marked → Type 0
-MayVisitMarked None = Unit {0}
-MayVisitMarked (Some marked) = MayVisitType marked.ty × MayVisitPath marked.method
+-- what stands in the marker of a field is the reading of its tokens
+abbrev pub IsReadMarked : Option Marked → Type 0
+IsReadMarked None = Unit {0}
+IsReadMarked (Some marked) = IsReadType marked.ty × IsReadPath marked.method
 
 -- so it is where the field takes part and has a method
 abbrev pub MayMark : Kept → Type 0
-MayMark kept = MayVisitMarked (marked_by kept.how kept.field.ty)
+MayMark kept = IsReadMarked (marked_by kept.how kept.field.ty)
 
--- what is put in place of `Self` is the head of the definition
+-- what is put in place of `Self` is the head of the definition, and the generics are readings of their tokens
 abbrev pub CanMark : MethodMarker → Type 0
-CanMark marking = IsHeadFor marking.ast.now marking.replace.now.head
+CanMark marking = IsHeadFor marking.ast.now marking.replace.now.head × AreReadGenerics marking.generics.now
 
 -- the text of a name, if there is one
 abbrev pub own_texts : Option Ident → List (List ℕ)

@@ -1,8 +1,7 @@
 //! Functions that call the methods of fields, so that these count as used and have to fit.
 ghost use Rattle.std.specs.Prelude.{◌≡◌, ◌∷◌, [], ◌++◌, map, IfOk, OnOk};
 ghost use Rattle.std.specs.List.{AllByRecursion};
-ghost use Rattle.educe_syntax_self.specs.Heads.{AreNamed};
-ghost use Rattle.educe_syntax_self.specs.Visits.{MayVisitType, MayVisitPath};
+ghost use Rattle.educe_syntax.specs.Readings.{AreNamed, AreReadGenerics, IsReadType, IsReadPath};
 ghost use Rattle.educe_handlers.specs.Ranked.{kept_of};
 ghost use Rattle.educe_laws.specs.Checks.{texts_of};
 ghost use Rattle.educe_make_markers.specs.Marking as spec;
@@ -67,8 +66,8 @@ fn marker_item(
     method: &ExprPath,
 ) -> Result<MarkerItem, AllocError>
     requires can { spec.CanMark marking.now }
-    requires ty { MayVisitType field.now.ty }
-    requires method { MayVisitPath method.now }
+    requires ty { IsReadType field.now.ty }
+    requires method { IsReadPath method.now }
     ensures { IfOk result (spec.IsMarkerOf marking.now field.now.ty method.now) }
 {
     let replace = marking.replace;
@@ -91,8 +90,8 @@ fn push_item(
     items: &mut Items,
 ) -> Result<(), AllocError>
     requires can { spec.CanMark marking.now }
-    requires ty { MayVisitType field.now.ty }
-    requires method { MayVisitPath method.now }
+    requires ty { IsReadType field.now.ty }
+    requires method { IsReadPath method.now }
     ensures { OnOk result (spec.AddsMarker marking.now field.now.ty method.now items.old items.new) }
 {
     let item = marker_item(alloc, marking, field, method)?;
@@ -144,6 +143,7 @@ pub fn method_markers(
     fields: &[Ranked<'_, '_>],
 ) -> Result<Items, AllocError>
     requires named { AreNamed ast.now }
+    requires generics { AreReadGenerics generics.now }
     requires marks { AllByRecursion spec.MayMark (map kept_of fields.now) }
     ensures { IfOk result (spec.AreAll which ast.now generics.now (spec.names_of names.now) (map kept_of fields.now)) }
 {

@@ -1,4 +1,4 @@
-use Rattle.std.proofs.Common.{subst, map}
+use Rattle.std.proofs.Common.{subst, map, refl}
 use Rattle.educe_handlers.specs.Ranked.{kept_of}
 use Rattle.educe_laws.specs.Arms.{IsPatternBy}
 use Rattle.educe_handlers.proofs.Lists.{one_pushed}
@@ -10,6 +10,7 @@ returns c = λ definition said in_order.
     let names = c.args.names.now in
     let variant = c.args.variant.now in
     record {
+      spelled = record { braced_is = refl; comma_is = refl };
       own_is = subst (λ all. IsPatternBy names.own variant all c.in_ok-own.own) said c.in_ok-own.ensures;
       inner = c.in_ok-inner.inner;
       inner_is = subst (λ all. IsPatternBy names.others variant all c.in_ok-inner.inner) said c.in_ok-inner.ensures;

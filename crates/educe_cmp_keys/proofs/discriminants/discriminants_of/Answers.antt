@@ -2,12 +2,14 @@ use Rattle.std.proofs.Common.{None, subst}
 use Rattle.std.specs.List.{AllZip}
 use Rattle.educe_laws.specs.Arms.{IsConstant}
 use Rattle.educe_laws.specs.Discriminants.{counted_from}
+use Rattle.educe_cmp_keys.specs.Names.{names_of}
 use Rattle.educe_cmp_keys.specs.Laws.{lawful_comparisons}
 use Rattle.educe_cmp_keys.proofs.discriminants.discriminants_of.Goals as goal
 
 pub returns-clause-constants : goal.returns-clause-constants
 returns-clause-constants c = record {
-  base = c.in_ok-names.names.base.text;
+  names = names_of c.in_ok-names.names;
+  names_are = c.in_ok-names.ensures;
   each =
       subst (λ variants. AllZip (IsConstant c.in_ok-ty.ty c.in_ok-names.names.base.text) (counted_from None 0 variants) c.in_ok-constants.constants)
       c.variants_of.ensures c.in_ok-constants.ensures;

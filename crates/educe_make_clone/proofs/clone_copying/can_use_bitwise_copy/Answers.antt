@@ -10,4 +10,4 @@ pub returns-clause-copies : goal.returns-clause-copies
 returns-clause-copies c =
     let ast = c.args.task.ast.now in
     let lists : is_listed (listed ast) Copy ≡ true = sym (ap (λ (all : List Trait). is_listed all Copy) c.requires.listed) ∙ sym c.is_listed.ensures ∙ c.if-not-is_listed.false in
-    c.is_whole.ensures ∙ copies_by ast c.args.has_custom_method c.in_ok-bound.bound lists c.in_ok-bound.ensures.ok c.requires.methods
+    c.is_whole.ensures ∙ copies_by ast c.args.has_custom_method c.in_ok-bound.bound lists c.in_ok-bound.ensures.ok.is

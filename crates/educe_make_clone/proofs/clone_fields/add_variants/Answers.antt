@@ -1,4 +1,4 @@
-use Rattle.std.proofs.Common.{◌≡◌, ◌∙◌, List, ◌++◌, [], ◌∷◌, ◌+◌, map, take, ap, sym, subst, append-nil, append_assoc, arith}
+use Rattle.std.proofs.Common.{◌≡◌, ◌∙◌, List, ◌++◌, [], ◌∷◌, ◌+◌, map, take, ap, sym, append-nil, append_assoc, arith}
 use Rattle.std.specs.List.{flat_map}
 use Rattle.std.proofs.lemmas.Grind.{flat_map-append}
 use Rattle.std.proofs.lemmas.List.{take_all}
@@ -8,7 +8,7 @@ use Rattle.educe_handlers.specs.Ranked.{kept_of}
 use Rattle.educe_handlers.proofs.SettingsAt.{settings_each, settings_at}
 use Rattle.educe_handlers.proofs.Visited.{mapped_more}
 use Rattle.educe_laws.specs.Cases.{fields_in}
-use Rattle.educe_laws.specs.Settings.{Kept, settings_of, kept_fields}
+use Rattle.educe_laws.specs.Settings.{settings_of, kept_fields}
 use Rattle.educe_make_clone.proofs.clone_fields.add_variants.Goals as goal
 
 pub bounds-settings-place : goal.bounds-settings-place

@@ -1,4 +1,4 @@
-use Rattle.std.proofs.Common.{List, subst}
+use Rattle.std.proofs.Common.{List, subst, refl}
 use Rattle.std.specs.List.{AllZip}
 use Rattle.educe_attrs.specs.FieldSettings.{FieldSettings}
 use Rattle.educe_laws.specs.Arms.{IsPatternBy}
@@ -13,6 +13,7 @@ returns c = λ definition said kept.
     let variant = c.args.variant.now in
     let block = c.in_ok-block.ensures in
     record {
+      spelled = record { braced_is = refl; comma_is = refl };
       own_is = subst (λ (all : List FieldSettings). IsPatternBy names.own variant all c.in_ok-pattern.pattern) said c.in_ok-pattern.ensures;
       inner = block.inner;
       inner_is = subst (λ (all : List FieldSettings). IsPatternBy names.sources variant all block.inner) said block.inner_is;

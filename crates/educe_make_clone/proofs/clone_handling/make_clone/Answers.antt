@@ -3,8 +3,8 @@ use Rattle.std.specs.List.{AllByRecursion}
 use Rattle.educe_syntax.specs.DeriveInput.{DeriveInput}
 use Rattle.educe_syntax.specs.Few.{all_fields}
 use Rattle.educe_syntax.specs.Field.{Field}
+use Rattle.educe_syntax.specs.Laws.{lawful_definitions}
 use Rattle.educe_syntax.specs.Refusal.{IsDefinition}
-use Rattle.educe_syntax_self.proofs.Lawful.{lawful_definitions}
 use Rattle.educe_attrs.specs.Causes.{NoCause}
 use Rattle.educe_attrs.specs.Fields.{HaveNoCauses}
 use Rattle.educe_attrs.specs.Places.{OfField}
@@ -20,12 +20,13 @@ use Rattle.educe_laws.specs.Rows.{field_row}
 use Rattle.educe_laws.specs.Settings.{all_kept}
 use Rattle.educe_laws.specs.Types.{AreCloneTypes}
 use Rattle.educe_laws.proofs.Elements.{In-all}
+use Rattle.educe_laws.proofs.ReadHeaders.{lawful_headers}
 use Rattle.educe_make_clone.specs.CloneNames.{names_of}
 use Rattle.educe_make_markers.specs.Marking.{MayMark}
 use Rattle.educe_make_markers.proofs.Visiting.{in_case, own_field, markers_visit}
 use Rattle.educe_make_clone.proofs.clone_handling.make_clone.Goals as goal
 
--- what stands in the markers may be visited
+-- what stands in the markers is read
 kept_visit : (d : DeriveInput) → IsDefinition d.tokens d → HaveNoCauses Clone (field_row Clone) (listed d) (all_fields d) → AllByRecursion MayMark (all_kept Clone d)
 kept_visit d is read =
     markers_visit Clone d (λ (fields : List Field). field_row Clone) (λ (fields : List Field). fields) (cases_of d)
@@ -46,7 +47,11 @@ clone_items-requires-clause-item c =
     (subst (λ (b : Bool). AreCloneFunctions b ast names c.in_ok-functions.functions) c.requires.copies c.in_ok-functions.ensures.are)
 
 pub clone_items-requires-clause-named : goal.clone_items-requires-clause-named
-clone_items-requires-clause-named c = lawful_definitions.named c.args.ast.now.tokens c.args.ast.now c.requires.ready.is_read.whole
+clone_items-requires-clause-named c = (lawful_definitions.parts c.args.ast.now.tokens c.args.ast.now c.requires.ready.is_read.whole).named
+
+pub clone_items-requires-clause-generics : goal.clone_items-requires-clause-generics
+clone_items-requires-clause-generics c =
+    let ast = c.args.ast.now in lawful_headers.generics Clone ast c.in_ok-item.item.generics (lawful_definitions.parts ast.tokens ast c.requires.ready.is_read.whole) c.in_ok-item.ensures.item.header_is
 
 pub clone_items-requires-clause-kept : goal.clone_items-requires-clause-kept
 clone_items-requires-clause-kept c = ap (map kept_of) c.deref.ensures.value ∙ c.in_ok-kept.ensures

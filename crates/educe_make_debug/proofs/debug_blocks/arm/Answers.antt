@@ -1,4 +1,4 @@
-use Rattle.std.proofs.Common.{◌≡◌, List, length, map, ap, sym, subst, ◌∙◌}
+use Rattle.std.proofs.Common.{◌≡◌, List, length, map, ap, sym, subst, ◌∙◌, refl, not}
 use Rattle.educe_syntax.specs.Field.{Field}
 use Rattle.educe_attrs.specs.FieldSettings.{FieldSettings}
 use Rattle.educe_laws.specs.Arms.{IsPatternBy}
@@ -20,6 +20,7 @@ returns c = λ definition own.
     let settings : c.as_slice.result.now ≡ map (entry_settings shown.named definition) (fields_in variant) =
     c.as_slice.ensures ∙ own.settled ∙ (λ i. map (entry_settings (own.is i).named definition) (own.is i).fields) in
     record {
+      spelled = record { braced_is = ap (λ (case : ShownCase). not case.unit) own.is; comma_is = refl };
       pattern_is = subst (λ (all : List FieldSettings). IsPatternBy names.prefix variant all c.in_ok-pattern.pattern) settings c.in_ok-pattern.ensures;
       block_is = subst (λ (case : ShownCase). IsArmBlock case.unit definition names case c.in_ok-block.block) own.is (c.in_ok-block.ensures definition own.settled);
     }

@@ -1,12 +1,13 @@
 use Rattle.std.proofs.Common.{◌∙◌, map, ap, sym, subst}
 use Rattle.std.specs.Prelude.{codes}
 use Rattle.std.specs.List.{AllByRecursion}
-use Rattle.educe_syntax_self.proofs.Lawful.{lawful_definitions}
+use Rattle.educe_syntax.specs.Laws.{lawful_definitions}
 use Rattle.educe_bound_traits.specs.declared.traits.Trait.TheVariants.{Debug}
 use Rattle.educe_handlers.specs.Ranked.{kept_of}
 use Rattle.educe_handlers.proofs.Formed.{impl_with}
 use Rattle.educe_laws.specs.Blocks.{IsFunction}
 use Rattle.educe_laws.specs.ShownBodies.{IsDebugBody}
+use Rattle.educe_laws.proofs.ReadHeaders.{lawful_headers}
 use Rattle.educe_make_debug.specs.DebugNames.{names_of}
 use Rattle.educe_make_debug.proofs.Marked.{shown_visit}
 use Rattle.educe_make_markers.specs.Marking.{MayMark}
@@ -24,7 +25,11 @@ pub debug_items-requires-clause-shown : goal.debug_items-requires-clause-shown
 debug_items-requires-clause-shown c = ap (map kept_of) c.deref-2.ensures.value ∙ c.in_ok-kept.ensures
 
 pub debug_items-requires-clause-named : goal.debug_items-requires-clause-named
-debug_items-requires-clause-named c = lawful_definitions.named c.args.ast.now.tokens c.args.ast.now c.requires.ready.is_read.whole
+debug_items-requires-clause-named c = (lawful_definitions.parts c.args.ast.now.tokens c.args.ast.now c.requires.ready.is_read.whole).named
+
+pub debug_items-requires-clause-generics : goal.debug_items-requires-clause-generics
+debug_items-requires-clause-generics c =
+    let ast = c.args.ast.now in lawful_headers.generics Debug ast c.in_ok-item.item.generics (lawful_definitions.parts ast.tokens ast c.requires.ready.is_read.whole) c.in_ok-item.ensures.item.header_is
 
 pub debug_items-requires-clause-marks : goal.debug_items-requires-clause-marks
 debug_items-requires-clause-marks c =

@@ -1,4 +1,4 @@
-use Rattle.std.proofs.Common.{◌++◌, ◌∙◌, ap, subst}
+use Rattle.std.proofs.Common.{◌++◌, ◌∙◌, ap, subst, refl}
 use Rattle.educe_handlers.proofs.Lists.{one_pushed}
 use Rattle.educe_laws.specs.Arms.{IsPatternBy}
 use Rattle.educe_laws.specs.HashBodies.{AreHashSteps}
@@ -12,6 +12,7 @@ returns c = λ definition said kept_is.
     let first = c.in_ok-place_step.field-0 in
     let steps = c.in_ok-steps.steps in
     record {
+      spelled = record { braced_is = refl; comma_is = refl };
       pattern_is = subst (λ all. IsPatternBy names.prefix variant all c.in_ok-pattern.pattern) said c.in_ok-pattern.ensures;
       first = first;
       first_is = c.in_ok-place_step.ensures;

@@ -1,4 +1,4 @@
-use Rattle.std.proofs.Common.{◌≡◌, List, ◌++◌, map, subst, ap, ◌∙◌}
+use Rattle.std.proofs.Common.{List, ◌++◌, map, ap, ◌∙◌}
 use Rattle.std.proofs.lemmas.Result.{on_ok_weaker}
 use Rattle.educe_handlers.specs.Ranked.{kept_of}
 use Rattle.educe_laws.specs.Settings.{Kept}

@@ -1,4 +1,5 @@
-use Rattle.std.proofs.Common.{◌≡◌, true, inl, inr, refl}
+use Rattle.std.proofs.Common.{◌≡◌, ◌∙◌, true, inl, inr, refl, ap}
+use Rattle.std.specs.List.{list_any}
 use Rattle.educe_tokens.specs.declared.error.EduceError.{EduceError}
 use Rattle.educe_syntax.specs.DeriveInput.{DeriveInput}
 use Rattle.educe_attrs.specs.Phases.{OfHandler}
@@ -13,6 +14,8 @@ use Rattle.educe_laws.proofs.Refused.{type_refused, shape_refused}
 use Rattle.educe_laws.proofs.Stops.{stop_passed}
 use Rattle.educe_make_clone.specs.Bitwise.{OfCopy}
 use Rattle.educe_make_clone.specs.CloneLaws.{lawful_clones}
+use Rattle.educe_make_clone.proofs.Bitwise.{copies_known}
+use Rattle.educe_make_markers.specs.Methods.{has_method}
 use Rattle.educe_make_clone.proofs.clone.CloneHandlerTraitHandler.block.Goals as goal
 
 -- what the type says of `Copy` is a cause of `Clone`
@@ -37,6 +40,12 @@ returns-in_err-copies-clause-err c =
     let ast = c.args.ast.now in
     stop_passed (OfCopy ast) (OfHandler (handling ast) Clone) (copy_refused ast)
     c.from_residual-in_err-copies.result c.in_err-copies.field-0.0 c.from_residual-in_err-copies.ensures.1 c.in_err-copies.ensures.err
+
+pub make_clone-requires-clause-copies : goal.make_clone-requires-clause-copies
+make_clone-requires-clause-copies c =
+    let ast = c.args.ast.now in
+    c.in_ok-copies.ensures.copies
+    ∙ copies_known ast c.has_custom_method.result (c.has_custom_method.ensures ∙ ap (list_any (list_any has_method)) (c.as_slice-settings.ensures ∙ c.in_ok-settings.ensures.are))
 
 pub make_clone-requires-clause-read : goal.make_clone-requires-clause-read
 make_clone-requires-clause-read c = fields_uncaused Clone c.args.ast.now c.in_ok-settings.ensures.uncaused

@@ -1,13 +1,15 @@
-use Rattle.std.proofs.Common.{Option, subst, sym}
+use Rattle.std.proofs.Common.{Option, ap, subst, sym}
 use Rattle.std.specs.Prelude.{is_none}
 use Rattle.educe_syntax.specs.Expr.{Expr}
 use Rattle.educe_attrs.specs.Phases.{OfHandler}
 use Rattle.educe_attrs.specs.Places.{OfPlace}
+use Rattle.educe_attrs.specs.Values.{Values}
 use Rattle.educe_bound_traits.specs.declared.traits.Trait.TheVariants.{Default}
 use Rattle.educe_laws.specs.Handled.{handling}
 use Rattle.educe_laws.specs.Listed.{listed}
 use Rattle.educe_laws.specs.Rows.{type_row}
 use Rattle.educe_laws.proofs.DefaultCauses.{type_refused}
+use Rattle.educe_laws.proofs.ReadBounds.{bound_is}
 use Rattle.educe_laws.proofs.Stops.{stop_passed}
 use Rattle.educe_make_default.specs.DefaultLaws.{lawful_defaults}
 use Rattle.educe_make_default.specs.Defaults.{IsTyped}
@@ -25,6 +27,10 @@ made-requires-clause-typed c =
     let ast = c.args.ast.now in
     subst (λ (value : Option Expr). IsTyped ast c.args.listed.now (is_none value)) (sym c.own_of-bound.ensures.value)
     (typed_by ast c.args.listed.now c.in_ok-values.values c.requires.ready.traits_are c.in_ok-values.ensures.are c.in_ok-values.ensures.uncaused)
+
+pub make_default-requires-clause-bound : goal.make_default-requires-clause-bound
+make_default-requires-clause-bound c =
+    bound_is Default c.args.ast.now _ c.own_of-bound.result.bound c.in_ok-values.ensures.uncaused (ap (λ (values : Values). values.bound) c.in_ok-values.ensures.are) c.own_of-bound.ensures.bound
 
 pub returns-clause-means : goal.returns-clause-means
 returns-clause-means c = λ few. lawful_defaults.evaluates c.args.ast.now _ c.requires.ready.is_read c.in_ok-make_default.ensures.block
