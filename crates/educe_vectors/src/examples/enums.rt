@@ -36,6 +36,11 @@ a method `other`, and a field behind a prefix
 #[educe(PartialEq)] enum E { A { #[educe(PartialEq(method(other)))] _s_x: u8, y: u8 } }
 : writes # [ automatically_derived ] impl :: core :: cmp :: PartialEq for E { fn eq ( & self , _other : & Self ) -> :: core :: primitive :: bool { match self { Self :: A { _s_x : __s__s_x , y : __s_y , } => { if let Self :: A { _s_x : _o__s_x , y : _o_y , } = _other { if ! other ( __s__s_x , _o__s_x ) { return false ; } if :: core :: cmp :: PartialEq :: ne ( __s_y , _o_y ) { return false ; } } else { return false ; } } } true } }
 
+the methods `other` and `this`
+#[educe(PartialEq, PartialOrd, Ord)] enum E { A { #[educe(PartialEq(method(other)))] _s_x: u8, #[educe(Ord(method = "this"))] y: u8 } }
+: holds fn eq ( & self , _other : & Self ) -> :: core :: primitive :: bool { match self { Self :: A { _s_x : __s__s_x , y : __s_y , } => { if let Self :: A { _s_x : _o__s_x , y : _o_y , } = _other {
+: holds fn cmp ( & self , _other : & Self ) -> :: core :: cmp :: Ordering { let discriminant = | _this : & Self |
+
 a method `this`
 #[educe(Ord)] enum E { A { x: u8, #[educe(Ord(method = "this"))] y: u8 } }
 : holds let discriminant = | _this : & Self | -> :: core :: primitive :: isize { match _this {

@@ -41,6 +41,11 @@ it inherits what `PartialEq` asks
 : holds :: core :: cmp :: PartialEq for S < T > where T : MyTrait {
 : holds :: core :: cmp :: Eq for S < T > where T : :: core :: cmp :: Eq , T : MyTrait { }
 
+under an empty bound it inherits nothing, and there is no check
+#[educe(PartialEq(bound(T: MyTrait)), Eq(bound = ""))] struct S<T> { a: T }
+: ends for S < T > where T : MyTrait { fn eq ( & self , other : & Self ) -> :: core :: primitive :: bool { if :: core :: cmp :: PartialEq :: ne ( & self . a , & other . a ) { return false ; } true } }
+# [ automatically_derived ] impl < T > :: core :: cmp :: Eq for S < T > { }
+
 without predicates by an empty bound, there is no check
 #[educe(PartialEq, Eq(bound = ""))] struct S<T> { a: T }
 : ends } }

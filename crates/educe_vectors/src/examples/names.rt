@@ -15,6 +15,14 @@ a method of `PartialOrd` serves it alone
 : writes # [ automatically_derived ] impl :: core :: cmp :: PartialOrd for S { fn partial_cmp ( & self , other : & Self , ) -> :: core :: option :: Option < :: core :: cmp :: Ordering > { match p ( & self . a , & other . a ) { :: core :: option :: Option :: Some ( :: core :: cmp :: Ordering :: Equal ) => ( ) , :: core :: option :: Option :: Some ( :: core :: cmp :: Ordering :: Greater ) => return :: core :: option :: Option :: Some ( :: core :: cmp :: Ordering :: Greater ) , :: core :: option :: Option :: Some ( :: core :: cmp :: Ordering :: Less ) => return :: core :: option :: Option :: Some ( :: core :: cmp :: Ordering :: Less ) , :: core :: option :: Option :: None => return :: core :: option :: Option :: None , } :: core :: option :: Option :: Some ( :: core :: cmp :: Ordering :: Equal ) } }
 # [ automatically_derived ] impl :: core :: cmp :: Ord for S { fn cmp ( & self , other : & Self ) -> :: core :: cmp :: Ordering { match :: core :: cmp :: Ord :: cmp ( & self . a , & other . a ) { :: core :: cmp :: Ordering :: Equal => ( ) , :: core :: cmp :: Ordering :: Greater => return :: core :: cmp :: Ordering :: Greater , :: core :: cmp :: Ordering :: Less => return :: core :: cmp :: Ordering :: Less , } :: core :: cmp :: Ordering :: Equal } }
 
+the same beside equality
+#[educe(PartialEq, Eq, PartialOrd, Ord)] struct S { #[educe(Ord(method(c)))] a: u8 }
+: holds { match :: core :: option :: Option :: Some ( c ( & self . a , & other . a ) ) {
+
+the same of `PartialOrd`
+#[educe(PartialEq, Eq, PartialOrd, Ord)] struct S { #[educe(PartialOrd(method(p)))] a: u8 }
+: holds { match :: core :: cmp :: Ord :: cmp ( & self . a , & other . a ) {
+
 a method that has the name of the second value
 #[educe(PartialEq)] struct S { #[educe(PartialEq(method(other)))] a: u8 }
 : writes # [ automatically_derived ] impl :: core :: cmp :: PartialEq for S { fn eq ( & self , _other : & Self ) -> :: core :: primitive :: bool { if ! other ( & self . a , & _other . a ) { return false ; } true } }

@@ -200,7 +200,7 @@ the impl of a struct
 
 the impl of an enum
 #[educe(Clone)] enum E { A, B(u8) }
-: writes # [ automatically_derived ] impl :: core :: clone :: Clone for E { fn clone ( & self ) -> Self { match self { Self :: A => { Self :: A } Self :: B ( _s_0 , ) => { Self :: B ( :: core :: clone :: Clone :: clone ( _s_0 ) , ) } } } fn clone_from ( & mut self , source : & Self ) { match self { Self :: A => { if let Self :: A = source { } else { * self = :: core :: clone :: Clone :: clone ( source ) ; } } Self :: B ( _d_0 , ) => { if let Self :: B ( _s_0 , ) = source { :: core :: clone :: Clone :: clone_from ( _d_0 , _s_0 ) ; } else { * self = :: core :: clone :: Clone :: clone ( source ) ; } } } } }
+: writes # [ automatically_derived ] impl :: core :: clone :: Clone for E { fn clone ( & self ) -> Self { match self { Self :: A => Self :: A , Self :: B ( _s_0 , ) => Self :: B ( :: core :: clone :: Clone :: clone ( _s_0 ) , ) , } } fn clone_from ( & mut self , source : & Self ) { match self { Self :: A => { if let Self :: A = source { } else { * self = :: core :: clone :: Clone :: clone ( source ) ; } } , Self :: B ( _d_0 , ) => { if let Self :: B ( _s_0 , ) = source { :: core :: clone :: Clone :: clone_from ( _d_0 , _s_0 ) ; } else { * self = :: core :: clone :: Clone :: clone ( source ) ; } } , } } }
 
 the impl of an enum without variants
 #[educe(Clone)] enum E {}
@@ -218,7 +218,7 @@ const _ : ( ) = { fn __educe_clone_method_used < T > ( educe__value : & Vec < S 
 
 the impl of an enum with a method, and its marker
 #[educe(Clone)] enum Enum { V2 { #[educe(Clone(method(clone)))] f1: u8 } }
-: writes # [ automatically_derived ] impl :: core :: clone :: Clone for Enum { fn clone ( & self ) -> Self { match self { Self :: V2 { f1 : _s_f1 , } => { Self :: V2 { f1 : clone ( _s_f1 ) , } } } } fn clone_from ( & mut self , source : & Self ) { match self { Self :: V2 { f1 : _d_f1 , } => { if let Self :: V2 { f1 : _s_f1 , } = source { * _d_f1 = clone ( _s_f1 ) ; } else { * self = :: core :: clone :: Clone :: clone ( source ) ; } } } } }
+: writes # [ automatically_derived ] impl :: core :: clone :: Clone for Enum { fn clone ( & self ) -> Self { match self { Self :: V2 { f1 : _s_f1 , } => Self :: V2 { f1 : clone ( _s_f1 ) , } , } } fn clone_from ( & mut self , source : & Self ) { match self { Self :: V2 { f1 : _d_f1 , } => { if let Self :: V2 { f1 : _s_f1 , } = source { * _d_f1 = clone ( _s_f1 ) ; } else { * self = :: core :: clone :: Clone :: clone ( source ) ; } } , } } }
 const _ : ( ) = { fn __educe_clone_method_used ( educe__value : & u8 , ) -> u8 { clone ( educe__value ) } } ;
 
 a marker has the lints and the parameters of the impl

@@ -61,7 +61,7 @@ fn structs_are_made(rt: HostRuntime) -> Result<(), Fail> {
 
 static ENUMS: &str = r#"
 the marked variant
-#[educe(Default)] enum E { V1, #[educe(Default)] V2 { f1: u8 }, V3(u8) }
+#[educe(Default)] enum Enum { V1, #[educe(Default)] V2 { f1: u8 }, V3(u8) }
 : Default 0 -> 0
 : default = 1(0)
 

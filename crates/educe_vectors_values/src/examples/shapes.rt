@@ -184,8 +184,8 @@ a bound of a type that is not known
 the formatter and the variables are no words of the input
 #[educe(Debug(name = true))] enum Enum { #[educe(Debug(name = false))] V1, #[educe(Debug(name(V)))] V2 { #[educe(Debug(name(f)))] f1: u8 }, #[educe(Debug(name = false))] V3(u8) }
 : holds fn fmt ( & self , _f : & mut :: core :: fmt :: Formatter < '_ > )
-: holds Self :: V1 => { _f . write_str ( "Enum" ) }
-: holds Self :: V2 { f1 : __f1 , } => { let mut builder = _f . debug_struct ( "Enum::V" ) ; builder . field ( "f" , __f1 ) ; builder . finish ( ) }
+: holds Self :: V1 => _f . write_str ( "Enum" ) ,
+: holds Self :: V2 { f1 : __f1 , } => { let mut builder = _f . debug_struct ( "Enum::V" ) ; builder . field ( "f" , __f1 ) ; builder . finish ( ) } ,
 
 all nine traits
 /// A shape of the plane.
@@ -222,6 +222,8 @@ pub enum Shape<T> {
 : holds # [ allow ( dead_code ) ] impl < T > :: core :: cmp :: Eq for Shape < T >
 : holds # [ allow ( dead_code ) ] impl < T > :: core :: cmp :: PartialOrd for Shape < T >
 : holds # [ allow ( dead_code ) ] impl < T > :: core :: cmp :: Ord for Shape < T >
+: holds Self :: Other => const { let base : :: core :: primitive :: u8 = 10 ; base . wrapping_add ( 8usize as :: core :: primitive :: u8 ) } ,
+: holds Self :: Arc { start : _s_start , end : _s_end , label : _ , } => { if let Self :: Arc { start : _o_start , end : _o_end , label : _ , } = other { match :: core :: cmp :: Ord :: cmp ( _s_start , _o_start ) {
 : holds # [ allow ( dead_code ) ] impl < T > :: core :: hash :: Hash for Shape < T >
 : holds # [ allow ( dead_code ) ] impl < T > :: core :: default :: Default for Shape < T >
 "#;
