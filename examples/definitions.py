@@ -180,9 +180,10 @@ def built(folder, text, stderr=None):
 
 
 def errors(folder, text):
-    """The codes of the errors of rustc in a program; nothing where it compiles."""
+    """The codes of the errors of rustc in a program, or their words where they have none; nothing where it compiles."""
     run = built(folder, text, subprocess.PIPE)
-    return None if run.returncode == 0 else sorted(set(re.findall(r"error\[(E\d+)\]", run.stderr.decode())))
+    found = re.findall(r"^error(?:\[(E\d+)\])?: (.*)$", run.stderr.decode(), re.MULTILINE)
+    return None if run.returncode == 0 else sorted({code or words for code, words in found})
 
 
 def compiled(folder, text, quietly=False):
