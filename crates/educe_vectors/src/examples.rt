@@ -5,12 +5,14 @@ use std::test::Fail;
 
 mod builders;
 mod devices;
+mod discriminants;
 mod enums;
 mod equalities;
 mod evaluations;
 mod expansions;
 mod fields;
 mod impls;
+mod inherited;
 mod listings;
 mod names;
 mod phases;

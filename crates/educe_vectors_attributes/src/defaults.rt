@@ -18,7 +18,7 @@ fn fields(shape: &Shape) -> Result<&[Field], Fail> {
 }
 
 /// The type of the only field of a struct.
-fn only_type(shape: &Shape) -> Result<&Ty, Fail> {
+pub(crate) fn only_type(shape: &Shape) -> Result<&Ty, Fail> {
     match fields(shape)? {
         [field] => Ok(&field.ty),
         _ => Err(Fail::from("not one field")),

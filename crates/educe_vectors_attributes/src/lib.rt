@@ -10,6 +10,8 @@ mod builders;
 #[cfg(test)]
 mod calls;
 #[cfg(test)]
+mod classes;
+#[cfg(test)]
 mod defaults;
 #[cfg(test)]
 mod generated;
@@ -17,6 +19,8 @@ mod generated;
 mod keys;
 #[cfg(test)]
 mod listings;
+#[cfg(test)]
+mod predicates;
 #[cfg(test)]
 mod tables;
 #[cfg(test)]

@@ -2,6 +2,7 @@
 
 mod bounds;
 mod calls;
+mod classes;
 mod debug_fields;
 mod debug_types;
 mod defaults;
@@ -10,4 +11,5 @@ mod generated;
 mod keys;
 mod orders;
 mod places;
+mod predicates;
 mod values;

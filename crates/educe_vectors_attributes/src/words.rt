@@ -3,9 +3,9 @@
 use educe_attrs::debug::{FieldName, TypeName};
 use educe_attrs::{clone, copy, debug, default, ord, partial_eq, partial_ord};
 use educe_bound::Bound;
-use educe_syntax::{Expr, ExprPath, Predicates, text_of_tree};
+use educe_syntax::{Expr, ExprPath, Predicates, ToTokens, text_of_tree};
 use educe_tokens::Span;
-use std::alloc::Global;
+use std::alloc::{AllocError, Global};
 use std::test::Fail;
 
 /// What has words for what it says.
@@ -14,14 +14,26 @@ pub(crate) trait Worded {
     fn words(&self, alloc: Global) -> Result<String, Fail>;
 }
 
-/// Predicates, with a comma behind each.
-pub(crate) fn predicates_words(alloc: Global, predicates: &Predicates) -> Result<String, Fail> {
-    let mut words = String::from_str(alloc, "bounds")?;
-    for predicate in predicates.as_slice() {
-        let text = text_of_tree(alloc, predicate)?;
+/// A word, and trees with a comma behind each.
+pub(crate) fn tree_words<T: ToTokens>(
+    alloc: Global,
+    word: &str,
+    trees: &[T],
+) -> Result<String, AllocError> {
+    let mut words = String::from_str(alloc, word)?;
+    for tree in trees {
+        let text = text_of_tree(alloc, tree)?;
         write!(words, " {text},")?;
     }
     Ok(words)
+}
+
+/// Predicates, with a comma behind each.
+pub(crate) fn predicates_words(
+    alloc: Global,
+    predicates: &Predicates,
+) -> Result<String, AllocError> {
+    tree_words(alloc, "bounds", predicates.as_slice())
 }
 
 impl Worded for Bound {
@@ -30,7 +42,7 @@ impl Worded for Bound {
             Bound::Disabled => Ok(String::from_str(alloc, "no bounds")?),
             Bound::Auto => Ok(String::from_str(alloc, "needed bounds")?),
             Bound::All => Ok(String::from_str(alloc, "all bounds")?),
-            Bound::Custom(predicates) => predicates_words(alloc, predicates),
+            Bound::Custom(predicates) => Ok(predicates_words(alloc, predicates)?),
         }
     }
 }

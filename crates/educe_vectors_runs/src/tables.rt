@@ -9,6 +9,7 @@
 //! - `: writes TEXT`: it is expanded, to exactly this text
 //! - `: ends TEXT`: it is expanded, to a text that ends so
 //! - `: holds TEXT`: it is expanded, to a text that has this in it
+//! - `: items N`: it is expanded, to this many items, each of which is a line of the text
 //! - `: expands`: it is expanded
 //! - `: refused TEXT`: it is refused with these notes; where several answers begin so, with one of them
 //!
@@ -87,6 +88,11 @@ fn notes_of(found: &Outcome) -> Result<&str, Fail> {
     )
 }
 
+/// How many lines a text has.
+fn line_count(text: &str) -> usize {
+    text.split('\n').count()
+}
+
 /// Whether a line says this of the text that is written.
 fn says(line: &str, text: &str) -> bool {
     let (word, part) = line.split_once(' ').unwrap_or((line, ""));
@@ -94,6 +100,7 @@ fn says(line: &str, text: &str) -> bool {
         "writes" => text == part,
         "ends" => text.ends_with(part),
         "holds" => text.contains(part),
+        "items" => part.parse::<usize>().ok() == Some(line_count(text)),
         _ => line == "expands",
     }
 }
@@ -141,7 +148,7 @@ fn topic<'a>(example: &Example<'a>) -> Result<&'a str, Fail> {
 /// The lines of a row are as they say.
 fn check_example(alloc: Global, example: &Example) -> Result<(), Fail> {
     match topic(example)? {
-        "writes" | "ends" | "holds" | "expands" => check_run(alloc, example, false),
+        "writes" | "ends" | "holds" | "items" | "expands" => check_run(alloc, example, false),
         "refused" => check_run(alloc, example, true),
         "prints" | "tokens" | "integer" | "string" | "cause" => check_tokens(alloc, example),
         _ => check_functions(alloc, example),

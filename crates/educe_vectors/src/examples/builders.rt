@@ -1,4 +1,4 @@
-//! A worked example of a trait that `expand` does not build yet, read by its builder (documentation of
+//! A worked example of what a builder answers when it is called by itself: `Clone` at a variant (documentation of
 //! `educe`, Clone).
 
 use educe_attrs::{Trait, TypeBuilder, clone};

@@ -122,6 +122,21 @@ Copy(other)
 
 Copy(bound = true, bound(*))
 : 1:20: you are trying to reset the `bound` parameter
+
+Copy(bound)
+: 1:6: expected `bound = "where_predicates"`, `bound(where_predicates)`, `bound(*)`, `bound = false`, or `bound(false)`
+
+Copy(bound = 1)
+: 1:14: expected `bound = "where_predicates"` or `bound = false`
+
+Copy(1)
+: 1:6: syntax error
+
+Copy(a = !!!!!!!!!!!!!!!!!!!!!!!!!!!!!!!!!!!!!!!!!!!!!!!!!!!!!!!!!!!!!!!!!!!!!!!!!!!!!!!!!!!!!!!!!!!!!!!!!!!!!!!!!!!!!!!!!!!!!!!!!!!!!!!!!x)
+: 1:138: nested too deeply
+
+Copy(bound = "T: 1.5")
+: 1:14: `1.5` is not supported
 "#;
 
 #[test]
@@ -156,6 +171,21 @@ PartialEq(other)
 
 PartialEq(bound = true, bound(*))
 : 1:25: you are trying to reset the `bound` parameter
+
+PartialEq(bound)
+: 1:11: expected `bound = "where_predicates"`, `bound(where_predicates)`, `bound(*)`, `bound = false`, or `bound(false)`
+
+PartialEq(bound = 1)
+: 1:19: expected `bound = "where_predicates"` or `bound = false`
+
+PartialEq(1)
+: 1:11: syntax error
+
+PartialEq(a = !!!!!!!!!!!!!!!!!!!!!!!!!!!!!!!!!!!!!!!!!!!!!!!!!!!!!!!!!!!!!!!!!!!!!!!!!!!!!!!!!!!!!!!!!!!!!!!!!!!!!!!!!!!!!!!!!!!!!!!!!!!!!!!!!x)
+: 1:143: nested too deeply
+
+PartialEq(bound = "T: 1.5")
+: 1:19: `1.5` is not supported
 "#;
 
 #[test]
@@ -190,6 +220,21 @@ Eq(other)
 
 Eq(bound = true, bound(*))
 : 1:18: you are trying to reset the `bound` parameter
+
+Eq(bound)
+: 1:4: expected `bound = "where_predicates"`, `bound(where_predicates)`, `bound(*)`, `bound = false`, or `bound(false)`
+
+Eq(bound = 1)
+: 1:12: expected `bound = "where_predicates"` or `bound = false`
+
+Eq(1)
+: 1:4: syntax error
+
+Eq(a = !!!!!!!!!!!!!!!!!!!!!!!!!!!!!!!!!!!!!!!!!!!!!!!!!!!!!!!!!!!!!!!!!!!!!!!!!!!!!!!!!!!!!!!!!!!!!!!!!!!!!!!!!!!!!!!!!!!!!!!!!!!!!!!!!x)
+: 1:136: nested too deeply
+
+Eq(bound = "T: 1.5")
+: 1:12: `1.5` is not supported
 "#;
 
 #[test]
@@ -224,6 +269,21 @@ PartialOrd(other)
 
 PartialOrd(bound = true, bound(*))
 : 1:26: you are trying to reset the `bound` parameter
+
+PartialOrd(bound)
+: 1:12: expected `bound = "where_predicates"`, `bound(where_predicates)`, `bound(*)`, `bound = false`, or `bound(false)`
+
+PartialOrd(bound = 1)
+: 1:20: expected `bound = "where_predicates"` or `bound = false`
+
+PartialOrd(1)
+: 1:12: syntax error
+
+PartialOrd(a = !!!!!!!!!!!!!!!!!!!!!!!!!!!!!!!!!!!!!!!!!!!!!!!!!!!!!!!!!!!!!!!!!!!!!!!!!!!!!!!!!!!!!!!!!!!!!!!!!!!!!!!!!!!!!!!!!!!!!!!!!!!!!!!!!x)
+: 1:144: nested too deeply
+
+PartialOrd(bound = "T: 1.5")
+: 1:20: `1.5` is not supported
 "#;
 
 #[test]
@@ -258,6 +318,21 @@ Ord(other)
 
 Ord(bound = true, bound(*))
 : 1:19: you are trying to reset the `bound` parameter
+
+Ord(bound)
+: 1:5: expected `bound = "where_predicates"`, `bound(where_predicates)`, `bound(*)`, `bound = false`, or `bound(false)`
+
+Ord(bound = 1)
+: 1:13: expected `bound = "where_predicates"` or `bound = false`
+
+Ord(1)
+: 1:5: syntax error
+
+Ord(a = !!!!!!!!!!!!!!!!!!!!!!!!!!!!!!!!!!!!!!!!!!!!!!!!!!!!!!!!!!!!!!!!!!!!!!!!!!!!!!!!!!!!!!!!!!!!!!!!!!!!!!!!!!!!!!!!!!!!!!!!!!!!!!!!!x)
+: 1:137: nested too deeply
+
+Ord(bound = "T: 1.5")
+: 1:13: `1.5` is not supported
 "#;
 
 #[test]
@@ -292,6 +367,21 @@ Hash(other)
 
 Hash(bound = true, bound(*))
 : 1:20: you are trying to reset the `bound` parameter
+
+Hash(bound)
+: 1:6: expected `bound = "where_predicates"`, `bound(where_predicates)`, `bound(*)`, `bound = false`, or `bound(false)`
+
+Hash(bound = 1)
+: 1:14: expected `bound = "where_predicates"` or `bound = false`
+
+Hash(1)
+: 1:6: syntax error
+
+Hash(a = !!!!!!!!!!!!!!!!!!!!!!!!!!!!!!!!!!!!!!!!!!!!!!!!!!!!!!!!!!!!!!!!!!!!!!!!!!!!!!!!!!!!!!!!!!!!!!!!!!!!!!!!!!!!!!!!!!!!!!!!!!!!!!!!!x)
+: 1:138: nested too deeply
+
+Hash(bound = "T: 1.5")
+: 1:14: `1.5` is not supported
 "#;
 
 #[test]

@@ -125,6 +125,9 @@ Debug(method = "f::<c\"x\">")
 Debug(method = "f::<X<X<X<X<X<X<X<X<X<X<X<X<X<X<X<X<X<X<X<X<X<X<X<X<X<X<X<X<X<X<X<X<X<X<X<X<X<X<X<X<X<X<X<X<X<X<X<X<X<X<X<X<X<X<X<X<X<X<X<X<X<X<X<X<X<X<X<X<X<X<X<X<X<X<X<X<X<X<X<X<X<X<X<X<X<X<X<X<X<X<X<X<X<X<X<X<X<X<X<X<X<X<X<X<X<X<X<X<X<X<X<X<X<X<X<X<X<X<X<X<X<X<X<X<X<X<X<X<u8>>>>>>>>>>>>>>>>>>>>>>>>>>>>>>>>>>>>>>>>>>>>>>>>>>>>>>>>>>>>>>>>>>>>>>>>>>>>>>>>>>>>>>>>>>>>>>>>>>>>>>>>>>>>>>>>>>>>>>>>>>>>>>>>>")
 Debug(method = "((((((((((((((((((((((((((((((((((((((((((((((((((((((((((((((((((((((((((((((((((((((((((((((((((((((((((((((((((((((((((((((((()))))))))))))))))))))))))))))))))))))))))))))))))))))))))))))))))))))))))))))))))))))))))))))))))))))))))))))))))))))))))))))))))")
 : 1:16: nested too deeply
+
+Debug(1)
+: 1:7: syntax error
 "#;
 
 #[test]
@@ -153,6 +156,21 @@ Debug
 Debug = x
 Debug = ""
 : 1:9: expected `Debug = false`
+
+Debug(method)
+: 1:7: expected `method = Path` or `method(Path)`
+
+Debug(ignore, ignore)
+: 1:15: you are trying to reset the `ignore` parameter
+
+Debug(1)
+: 1:7: syntax error
+
+Debug(a = !!!!!!!!!!!!!!!!!!!!!!!!!!!!!!!!!!!!!!!!!!!!!!!!!!!!!!!!!!!!!!!!!!!!!!!!!!!!!!!!!!!!!!!!!!!!!!!!!!!!!!!!!!!!!!!!!!!!!!!!!!!!!!!!!x)
+: 1:139: nested too deeply
+
+Debug(method = "f::<1.5>")
+: 1:16: `1.5` is not supported
 "#;
 
 #[test]

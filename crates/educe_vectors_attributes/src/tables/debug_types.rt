@@ -110,6 +110,9 @@ Debug(name::name = a)
     #[educe(Debug(named_field = false))]
     #[educe(Debug(bound(where_predicates)))]
     #[educe(Debug(bound = false))]
+
+Debug(a = !!!!!!!!!!!!!!!!!!!!!!!!!!!!!!!!!!!!!!!!!!!!!!!!!!!!!!!!!!!!!!!!!!!!!!!!!!!!!!!!!!!!!!!!!!!!!!!!!!!!!!!!!!!!!!!!!!!!!!!!!!!!!!!!!x)
+: 1:139: nested too deeply
 "#;
 
 #[test]
@@ -158,6 +161,27 @@ Debug(named_field = true)
     #[educe(Debug(name = true))]
     #[educe(Debug(bound(where_predicates)))]
     #[educe(Debug(bound = false))]
+
+Debug = 1
+: 1:9: expected `Debug = Ident`
+
+Debug(name)
+: 1:7: expected `name = Ident`, `name(Ident)`, `name = false`, or `name(false)`
+
+Debug(name = 1)
+: 1:14: expected `name = Ident` or `name = false`
+
+Debug(name = A, name = A)
+: 1:17: you are trying to reset the `name` parameter
+
+Debug(1)
+: 1:7: syntax error
+
+Debug(a = !!!!!!!!!!!!!!!!!!!!!!!!!!!!!!!!!!!!!!!!!!!!!!!!!!!!!!!!!!!!!!!!!!!!!!!!!!!!!!!!!!!!!!!!!!!!!!!!!!!!!!!!!!!!!!!!!!!!!!!!!!!!!!!!!x)
+: 1:139: nested too deeply
+
+Debug(bound = "T: 1.5")
+: 1:15: `1.5` is not supported
 "#;
 
 #[test]
@@ -183,6 +207,27 @@ Debug(bound = false)
     #[educe(Debug(name(NewName)))]
     #[educe(Debug(name = false))]
     #[educe(Debug(named_field = false))]
+
+Debug = 1
+: 1:9: expected `Debug = Ident`
+
+Debug(name)
+: 1:7: expected `name = Ident`, `name(Ident)`, `name = false`, or `name(false)`
+
+Debug(name = 1)
+: 1:14: expected `name = Ident` or `name = false`
+
+Debug(name = V, rename = V)
+: 1:17: you are trying to reset the `rename` parameter
+
+Debug(1)
+: 1:7: syntax error
+
+Debug(a = !!!!!!!!!!!!!!!!!!!!!!!!!!!!!!!!!!!!!!!!!!!!!!!!!!!!!!!!!!!!!!!!!!!!!!!!!!!!!!!!!!!!!!!!!!!!!!!!!!!!!!!!!!!!!!!!!!!!!!!!!!!!!!!!!x)
+: 1:139: nested too deeply
+
+Debug(name = "1.5")
+: 1:14: `1.5` is not supported
 "#;
 
 #[test]

@@ -106,6 +106,12 @@ Default(expr = 1, new, expression = 2)
 
 Default(expr = 1 2)
 : 1:18: syntax error
+
+Default(a = !!!!!!!!!!!!!!!!!!!!!!!!!!!!!!!!!!!!!!!!!!!!!!!!!!!!!!!!!!!!!!!!!!!!!!!!!!!!!!!!!!!!!!!!!!!!!!!!!!!!!!!!!!!!!!!!!!!!!!!!!!!!!!!!!x)
+: 1:141: nested too deeply
+
+Default(bound = "T: 1.5")
+: 1:17: `1.5` is not supported
 "#;
 
 #[test]
@@ -134,6 +140,12 @@ Default = 1
 Default(bound = false)
 : 1:1: you are using an incorrect format of the `Default` attribute, which should be reformatted as follows:
     #[educe(Default)]
+
+Default(1)
+: 1:9: syntax error
+
+Default(a = !!!!!!!!!!!!!!!!!!!!!!!!!!!!!!!!!!!!!!!!!!!!!!!!!!!!!!!!!!!!!!!!!!!!!!!!!!!!!!!!!!!!!!!!!!!!!!!!!!!!!!!!!!!!!!!!!!!!!!!!!!!!!!!!!x)
+: 1:141: nested too deeply
 "#;
 
 #[test]
@@ -220,6 +232,12 @@ Default(expression())
 
 Default(expr = 1, expr = 1)
 : 1:19: you are trying to reset the `expr` parameter
+
+Default(1)
+: 1:9: syntax error
+
+Default(a = !!!!!!!!!!!!!!!!!!!!!!!!!!!!!!!!!!!!!!!!!!!!!!!!!!!!!!!!!!!!!!!!!!!!!!!!!!!!!!!!!!!!!!!!!!!!!!!!!!!!!!!!!!!!!!!!!!!!!!!!!!!!!!!!!x)
+: 1:141: nested too deeply
 "#;
 
 #[test]

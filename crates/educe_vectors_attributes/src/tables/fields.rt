@@ -32,6 +32,12 @@ Clone(method = f, method(f))
 
 Clone(1)
 : 1:7: syntax error
+
+Clone(a = !!!!!!!!!!!!!!!!!!!!!!!!!!!!!!!!!!!!!!!!!!!!!!!!!!!!!!!!!!!!!!!!!!!!!!!!!!!!!!!!!!!!!!!!!!!!!!!!!!!!!!!!!!!!!!!!!!!!!!!!!!!!!!!!!x)
+: 1:139: nested too deeply
+
+Clone(method = "f::<1.5>")
+: 1:16: `1.5` is not supported
 "#;
 
 #[test]
@@ -125,6 +131,15 @@ PartialEq(method)
 
 PartialEq(ignore, ignore = false)
 : 1:19: you are trying to reset the `ignore` parameter
+
+PartialEq(1)
+: 1:11: syntax error
+
+PartialEq(a = !!!!!!!!!!!!!!!!!!!!!!!!!!!!!!!!!!!!!!!!!!!!!!!!!!!!!!!!!!!!!!!!!!!!!!!!!!!!!!!!!!!!!!!!!!!!!!!!!!!!!!!!!!!!!!!!!!!!!!!!!!!!!!!!!x)
+: 1:143: nested too deeply
+
+PartialEq(method = "f::<1.5>")
+: 1:20: `1.5` is not supported
 "#;
 
 #[test]
@@ -178,6 +193,15 @@ Hash(method)
 
 Hash(ignore, ignore = false)
 : 1:14: you are trying to reset the `ignore` parameter
+
+Hash(1)
+: 1:6: syntax error
+
+Hash(a = !!!!!!!!!!!!!!!!!!!!!!!!!!!!!!!!!!!!!!!!!!!!!!!!!!!!!!!!!!!!!!!!!!!!!!!!!!!!!!!!!!!!!!!!!!!!!!!!!!!!!!!!!!!!!!!!!!!!!!!!!!!!!!!!!x)
+: 1:138: nested too deeply
+
+Hash(method = "f::<1.5>")
+: 1:15: `1.5` is not supported
 "#;
 
 #[test]

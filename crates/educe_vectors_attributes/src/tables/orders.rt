@@ -135,6 +135,12 @@ Ord(ignore, method = f, ignore)
 
 Ord(rank = 1 ignore)
 : 1:14: syntax error
+
+Ord(a = !!!!!!!!!!!!!!!!!!!!!!!!!!!!!!!!!!!!!!!!!!!!!!!!!!!!!!!!!!!!!!!!!!!!!!!!!!!!!!!!!!!!!!!!!!!!!!!!!!!!!!!!!!!!!!!!!!!!!!!!!!!!!!!!!x)
+: 1:137: nested too deeply
+
+Ord(method = "f::<1.5>")
+: 1:14: `1.5` is not supported
 "#;
 
 #[test]
@@ -169,6 +175,15 @@ PartialOrd(method)
 
 PartialOrd(method = f, method = g)
 : 1:24: you are trying to reset the `method` parameter
+
+PartialOrd(1)
+: 1:12: syntax error
+
+PartialOrd(a = !!!!!!!!!!!!!!!!!!!!!!!!!!!!!!!!!!!!!!!!!!!!!!!!!!!!!!!!!!!!!!!!!!!!!!!!!!!!!!!!!!!!!!!!!!!!!!!!!!!!!!!!!!!!!!!!!!!!!!!!!!!!!!!!!x)
+: 1:144: nested too deeply
+
+PartialOrd(method = "f::<1.5>")
+: 1:21: `1.5` is not supported
 "#;
 
 #[test]

@@ -1,5 +1,4 @@
-//! Worked examples of clones (documentation of `educe`, Clone; Copy). `examples/answers.sh` has compiled
-//! code answer the rows with values too.
+//! Worked examples of clones (documentation of `educe`, Clone; Copy).
 
 use educe_vectors_runs::check_table;
 use std::test::Fail;

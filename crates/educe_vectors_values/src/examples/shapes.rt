@@ -214,6 +214,7 @@ pub enum Shape<T> {
     Group(u32, u32),
     Other,
 }
+: items 10
 : holds # [ allow ( dead_code ) ] impl < T > :: core :: fmt :: Debug for Shape < T >
 : holds # [ allow ( dead_code ) ] impl < T > :: core :: clone :: Clone for Shape < T >
 : holds # [ allow ( dead_code ) ] impl < T > :: core :: marker :: Copy for Shape < T > where T : :: core :: marker :: Copy , ( T , T ) : :: core :: marker :: Copy , T : :: core :: clone :: Clone , ( T , T ) : :: core :: clone :: Clone
