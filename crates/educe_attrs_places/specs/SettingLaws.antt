@@ -4,7 +4,9 @@ use Rattle.educe_tokens.specs.declared.token.Token.{Token}
 use Rattle.educe_bound_traits.specs.declared.traits.Trait.{Trait}
 use Rattle.educe_syntax.specs.Attribute.{Attribute}
 use Rattle.educe_syntax.specs.ExprPath.{ExprPath}
+use Rattle.educe_syntax.specs.Meta.{Meta}
 use Rattle.educe_syntax.specs.Within.{AttributesWithin}
+use Rattle.educe_attrs_rows.specs.Causes.{Says}
 use Rattle.educe_attrs_rows.specs.declared.row.Row.{Row}
 use Rattle.educe_attrs_rows.specs.declared.values.Values.{Values}
 use Rattle.educe_attrs_places.specs.declared.place.FieldSettings.{FieldSettings}
@@ -14,6 +16,8 @@ use Rattle.educe_attrs_places.specs.Places.{place_settings, IsSaid, OfPlace, fie
 
 -- What holds of the settings of a trait at a type, a variant or a field, by the row of the place.
 pub record SettingLaws : Type 0 where
+  -- a meta says one thing, by the row of its place
+  pub meta_only : (row : Row) (meta : Meta) (values others : Values) → Says row meta values → Says row meta others → values ≡ others
   -- where no cause stands, the settings at a type or a variant are what its attributes say
   pub place_said : (which : Trait) (row : Row) (listed : List Trait) (attributes : List Attribute) → NoCause (OfPlace which row listed attributes)
       → IsSaid which row attributes (place_settings which row listed attributes)

@@ -9,8 +9,8 @@ pub fn report_laws()
     ensures { ReportLaws }
 {}
 
-/// Where attributes have no cause, the settings are what they say, and nothing else is. The text of a
-/// method is among their tokens, or it is that of a string among these.
+/// A meta says one thing. Where attributes have no cause, the settings are what they say, and nothing
+/// else is. The text of a method is among their tokens, or it is that of a string among these.
 pub fn setting_laws()
     ensures { SettingLaws }
 {}

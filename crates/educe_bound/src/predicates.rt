@@ -38,7 +38,7 @@ impl Bound {
         ensures keys { IfOk result (λ found. spec.AreByBound self.now exceptions.now params.now self_ident.now.text bound_trait (map (λ (t : Bor Ty). t.now) types.now) (spec.keys_of found)) }
         // Under the automatic bound they suffice, and none can be dropped.
         ensures suffice { IfOk result (λ found. spec.SufficeBy self.now exceptions.now params.now self_ident.now.text bound_trait (map (λ (t : Bor Ty). t.now) types.now) (spec.keys_of found)) }
-        ensures minimal { AreNames params.now → AllByRecursion IsReadType (map (λ (t : Bor Ty). t.now) types.now) → IfOk result (λ found. spec.AreMinimalBy self.now exceptions.now params.now self_ident.now.text bound_trait (map (λ (t : Bor Ty). t.now) types.now) (spec.keys_of found)) }
+        ensures minimal { AllByRecursion IsReadType (map (λ (t : Bor Ty). t.now) types.now) → IfOk result (λ found. spec.AreMinimalBy self.now exceptions.now params.now self_ident.now.text bound_trait (map (λ (t : Bor Ty). t.now) types.now) (spec.keys_of found)) }
         ensures read { spec.IsReadBound self.now → AreNames params.now → AllByRecursion IsReadType (map (λ (t : Bor Ty). t.now) types.now) → IfOk result spec.AreRead }
     {
         match self {

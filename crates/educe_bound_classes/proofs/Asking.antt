@@ -14,16 +14,16 @@ use Rattle.educe_tree.specs.declared.path.AngleArg.{AngleArg}
 use Rattle.educe_tree.specs.declared.path.Path.{Path}
 use Rattle.educe_grammar.specs.Parsed.{depth_limit}
 use Rattle.educe_grammar.specs.Readings.{IsName, IsReadType}
-use Rattle.educe_grammar.proofs.Each.{all_front, all_behind, all_append, all_more}
+use Rattle.educe_grammar.proofs.Each.{all_front, all_behind, all_append}
 use Rattle.educe_bound_classes.specs.Exceptions.{Exceptions}
 use Rattle.educe_bound_classes.specs.declared.needs.Asked.{Asked}
 use Rattle.educe_bound_classes.specs.declared.needs.Asked.TheVariants.{Itself}
 use Rattle.educe_bound_classes.specs.Deriving.{Class, forwarding, mentioning, other, AsksNothing, Needs, AllNeed}
 use Rattle.educe_bound_classes.specs.Questions.{uses_params}
 use Rattle.educe_bound_classes.specs.Classes.{plain_of, types_behind, last_types, path_of_form, is_unconditional, forwards_at, is_forwarding, parts_by, mentions_named, names_in, class_by, class_of}
-use Rattle.educe_bound_classes.specs.Needs.{own_of, param_of, IsTypeParam}
+use Rattle.educe_bound_classes.specs.Needs.{own_of, param_of}
 use Rattle.educe_bound_classes.specs.Asked.{key_of, keys_of, IsAskedRead, AreAskedRead, Adds, AddsAll, AddsNames}
-use Rattle.educe_bound_classes.proofs.ByText.{names_are}
+use Rattle.educe_bound_classes.proofs.ByText.{names_named}
 use Rattle.educe_bound_classes.proofs.Inside.{parts_read}
 
 -- ---- lists
@@ -163,7 +163,7 @@ module _ (ex : Exceptions) (params : List GenericParam) (self : List ℕ) where
       Needs.mentions ty (names_in params ex ty) (class_mentioning _ _ _ _ (names_in params ex ty) a b (no_parts_if (path_of_form ty.form) f) m),
       added.keys bound,
     );
-    read = λ names read asked. added.read ex params self (all_more (IsTypeParam params) IsName (λ n is. is.0) (names_in params ex ty) (names_are ex params self ty names)) asked;
+    read = λ names read asked. added.read ex params self (names_named ex params self ty names) asked;
   }
 
   pub adds_itself : (ty : Bor Ty) (old new : List Asked) → is_unconditional params ex ty.now ≡ false → uses_params params ty.now ≡ true → is_forwarding params ex ty.now ≡ false → mentions_named params self ty.now ≡ false

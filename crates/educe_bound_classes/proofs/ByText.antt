@@ -1,6 +1,6 @@
 -- Classes go by the tokens of types that are read: so the own predicates of the automatic mode suffice, and none can be dropped.
 use Rattle.std.proofs.Common.{◌≡◌, ℕ, Bool, true, false, not, ◌&&◌, ◌||◌, List, [], ◌∷◌, refl, ap, sym, subst, ◌∙◌, Option, Some, None, filter, cond, codes}
-use Rattle.std.specs.Prelude.{slice_get, if◌then◌else◌}
+use Rattle.std.specs.Prelude.{IfSome, slice_get, if◌then◌else◌}
 use Rattle.std.specs.List.{AllByRecursion, list_any, filter_map}
 use Rattle.std.proofs.lemmas.List.{append_cancel_right}
 use Rattle.std.specs.Str.{bytes_eq}
@@ -9,7 +9,6 @@ use Rattle.educe_tokens.specs.TokenKind.TheVariants as kind
 use Rattle.educe_tokens.specs.declared.token.Token.{Token}
 use Rattle.educe_tokens.specs.declared.written.Written.{Written}
 use Rattle.educe_tokens.specs.Lexes.{Lexeme}
-use Rattle.educe_tree.specs.Names.{is_name}
 use Rattle.educe_tree.specs.declared.generics.GenericParam.{GenericParam}
 use Rattle.educe_tree.specs.declared.generics.GenericParam.TheVariants as param
 use Rattle.educe_tree.specs.declared.ty.Ty.{Ty}
@@ -17,8 +16,12 @@ use Rattle.educe_tree.specs.declared.path.Path.{out-Path, out-roll-Path}
 use Rattle.educe_grammar.specs.declared.terminal.Terminal.TheVariants as terminal
 use Rattle.educe_grammar.specs.Terminals.{accepts}
 use Rattle.educe_grammar.specs.Steps.{Found}
-use Rattle.educe_grammar.specs.Alike.{lexeme_aside, lexemes_aside, AlikeTypes}
+use Rattle.educe_grammar.specs.Reads.{Reads}
+use Rattle.educe_grammar.specs.Readings.{IsName}
+use Rattle.educe_grammar.specs.Types.{any_type}
+use Rattle.educe_grammar.specs.Alike.{lexeme_aside, lexemes_aside}
 use Rattle.educe_grammar.proofs.AlikeByTokens.{types_alike}
+use Rattle.educe_grammar.proofs.Each.{all_found}
 use Rattle.educe_tokens.proofs.Lists.{cons_parts, nil_not_cons}
 use Rattle.educe_bound_classes.specs.Exceptions.{Exceptions}
 use Rattle.educe_bound_classes.specs.Deriving.{forwarding, mentioning, other, IsByText}
@@ -27,10 +30,10 @@ use Rattle.educe_bound_classes.specs.Paths.{name_passes, begins_with}
 use Rattle.educe_bound_classes.specs.Walk.{in_type, in_segments}
 use Rattle.educe_bound_classes.specs.Questions.{mention_of, use_of, uses_params}
 use Rattle.educe_bound_classes.specs.Classes.{has_angle, args_at, is_named_at, matches_at, last_segment, is_unconditional, forwards, parts_of, type_name, name_of, names_in, mentions, class_by, class_of}
-use Rattle.educe_bound_classes.specs.Needs.{IsReading, IsTypeParam, AreNames, own_of, param_of, AreOwn, Suffices, AreMinimal}
+use Rattle.educe_bound_classes.specs.Needs.{IsReading, AreNames, own_of, param_of, AreOwn, Suffices, AreMinimal}
 use Rattle.educe_bound_classes.proofs.Walks.{in_form-Path, in_path-here, in_path-nowhere}
 use Rattle.educe_bound_classes.proofs.ClassLikeness.{other_alike}
-use Rattle.educe_bound_classes.proofs.OneName.{ident_aside, found_name, name_path, name_type, name_read}
+use Rattle.educe_bound_classes.proofs.OneName.{ident_aside, name_path, name_type, lone_type}
 use Rattle.educe_bound_classes.proofs.Inside.{parts_reading}
 use Rattle.educe_bound_classes.proofs.Bounds.{automatic_suffices, automatic_minimal}
 
@@ -103,45 +106,50 @@ module _ (ex : Exceptions) (params : List GenericParam) (self : List ℕ) where
   one_token (t ∷ []) l same = (t, refl, (cons_parts _ _ _ _ same).0)
   one_token (t ∷ u ∷ ts) l same = absurd (nil_not_cons _ _ (sym (cons_parts _ _ _ _ same).1))
 
+  -- a type parameter has this name
+  abbrev IsTypeParam : List ℕ → Type 0
+  IsTypeParam name = is_type_param params name ≡ true
+
   -- a type whose tokens are a type parameter is of the class `other`
-  param_other : (x : Ty) (n : List ℕ) → IsReading x → IsTypeParam params n → lexemes_aside x.written.tokens ≡ record { kind = kind.Ident; spelling = n } ∷ [] → class_of params ex self x ≡ other
+  param_other : (x : Ty) (n : List ℕ) → IsReading x → IsTypeParam n → lexemes_aside x.written.tokens ≡ record { kind = kind.Ident; spelling = n } ∷ [] → class_of params ex self x ≡ other
   param_other x n read is same =
       let one = one_token x.written.tokens _ same in
       let t = one.0 in
       let ident : t.kind ≡ kind.Ident = ident_aside t.kind (ap (λ (l : Lexeme). l.kind) one.2) in
       let spelling : t.spelling ≡ n = ap (λ (l : Lexeme). l.spelling) one.2 in
-      let name : is_name kind.Ident t.spelling ≡ true = ap (is_name kind.Ident) spelling ∙ is.0 in
-      let found = found_name t ident name in
-      let alike : AlikeTypes x (name_type found x.written) =
-      types_alike read.0 0 x.written.tokens x.written.tokens x (name_type found x.written) refl read.1 (name_read t ident name x.written one.1) in
-      other_alike params ex self alike (name_other found x.written (ap (is_type_param params) spelling ∙ is.1))
+      let alone = lone_type read.0 t ident x (subst (λ (ts : List Token). Reads read.0 any_type ts x) one.1 read.1) in
+      let declared : IsTypeParam alone.0.token.spelling = ap (λ (u : Token). is_type_param params u.spelling) alone.1 ∙ ap (is_type_param params) spelling ∙ is in
+      ap (class_of params ex self) alone.3 ∙ name_other alone.0 alone.2 declared
 
   -- ---- the names that a class names
 
-  -- names of type parameters, in any front
-  abbrev AreTypeParams : List (List ℕ) → Type 0
-  AreTypeParams names = AllByRecursion (IsTypeParam params) names
+  -- what holds of each name holds of those that are kept
+  kept_name : (P : List ℕ → Type 0) (b : Bool) (n : List ℕ) (more : List (List ℕ)) → P n → AllByRecursion P more → AllByRecursion P (cond b (n ∷ more) more)
+  kept_name P true n more is rest = (is, rest)
+  kept_name P false n more is rest = rest
 
-  kept_name : (b : Bool) (n : List ℕ) (more all : List (List ℕ)) → IsTypeParam params n → AreTypeParams more → AreTypeParams (cond b (n ∷ more) more)
-  kept_name true n more all is rest = (is, rest)
-  kept_name false n more all is rest = rest
-
-  kept_names : (test : List ℕ → Bool) (names : List (List ℕ)) → AreTypeParams names → AreTypeParams (filter test names)
-  kept_names test [] all = tt
-  kept_names test (n ∷ names) all = kept_name (test n) n (filter test names) [] all.0 (kept_names test names all.1)
+  kept_names : (P : List ℕ → Type 0) (test : List ℕ → Bool) (names : List (List ℕ)) → AllByRecursion P names → AllByRecursion P (filter test names)
+  kept_names P test [] all = tt
+  kept_names P test (n ∷ names) all = kept_name P (test n) n (filter test names) all.0 (kept_names P test names all.1)
 
   -- those that are declared are type parameters
-  declared_names : (ps : List GenericParam) → ((n : List ℕ) → is_type_param ps n ≡ true → is_type_param params n ≡ true) → AreNames ps → AreTypeParams (filter_map type_name ps)
-  declared_names [] into all = tt
-  declared_names (param.Lifetime p ∷ ps) into all = declared_names ps (λ n h. into n h) all.1
-  declared_names (param.Const p ∷ ps) into all = declared_names ps (λ n h. into n h) all.1
-  declared_names (param.TypeParam p ∷ ps) into all = (
-    (all.0, into p.ident.text (ap (λ b. b || is_type_param ps p.ident.text) ((bytes_eq-Decides p.ident.text p.ident.text).1 refl))),
-    declared_names ps (λ n h. into n (or_second (bytes_eq n p.ident.text) (is_type_param ps n) h)) all.1,
+  declared_names : (ps : List GenericParam) → ((n : List ℕ) → is_type_param ps n ≡ true → IsTypeParam n) → AllByRecursion IsTypeParam (filter_map type_name ps)
+  declared_names [] into = tt
+  declared_names (param.Lifetime p ∷ ps) into = declared_names ps (λ n h. into n h)
+  declared_names (param.Const p ∷ ps) into = declared_names ps (λ n h. into n h)
+  declared_names (param.TypeParam p ∷ ps) into = (
+    into p.ident.text (ap (λ b. b || is_type_param ps p.ident.text) ((bytes_eq-Decides p.ident.text p.ident.text).1 refl)),
+    declared_names ps (λ n h. into n (or_second (bytes_eq n p.ident.text) (is_type_param ps n) h)),
   )
 
-  pub names_are : (x : Ty) → AreNames params → AreTypeParams (names_in params ex x)
-  names_are x names = kept_names (λ name. in_type (name_of params ex name) x) (filter_map type_name params) (declared_names params (λ n h. h) names)
+  names_are : (x : Ty) → AllByRecursion IsTypeParam (names_in params ex x)
+  names_are x = kept_names IsTypeParam (λ name. in_type (name_of params ex name) x) (filter_map type_name params) (declared_names params (λ n h. h))
+
+  -- where the name of each type parameter is one, so are they
+  pub names_named : (x : Ty) → AreNames params → AllByRecursion IsName (names_in params ex x)
+  names_named x names =
+      kept_names IsName (λ name. in_type (name_of params ex name) x) (filter_map type_name params)
+      (all_found type_name (λ p. IfSome (type_name p) IsName) IsName (λ p is. is) params names)
 
   -- ---- classes
 
@@ -162,11 +170,11 @@ module _ (ex : Exceptions) (params : List GenericParam) (self : List ℕ) where
   mentioning_names false true false None names ns h = absurd (cc)
 
   -- Classes go by the tokens of types.
-  pub by_text : (bound : List Lexeme) → AreNames params → IsByText (class_of params ex self) (own_of bound) (param_of bound) IsReading (IsTypeParam params)
-  by_text bound names = record {
+  pub by_text : (bound : List Lexeme) → IsByText (class_of params ex self) (own_of bound) (param_of bound) IsReading IsTypeParam
+  by_text bound = record {
     parts_read = λ x ts read is. parts_reading params ex x ts read (forwarding_parts (is_unconditional params ex x) (uses_params params x) (mentions params ex self x) (parts_of params ex x) (names_in params ex x) ts is);
     names_are = λ x ns read is.
-        subst (AllByRecursion (IsTypeParam params)) (mentioning_names (is_unconditional params ex x) (uses_params params x) (mentions params ex self x) (parts_of params ex x) (names_in params ex x) ns is) (names_are x names);
+        subst (AllByRecursion IsTypeParam) (mentioning_names (is_unconditional params ex x) (uses_params params x) (mentions params ex self x) (parts_of params ex x) (names_in params ex x) ns is) (names_are x);
     others = λ x y read reading same is.
         other_alike params ex self
         (types_alike read.0 reading.0 x.written.tokens y.written.tokens x y (append_cancel_right (lexemes_aside x.written.tokens) (lexemes_aside y.written.tokens) bound same) read.1 reading.1) is;
@@ -178,7 +186,7 @@ module _ (ex : Exceptions) (params : List GenericParam) (self : List ℕ) where
   own_suffices bound types own is = automatic_suffices (class_of params ex self) (own_of bound) (param_of bound) types own is
 
   -- None of them can be dropped, where the types are readings of their tokens.
-  pub own_minimal : (bound : List Lexeme) (types : List Ty) (own : List (List Lexeme)) → AreNames params → AllByRecursion IsReading types → AreOwn ex params self bound types own
+  pub own_minimal : (bound : List Lexeme) (types : List Ty) (own : List (List Lexeme)) → AllByRecursion IsReading types → AreOwn ex params self bound types own
       → AreMinimal ex params self bound types own
-  own_minimal bound types own names read is =
-      automatic_minimal (class_of params ex self) (own_of bound) (param_of bound) IsReading (IsTypeParam params) (by_text bound names) types own read is
+  own_minimal bound types own read is =
+      automatic_minimal (class_of params ex self) (own_of bound) (param_of bound) IsReading IsTypeParam (by_text bound) types own read is

@@ -9,7 +9,7 @@ always_suffice ex params self bound types own is = own_suffices ex params self b
 
 -- none of them can be dropped
 pub always_minimal : AreAlwaysMinimal
-always_minimal ex params self bound types own names read is = own_minimal ex params self bound types own names read is
+always_minimal ex params self bound types own read is = own_minimal ex params self bound types own read is
 
 -- no two of them are equal
 pub always_distinct : AreAlwaysDistinct

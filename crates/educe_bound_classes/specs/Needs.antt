@@ -1,6 +1,6 @@
 -- What a trait asks of types, as the tokens of predicates.
 use Rattle.std.specs.List.{AllByRecursion}
-use Rattle.std.specs.Prelude.{IfSome, ◌≡◌, ℕ, true, List, ◌∷◌, ◌++◌}
+use Rattle.std.specs.Prelude.{IfSome, ℕ, List, ◌∷◌, ◌++◌}
 use Rattle.educe_tokens.specs.TokenKind.TheVariants as kind
 use Rattle.educe_tokens.specs.Lexes.{Lexeme}
 use Rattle.educe_tree.specs.declared.generics.GenericParam.{GenericParam}
@@ -10,17 +10,12 @@ use Rattle.educe_grammar.specs.Readings.{IsName}
 use Rattle.educe_grammar.specs.Reads.{Reads}
 use Rattle.educe_grammar.specs.Alike.{lexemes_aside}
 use Rattle.educe_bound_classes.specs.Exceptions.{Exceptions}
-use Rattle.educe_bound_classes.specs.Params.{is_type_param}
 use Rattle.educe_bound_classes.specs.Deriving.{AreDistinct, Needs, AllNeed, AllDerivable, IsAutomatic, IsMinimal}
 use Rattle.educe_bound_classes.specs.Classes.{type_name, class_of}
 
 -- the type is the reading of its tokens as they were written
 abbrev pub IsReading : Ty → Type 0
 IsReading ty = (budget : ℕ) × Reads budget any_type ty.written.tokens ty
-
--- a type parameter, whose name is one
-abbrev pub IsTypeParam : List GenericParam → List ℕ → Type 0
-IsTypeParam params name = IsName name × (is_type_param params name ≡ true)
 
 -- the name of each type parameter is one
 abbrev pub AreNames : List GenericParam → Type 0
@@ -65,7 +60,7 @@ AlwaysSuffice =
 abbrev pub AreAlwaysMinimal : Type 0
 AreAlwaysMinimal =
     (ex : Exceptions) (params : List GenericParam) (self : List ℕ) (bound : List Lexeme) (types : List Ty) (own : List (List Lexeme))
-    → AreNames params → AllByRecursion IsReading types → AreOwn ex params self bound types own → AreMinimal ex params self bound types own
+    → AllByRecursion IsReading types → AreOwn ex params self bound types own → AreMinimal ex params self bound types own
 
 -- And no two of them are equal.
 abbrev pub AreAlwaysDistinct : Type 0

@@ -32,7 +32,7 @@ use Rattle.educe_laws.specs.Settings.{bound_for}
 use Rattle.educe_laws.specs.ShownBodies.{IsDebugBody}
 use Rattle.educe_laws.specs.Types.{checked_types}
 use Rattle.educe_laws.proofs.Elements.{each_weaker, each_joined}
-use Rattle.educe_laws.proofs.ReadHeaders.{names_read, types_read}
+use Rattle.educe_laws.proofs.ReadHeaders.{types_read}
 
 -- ---- lists that are extended
 
@@ -66,7 +66,7 @@ module _ (suffice : AlwaysSuffice) (minimal : AreAlwaysMinimal) (d : DeriveInput
         others = copies.0 ++ more.0;
         header_is = ap keys_of header.predicates_are ∙ map-append key_of d.generics.predicates header.added ∙ ap (λ added. keys_of d.generics.predicates ++ added) whole;
         suffices = suffice (exceptions_of which) d.generics.params d.ident.text (asks_for which) adds.touched header.own own_are;
-        minimal = minimal (exceptions_of which) d.generics.params d.ident.text (asks_for which) adds.touched header.own (names_read d parts) readings own_are;
+        minimal = minimal (exceptions_of which) d.generics.params d.ident.text (asks_for which) adds.touched header.own readings own_are;
       }
 
   -- so does the impl of a trait

@@ -25,7 +25,7 @@ returns-in-Auto-clause-suffice c =
     c.needed_predicates.ensures.keys
 
 pub returns-in-Auto-clause-minimal : goal.returns-in-Auto-clause-minimal
-returns-in-Auto-clause-minimal c = λ names read.
+returns-in-Auto-clause-minimal c = λ read.
     let ex = c.args.exceptions.now in
     let params = c.args.params.now in
     let self = c.args.self_ident.now.text in
@@ -34,5 +34,5 @@ returns-in-Auto-clause-minimal c = λ names read.
     let readings = all_more IsReadType IsReading (λ ty is. (depth_limit, is)) types read in
     IfOk-weaker c.needed_predicates.result (λ (found : List WherePredicate). AreOwn ex params self (asks_for which) types (keys_of found))
     (λ (found : List WherePredicate). AreMinimalBy c.args.self.now ex params self which types (keys_of found))
-    (λ found own. subst (λ (bound : Bound). AreMinimalBy bound ex params self which types (keys_of found)) (sym c.in-Auto.is) (always_minimal ex params self (asks_for which) types (keys_of found) names readings own))
+    (λ found own. subst (λ (bound : Bound). AreMinimalBy bound ex params self which types (keys_of found)) (sym c.in-Auto.is) (always_minimal ex params self (asks_for which) types (keys_of found) readings own))
     c.needed_predicates.ensures.keys
