@@ -60,6 +60,24 @@ counted_more ty base variants place value steps d v found more constant count ne
           (record { value_is = subst (IsBase near) (sym same) base_is; distance_is = distance_is }, side)));
     }
 
+-- the same by what is told of the nearest expression and its distance
+pub counted_next : (ty : DiscriminantType) (base : List ℕ) (variants : List Variant) (place : ℕ) (value : Expr) (steps : ℕ) (d v : Variant) (found more : List Constant) (constant : Constant)
+    (count : ℕ) (next : Expr) → place < length variants → v ≡ get_or variants place d → IsCounted ty base variants place value steps found
+    → ((own : Expr) → v.discriminant ≡ Some own → (next ≡ own) × (count ≡ 0)) → (v.discriminant ≡ None → (next ≡ value) × (count ≡ steps))
+    → more ≡ found ++ constant ∷ [] → constant.value ≡ next → IsDistance ty base count constant.distance
+    → IsCounted ty base variants (place + 1) next (count + 1) more
+counted_next ty base variants place value steps d v found more constant count next less item so_far written unwritten pushed same distance_is = by_discriminant v.discriminant refl
+  where
+    by_discriminant : (o : Option Expr) → v.discriminant ≡ o → IsCounted ty base variants (place + 1) next (count + 1) more
+    by_discriminant None none =
+        let is = unwritten none in
+        counted_more ty base variants place value steps d v found more constant count next so_far.near less item so_far (counted_without so_far.near steps count v is.1 none)
+        (omega (arith, is.1, so_far.reached)) (subst (IsBase so_far.near) (sym is.0) so_far.near_is) pushed same distance_is
+    by_discriminant (Some own) some =
+        let is = written own some in
+        counted_more ty base variants place value steps d v found more constant count next (Some own) less item so_far (counted_with so_far.near steps count v own is.1 some)
+        (omega (arith, is.1)) is.0 pushed same distance_is
+
 -- behind the last variant
 pub counted_all : (ty : DiscriminantType) (base : List ℕ) (variants : List Variant) (place : ℕ) (value : Expr) (steps : ℕ) (found : List Constant)
     → length variants ≤ place → IsCounted ty base variants place value steps found → AllZip (IsConstant ty base) (counted_from None 0 variants) found

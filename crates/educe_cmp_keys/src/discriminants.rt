@@ -1,6 +1,6 @@
 //! The discriminants of an enum: their type, and a constant for each variant (Rust Reference,
 //! Enumerations; Primitive representations).
-ghost use Rattle.std.specs.Prelude.{◌≡◌, ℤ, List, None, IfOk};
+ghost use Rattle.std.specs.Prelude.{◌≡◌, ℤ, List, Some, None, IfOk};
 ghost use Rattle.std.specs.List.{AllZip};
 ghost use Rattle.educe_tokens.specs.Appends.{no_place};
 ghost use Rattle.educe_syntax.specs.Few as few;
@@ -50,6 +50,25 @@ fn distance(
     Ok(Some(Distance { steps, base, ty }))
 }
 
+/// What a variant counts from, and how far it stands behind it: its own expression, or else what the
+/// variant before it counts from.
+fn nearest(
+    alloc: Global,
+    variant: &Variant,
+    value: &Shared<Expr>,
+    steps: usize,
+) -> Result<(Shared<Expr>, usize), AllocError>
+    ensures written { (own : Expr) → variant.now.discriminant ≡ Some own →
+        IfOk result (λ near. (near.0 ≡ own) × (near.1 ≡ 0)) }
+    ensures unwritten { variant.now.discriminant ≡ None →
+        IfOk result (λ near. (near.0 ≡ value.now) × (near.1 ≡ steps)) }
+{
+    match &variant.discriminant {
+        Some(own) => Ok((Shared::new(alloc, own.duplicate(alloc)?)?, 0)),
+        None => Ok((value.duplicate()?, steps)),
+    }
+}
+
 /// A constant for each variant, in their order.
 pub fn constants(
     alloc: Global,
@@ -64,15 +83,13 @@ pub fn constants(
     let mut steps = 0;
     let mut found = Seq::new(alloc);
     for variant in variants {
-        if let Some(written) = &variant.discriminant {
-            value = Shared::new(alloc, written.duplicate(alloc)?)?;
-            steps = 0;
-        }
+        let (near, count) = nearest(alloc, variant, &value, steps)?;
         found.push(Constant {
-            value: value.duplicate()?,
-            distance: distance(alloc, ty, base, steps)?,
+            value: near.duplicate()?,
+            distance: distance(alloc, ty, base, count)?,
         })?;
-        steps += 1;
+        value = near;
+        steps = count + 1;
     }
     Ok(found)
 }
