@@ -2,7 +2,8 @@
 ghost use Rattle.std.specs.Prelude.{◌≡◌};
 ghost use Rattle.educe_laws.specs.Shown as spec;
 
-use educe_attrs::{Equals, NameKind, Row};
+use educe_attrs::debug::{TypeAttributeBuilder, TypeName};
+use educe_attrs::{AttributeBuilder, Row};
 use educe_handlers::variant_names;
 use educe_syntax::Variant;
 
@@ -10,10 +11,13 @@ use educe_syntax::Variant;
 pub fn naming_row(variant: &Variant) -> Row
     ensures { result ≡ spec.naming_row variant.now }
 {
-    Row {
-        equals: Equals::Ident,
-        name: Some(NameKind::Name(false)),
-        named_field: Some(!variant_names(variant.fields.form)),
-        ..Row::EMPTY
-    }
+    let builder = TypeAttributeBuilder {
+        enable_flag: false,
+        enable_name: true,
+        enable_named_field: true,
+        enable_bound: false,
+        name: TypeName::Default,
+        named_field: variant_names(variant.fields.form),
+    };
+    builder.row()
 }

@@ -6,7 +6,8 @@ ghost use Rattle.educe_bound_traits.specs.declared.traits.Trait.TheVariants.{Deb
 ghost use Rattle.educe_laws.specs.Listed as listing;
 ghost use Rattle.educe_laws.specs.Shown as spec;
 
-use educe_attrs::{Equals, FieldSettings, NameKind, Row, Stop, settings_of_fields};
+use educe_attrs::debug::{FieldAttributeBuilder, FieldName};
+use educe_attrs::{AttributeBuilder, FieldSettings, Row, Stop, settings_of_fields};
 use educe_bound::Trait;
 use educe_handlers::Task;
 use educe_syntax::Field;
@@ -17,13 +18,13 @@ use std::alloc::Global;
 fn entry_row(named: bool) -> Row
     ensures { result ≡ spec.entry_row named }
 {
-    Row {
-        equals: if named { Equals::Name } else { Equals::Truth },
-        name: if named { Some(NameKind::Ident) } else { None },
-        ignore: true,
-        method: true,
-        ..Row::EMPTY
-    }
+    let builder = FieldAttributeBuilder {
+        enable_name: named,
+        enable_ignore: true,
+        enable_method: true,
+        name: FieldName::Default,
+    };
+    builder.row()
 }
 
 /// What the attributes of these fields say of `Debug`, in their order, where the names of fields are

@@ -2,29 +2,29 @@
 ghost use Rattle.std.specs.Prelude.{◌≡◌};
 ghost use Rattle.educe_laws.specs.Defaults as spec;
 
-use educe_attrs::{Equals, Row};
+use educe_attrs::default::{FieldAttributeBuilder, TypeAttributeBuilder};
+use educe_attrs::{AttributeBuilder, Row};
 
 /// What a variant allows: the trait alone, which marks it, where the type has no value of its own.
 pub fn mark_row(bare: bool) -> Row
     ensures { result ≡ spec.mark_row bare }
 {
-    Row {
-        flag: bare,
-        ..Row::EMPTY
-    }
+    let builder = TypeAttributeBuilder {
+        enable_flag: bare,
+        enable_new: false,
+        enable_expression: false,
+        enable_bound: false,
+    };
+    builder.row()
 }
 
 /// What a field allows that `default` writes: its value, also behind `=`. Any other allows nothing.
 pub fn value_row(written: bool) -> Row
     ensures { result ≡ spec.value_row written }
 {
-    Row {
-        equals: if written {
-            Equals::Expr
-        } else {
-            Equals::Nothing
-        },
-        expression: written,
-        ..Row::EMPTY
-    }
+    let builder = FieldAttributeBuilder {
+        enable_flag: false,
+        enable_expression: written,
+    };
+    builder.row()
 }
