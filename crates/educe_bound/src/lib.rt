@@ -1,5 +1,5 @@
 //! The bounds that attributes ask for, and the predicates of each (documentation of the crate `educe`,
-//! Bounds). The traits are passed on.
+//! Bounds). The traits and the value of `bound` are passed on.
 #![tactic(auto)]
 
 mod asked;
@@ -9,6 +9,7 @@ mod predicates;
 
 pub use asked::exceptions_of;
 pub use bound::Bound;
+pub use educe_attrs_values::WherePredicatesOrBool;
 pub use educe_bound_traits::{Trait, Traits, all_listed, each_once, is_listed, same_trait};
 pub use laws::predicate_laws;
 pub use predicates::{extend_where_predicates, lifetimes_first, with_predicates};

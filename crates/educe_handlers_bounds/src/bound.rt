@@ -2,8 +2,7 @@
 ghost use Rattle.std.specs.Prelude.{◌≡◌};
 ghost use Rattle.educe_laws.specs.Settings as spec;
 
-use educe_attrs::WherePredicatesOrBool;
-use educe_bound::Bound;
+use educe_bound::{Bound, WherePredicatesOrBool};
 
 /// The bound that is said; where none is, the automatic one (documentation of `educe`, Bounds).
 pub fn bound_said(said: Option<WherePredicatesOrBool>) -> Bound
