@@ -3,20 +3,23 @@
 #
 # Usage: bench/scale.sh PROGRAM [SHAPE..]
 #
-# Makes inputs of 16, 32, 64 and 128 KiB of each shape, or of those that are named, runs the built program on each, and prints a
-# line for each: the bytes, the least seconds of five runs and the peak memory in MB, with valgrind also the
-# millions of instructions, and the ratios to the line before. A ratio of instructions above 2.2 is marked. Some
-# shapes are texts that are refused, once they have been read as tokens, or as definitions with attributes.
+# Makes inputs of 16, 32, 64 and 128 KiB of each shape, or of those that are named, runs the built program on each, and
+# prints a line for each: the bytes, the least seconds of five runs, with valgrind also the millions of instructions,
+# the ratios to the line before, the peak memory in MB, and the bytes that are written. A ratio of instructions above
+# 2.2, more than a second and more than a gigabyte are marked. Some shapes are texts that are refused, once they have
+# been read as tokens, or as definitions with attributes; for these nothing is written. `NAME_nine` is the shape `NAME`
+# with all nine traits.
 set -eu
 program=${1:?usage: bench/scale.sh PROGRAM [SHAPE..]}
 shift
 folder=$(mktemp -d)
 trap 'rm -rf "$folder"' EXIT
 
-python3 - "$folder" <<'PY'
+python3 - "$folder" "$@" > "$folder/names" <<'PY'
+import re
 import sys
 
-folder = sys.argv[1]
+folder, *names = sys.argv[1:]
 
 def filled(size, traits, field):
     """A struct of as many fields as fit, each of which its number makes."""
@@ -121,6 +124,30 @@ def chain(n):
     """A variant with 128 prefixes, 128 calls and fields behind an operand, and 128 operators."""
     return f"V{n}=" + "-" * 128 + "a" + ".b()" * 64 + "+a.b()" * 128 + ","
 
+def all_settings(n):
+    """A field with settings for each trait that has some."""
+    debug, clone, default = f"Debug(name=a{n},method(d{n}))", f"Clone(method(c{n}))", f"Default(expression={n})"
+    equal, feed = f"PartialEq(ignore=false,method(e{n}))", f"Hash(ignore=false,method(h{n}))"
+    partly, order = f"PartialOrd(ignore=false,rank={n},method(p{n}))", f"Ord(ignore=false,rank=\"-{n}\",method(o{n}))"
+    return f"#[educe({debug},{clone},{equal})]#[educe({partly},{order},{feed},{default})]f{n}:u8,"
+
+TRAITS = ("Debug", "Clone", "Copy", "PartialEq", "Eq", "PartialOrd", "Ord", "Hash", "Default")
+NINE = ",".join(TRAITS)
+EIGHT = NINE.replace("Copy,", "")
+
+def with_nine(make):
+    """The shape with all nine traits: those that it does not list are listed in front, but `Copy` only where it has no
+    `Box` and no `Vec`. `Default` makes the variant with thousands of fields, where there is one, or else the first."""
+    def made(size):
+        text = make(size - len(f"#[educe({NINE})] #[educe(Default)]"))
+        listed = re.match(r".*?\b(?:struct|enum)\b", text, re.S).group()
+        copied = not re.search(r"\b(?:Box|Vec)<", text)
+        added = [x for x in TRAITS if not re.search(rf"\b{x}\b", listed) and (x != "Copy" or copied)]
+        if "#[educe(Default)]" not in text:
+            text = re.sub(r"enum E \{(A,(?=B))?", r"\g<0>#[educe(Default)]", text, count=1)
+        return f"#[educe({','.join(added)})] " + text
+    return made
+
 shapes = [
     ("fields", fields),
     ("variants", numbered("#[educe(PartialEq)] enum E {", lambda n: f"V{n}{{a:u8,b:T}},", "}")),
@@ -171,6 +198,7 @@ shapes = [
     ("script", script_names),
     ("methods", lambda size: filled(size, "PartialEq,PartialOrd,Ord", methods)),
     ("method_path", at_a_field("#[educe(Ord(method(a", "::a", ")))]")),
+    ("string_path", at_a_field("#[educe(Ord(method = \"a", "::a", "\"))]")),
     ("underscored", numbered("#[educe(PartialEq)] struct S {", lambda n: f"{'_' * n}other:u8,", "}")),
     ("underscores", repeated("#[educe(PartialEq)] struct S { ", "_", "other: u8 }")),
     ("words", repeated("/// ", "other ", "\n" + THREE)),
@@ -208,13 +236,30 @@ shapes = [
     ("debug_units", numbered("#[educe(Debug)] enum E {", lambda n: f"V{n},", "}")),
     ("debug_map", numbered("#[educe(Debug(name=false))] struct S {", lambda n: f"f{n}:u8,", "}")),
     ("debug_methods", lambda size: filled(size, "Debug", lambda n: f"#[educe(Debug(method(m{n})))]f{n}:u8,")),
-    ("all_nine", lambda size: filled(size, "Debug,Clone,Copy,PartialEq,Eq,PartialOrd,Ord,Hash,Default", lambda n: f"f{n}:u8,")),
-    ("nine_data", numbered("#[educe(Debug,Clone,PartialEq,Eq,PartialOrd,Ord,Hash,Default)] enum E {#[educe(Default)]A,", lambda n: f"V{n}(u8,u8),", "}")),
+    ("nine_settings", lambda size: filled(size, NINE, all_settings)),
+    ("eight_fields", lambda size: filled(size, EIGHT, lambda n: f"f{n}:u8,")),
+    ("eight_data", numbered(f"#[educe({EIGHT})] enum E {{#[educe(Default)]A,", lambda n: f"V{n}(u8,u8),", "}")),
 ]
+
+# The shapes that are tried with all nine traits too. The others have no definition, list them already, or differ from
+# one of these only in the traits that they list.
+widened = """fields variants units unit_discriminants data data_discriminants one_discriminant long_discriminant variant_fields
+variant_ranks variant_settings prefixed prefixes deep_type generics predicates chains attributes own ord partial_ord
+settings equal_ranks lints lists field_lists repr type_list type_path params other_param value zeros digits last_word
+last_fault long_names blanks comment script methods method_path string_path underscored underscores words param_fields
+one_generic nested_types where_clause listed_bounds mentioned_params mentioning_fields packed_fields default_values
+default_data eq_selves clone_methods clone_packed debug_map debug_methods""".split()
+shapes += [(f"{name}_nine", with_nine(dict(shapes)[name])) for name in widened]
+
+missing = set(names) - set(dict(shapes))
+if missing:
+    sys.exit(f"no such shape: {', '.join(sorted(missing))}")
 for name, make in shapes:
-    for kib in (16, 32, 64, 128):
-        with open(f"{folder}/{name}.{kib}", "w") as out:
-            out.write(make(kib * 1024))
+    if not names or name in names:
+        print(name)
+        for kib in (16, 32, 64, 128):
+            with open(f"{folder}/{name}.{kib}", "w", encoding="utf-8") as out:
+                out.write(make(kib * 1024))
 PY
 
 # The ratio of two numbers; one above the bound, if there is one, is marked.
@@ -222,9 +267,13 @@ ratio() {
   awk -v now="$1" -v before="$2" -v bound="${3:-}" 'BEGIN { if (before > 0) { r = now / before; printf "%.2f%s", r, (bound != "" && r > bound ? "!" : "") } else printf "-" }'
 }
 
-printf '%-18s %7s %8s %7s %10s %7s %9s\n' shape bytes seconds ratio 'Minstr' ratio 'peak MB'
-[ $# -gt 0 ] || set -- fields variants units unit_discriminants data data_discriminants one_discriminant long_discriminant variant_fields variant_ranks variant_settings prefixed prefixes deep_type generics predicates chains attributes own ord partial_ord all fallbacks settings equal_ranks lints lists field_lists repr type_list type_path params other_param value zeros digits last_word last_fault long_names blanks small_tokens comment nested string raw_string brackets script methods method_path underscored underscores words param_fields one_generic nested_types where_clause listed_bounds mentioned_params mentioning_fields packed_fields hash_fields hash_data default_fields default_values default_data default_variant eq_fields eq_data eq_generic eq_selves all_six clone_fields clone_data clone_variant clone_units clone_methods clone_generic clone_packed copied copied_generic debug_fields debug_data debug_variant debug_units debug_map debug_methods all_nine nine_data
-for name in "$@"; do
+# A number by a unit, with so many digits behind the point; one above the bound, if there is one, is marked.
+measure() {
+  awk -v now="$1" -v unit="$2" -v digits="$3" -v bound="${4:-}" 'BEGIN { n = now / unit; printf "%.*f%s", digits, n, (bound != "" && n > bound ? "!" : "") }'
+}
+
+printf '%-24s %7s %8s %7s %10s %7s %9s %10s\n' shape bytes seconds ratio 'Minstr' ratio 'peak MB' written
+while read -r name; do
   seconds_before=0
   count_before=0
   for kib in 16 32 64 128; do
@@ -239,10 +288,10 @@ for name in "$@"; do
       valgrind --tool=callgrind --callgrind-out-file=/dev/null "$program" expand < "$input" 2> "$folder/counts" > /dev/null || true
       count=$(sed -n 's/.*Collected *: *\([0-9]*\).*/\1/p' "$folder/counts")
     fi
-    printf '%-18s %7d %8.3f %7s %10.1f %7s %9.1f\n' "$name" "$(stat -c %s "$input")" "$seconds" \
-      "$(ratio "$seconds" "$seconds_before")" "$(awk -v c="${count:-0}" 'BEGIN { print c / 1e6 }')" \
-      "$(ratio "${count:-0}" "$count_before" 2.2)" "$(awk -v m="$memory" 'BEGIN { print m / 1024 }')"
+    printf '%-24s %7d %8s %7s %10s %7s %9s %10d\n' "$name" "$(stat -c %s "$input")" "$(measure "$seconds" 1 3 1)" \
+      "$(ratio "$seconds" "$seconds_before")" "$(measure "${count:-0}" 1000000 1)" \
+      "$(ratio "${count:-0}" "$count_before" 2.2)" "$(measure "$memory" 1024 1 1024)" "$(stat -c %s "$folder/text")"
     seconds_before=$seconds
     count_before=${count:-0}
   done
-done
+done < "$folder/names"

@@ -12,9 +12,13 @@
 # that rustc does not take by themselves (two variants of one discriminant).
 #
 # Then the enums of enums.py, on all pairs of a few values: the answers are those that the traits mean, by the
-# discriminants that rustc computes. evaluated.py prints the same enums as rows for the evaluator.
+# discriminants that rustc computes.
 #
 # Then the definitions of clones.py, on all pairs of a few values: what is made and what is called is what `Clone` means.
+#
+# Last the evaluator is asked the same about these enums and definitions, where rt is there: evaluated.py prints them as
+# tables of worked examples, which take the place of those of educe_vectors_values in a copy of the crates, whose tests
+# rt runs. That proves nothing.
 #
 # Where rustc is missing, nothing is done.
 set -eu
@@ -23,6 +27,7 @@ case $program in
   */*) program=$(cd "$(dirname "$program")" && pwd)/$(basename "$program") ;;
 esac
 cd "$(dirname "$0")"
+examples=$PWD
 
 if ! command -v rustc > /dev/null; then
   echo "rustc is missing: no example is run"
@@ -38,4 +43,18 @@ export PYTHONDONTWRITEBYTECODE
 python3 answers.py "$program" "$folder" $tables/methods.rt $tables/enum_orders.rt $tables/packed.rt $tables/hashes.rt $tables/defaults.rt || status=1
 python3 pairs.py "$program" "$folder" || status=1
 python3 clones.py "$program" "$folder" || status=1
+
+if ! command -v rt > /dev/null; then
+  echo "rt is missing: the evaluator is not asked"
+  exit $status
+fi
+mkdir "$folder/copy"
+tar -C .. --exclude=out -cf - crates crates.txt HANDLES | tar -C "$folder/copy" -xf -
+cd "$folder/copy/crates/educe_vectors_values"
+printf 'mod clones;\nmod enums;\n' > src/examples.rt
+rm src/examples/*
+for table in clones enums; do
+  python3 "$examples/evaluated.py" "$program" "$folder" $table > src/examples/$table.rt || status=1
+done
+rt try --test || status=1
 exit $status

@@ -4,8 +4,9 @@ Usage: clones.py PROGRAM FOLDER [NAME..]
 
 See answers.sh, which calls it. The fields have a type whose `clone` adds 100 to its number, and whose `clone_from`
 multiplies the number that is there by 1000 and adds that of the source; the methods are those of METHODS. What is
-made, and which functions are called on which numbers, is compared with what `Clone` means. Prints a line for each
-definition, or for those that are named, and fails where one is refused, is not compiled, or is answered otherwise.
+made, and which functions are called on which numbers, is compared with what `Clone` means. A definition without
+values is compiled alone. Prints a line for each definition, or for those that are named, and fails where one is
+refused, is not compiled, or is answered otherwise.
 """
 
 import itertools
@@ -15,6 +16,17 @@ from definitions import cases, compiled, expanded, made, plain
 
 # What the methods make of a number.
 METHODS = {"twice": lambda x: 2 * x, "own :: made": lambda x: -x, "source": lambda x: x + 7, "_d_0": lambda x: x + 8}
+
+
+def cloned(own):
+    """What `clone` of a field makes."""
+    return own + 100
+
+
+def cloned_from(own, source):
+    """What a field becomes by `clone_from`."""
+    return own * 1000 + source
+
 
 DECLARED = """thread_local! { static CALLS: ::std::cell::RefCell<::std::vec::Vec<::std::string::String>> = ::std::cell::RefCell::new(::std::vec::Vec::new()); }
 fn called(call: ::std::string::String) { CALLS.with(|calls| calls.borrow_mut().push(call)) }
@@ -63,6 +75,7 @@ CLONES = [
     ("fields that are named as variables are", "#[educe(Clone)] enum E { A { _s_: N, _d_: N, source: N }, B { _s_a: N } }", [["", "", ""], [""]]),
     ("discriminants", "#[educe(Clone)] #[repr(i8)] enum E { A(N) = 7, B = -3, C { x: N } }", [[""], [], [""]]),
     ("an enum with a parameter", "#[educe(Clone)] enum E<T> { A(T), B { x: N, y: T }, C }", [[""], ["", ""], []]),
+    ("no variants", "#[educe(Clone)] enum E {}", []),
     ("an enum of raw names", f"#[educe(Clone)] enum r#Enum {{ r#fn, r#B {{ r#type: N, {TWICE} x: N }} }}", [[], ["", "twice"]]),
     # `Copy`.
     ("copied as a whole", "#[educe(Clone, Copy)] struct S { a: N, b: N }", [["copied", "copied"]]),
@@ -71,6 +84,7 @@ CLONES = [
     ("a method keeps from copying", f"#[educe(Clone, Copy)] struct S({TWICE} N, N);", [["twice", ""]]),
     ("a parameter keeps from copying", "#[educe(Clone, Copy)] struct S<T>(T, N);", [["", ""]]),
     ("predicates of `Copy` keep from copying", "#[educe(Clone, Copy(bound(N: ::core::marker::Copy)))] struct S<'a>(N, ::core::marker::PhantomData<&'a u8>);", [["", "phantom"]]),
+    ("no variants, copied", "#[educe(Clone, Copy)] enum E {}", []),
     ("a packed struct that is copied", "#[educe(Clone, Copy)] #[repr(packed)] struct S(N, N);", [["copied", "copied"]]),
     ("an enum with a parameter that can be copied", "#[educe(Clone, Copy)] enum E<T> { A(T), B(N) }", [[""], [""]]),
     # Beside other traits.
@@ -103,7 +117,7 @@ class Meaning:
     @staticmethod
     def one(how, x):
         """The clone of one field, and the call."""
-        return (METHODS[how](x), f"{how} {x}") if how else (x + 100, f"clone {x}")
+        return (METHODS[how](x), f"{how} {x}") if how else (cloned(x), f"clone {x}")
 
     def clone_from(self, this, other):
         """The case and the numbers that a value becomes, and the calls."""
@@ -111,7 +125,7 @@ class Meaning:
             found, calls = self.clone(*other)
             return (other[0], found), calls
         found = [
-            self.one(how, y) if how or self.packed else (x * 1000 + y, f"clone_from {x} {y}")
+            self.one(how, y) if how or self.packed else (cloned_from(x, y), f"clone_from {x} {y}")
             for how, x, y in zip(self.how[this[0]], this[1], other[1])
         ]
         return (this[0], tuple(x for x, _ in found)), [call for _, call in found]
@@ -163,6 +177,8 @@ def tried(program, folder, example):
     held = [[x for x in fields if x != "phantom"] for fields in how]
     counts = [len(fields) for fields in held]
     values = [(case, own) for case, count in enumerate(counts) for own in numbers(count)]
+    if not values:
+        return "compiled" if compiled(folder, "\n".join([plain(definition), impls, "fn main() {}"])) else "NOT COMPILED"
     run = compiled(folder, program_of(definition, impls, values, counts))
     if run is None:
         return "NOT COMPILED"
@@ -187,7 +203,7 @@ def main(program, folder, *names):
     for example in examples:
         answer = tried(program, folder, example)
         print(f"{example[0]}: {answer}", flush=True)
-        status = status if answer.startswith("cloned") else 1
+        status = status if answer.startswith(("cloned", "compiled")) else 1
     print(f"{len(examples)} definitions with `Clone`")
     return status
 

@@ -172,16 +172,16 @@ def expanded(program, definition):
     return run.stdout.decode() if run.returncode == 0 else None
 
 
-def built(folder, text, stderr=None):
-    """The run of rustc on a program."""
+def built(folder, text, stderr=None, lints="allow"):
+    """The run of rustc on a program; lints count at most so much."""
     with open(f"{folder}/example.rs", "w", encoding="utf-8") as out:
         out.write(text)
-    return subprocess.run(["rustc", "--edition", "2021", "--cap-lints", "allow", "-o", f"{folder}/example", f"{folder}/example.rs"], stderr=stderr, check=False)
+    return subprocess.run(["rustc", "--edition", "2021", "--cap-lints", lints, "-o", f"{folder}/example", f"{folder}/example.rs"], stderr=stderr, check=False)
 
 
 def errors(folder, text):
     """The codes of the errors of rustc in a program, or their words where they have none; nothing where it compiles."""
-    run = built(folder, text, subprocess.PIPE)
+    run = built(folder, text, subprocess.PIPE, "deny")
     found = re.findall(r"^error(?:\[(E\d+)\])?: (.*)$", run.stderr.decode(), re.MULTILINE)
     return None if run.returncode == 0 else sorted({code or words for code, words in found})
 

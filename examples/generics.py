@@ -5,7 +5,7 @@ Usage: generics.py PROGRAM FOLDER [NAME..]
 See generics.sh, which calls it. A program is a definition without its `educe` attributes, what is printed for it, and
 a use of the impls at one type: its values, which are in ascending order, are compared with each other. Prints a line
 for each definition, or for those that are named, and fails where one is refused, is not compiled, or is answered
-otherwise. The last definitions are those of docs/DIFFERENCES.md that rustc rejects, with the code of its error.
+otherwise. The last definitions are those of docs/DIFFERENCES.md that rustc rejects, with the code or the words of its error.
 """
 
 import sys
@@ -109,7 +109,7 @@ DEFINITIONS = [
     ("a packed struct without parameters", EACH + "#[repr(packed)] struct S { a: u8, b: u64 }", "S", ["S { a: 1, b: 2 }", "S { a: 2, b: 1 }"]),
 ]
 
-# Names, definitions, what is declared beside them, what is compared, and the code of the error.
+# Names, definitions, what is declared beside them, what is compared, and the code of the error, or its words.
 REJECTED = [
     ("types that differ in lifetimes alone", EQUAL + "struct S<'a, 'b, T>(&'a T, &'b T);", "", "", "E0283"),
     ("types that mention each other", EQUAL + "struct A<T>(T, Vec<B<T>>);", "struct B<T>(T, Vec<A<T>>); impl<T: PartialEq> PartialEq for B<T> where Vec<A<T>>: PartialEq { fn eq(&self, other: &Self) -> bool { self.1 == other.1 } }", "A(1, vec![])", "E0275"),
@@ -122,10 +122,12 @@ REJECTED = [
     ("a bound for each parameter that is too little", "#[educe(PartialEq(bound(*)))] struct S<T>(HashMap<T, u8>);", "", "", "E0277"),
     ("an order whose bound is too little", "#[educe(PartialEq, PartialOrd(bound(T: A)))] struct S<T>(T);", "trait A {}", "", "E0277"),
     ("a reference to a parameter, under a check", "#[educe(PartialEq, Eq)] struct S<'a, T> { a: &'a T }", "", "", "E0309"),
-    ("a reference to a parameter, beside a marker", "#[educe(Debug)] struct S<'a, T> { a: &'a T, #[educe(Debug(method = m))] b: u8 }", "fn m(_: &u8, _: &mut core::fmt::Formatter<'_>) -> core::fmt::Result { Ok(()) }", "", "E0309"),
+    ("a reference to a parameter, beside a marker of `Debug`", "#[educe(Debug)] struct S<'a, T> { a: &'a T, #[educe(Debug(method = m))] b: u8 }", "fn m(_: &u8, _: &mut core::fmt::Formatter<'_>) -> core::fmt::Result { Ok(()) }", "", "E0309"),
+    ("a reference to a parameter, beside a marker of `Clone`", "#[educe(Clone)] struct S<'a, T> { a: &'a T, #[educe(Clone(method = m))] b: u8 }", "fn m(b: &u8) -> u8 { *b }", "", "E0309"),
     ("a parameter and a reference to it", "#[educe(Debug)] struct S<'a, T> { a: &'a T, b: T }", "", "", "lifetime may not live long enough"),
     ("a macro call in braces that begins a discriminant", "#[educe(PartialEq, PartialOrd)] enum E { A = m! {} + 1, B }", "macro_rules! m { () => { 1 } } use m;", "", "leading `+` is not supported"),
     ("a method on two traits", "#[educe(Debug)] struct S { a: u8, #[educe(Debug(method = m))] b: dyn A + Send }", "trait A {} fn m(_: &(dyn A + Send), _: &mut core::fmt::Formatter<'_>) -> core::fmt::Result { Ok(()) }", "", "ambiguous `+` in a type"),
+    ("a declared type under a lint", "#[deny(non_camel_case_types)] #[educe(Debug(name = false))] struct S { a: u8 }", "", "", "type `Educe__RawString` should have an upper camel case name"),
     ("a box of a slice as a default value", "#[educe(Default)] struct S<T>(Box<[T]>);", "", "", "E0283"),
     ("a default value of another type", "#[educe(Default)] struct S(#[educe(Default = X)] u8);", "const X: u16 = 1;", "", "E0308"),
     ("a packed struct whose bound does not say `Copy`", "#[educe(PartialEq(bound(T: PartialEq)))] #[repr(packed)] struct S<T>(T);", "", "", "E0507"),
