@@ -123,7 +123,7 @@ REJECTED = [
     ("an order whose bound is too little", "#[educe(PartialEq, PartialOrd(bound(T: A)))] struct S<T>(T);", "trait A {}", "", "E0277"),
     ("a reference to a parameter, under a check", "#[educe(PartialEq, Eq)] struct S<'a, T> { a: &'a T }", "", "", "E0309"),
     ("a reference to a parameter, beside a marker of `Debug`", "#[educe(Debug)] struct S<'a, T> { a: &'a T, #[educe(Debug(method = m))] b: u8 }", "fn m(_: &u8, _: &mut core::fmt::Formatter<'_>) -> core::fmt::Result { Ok(()) }", "", "E0309"),
-    ("a reference to a parameter, beside a marker of `Clone`", "#[educe(Clone)] struct S<'a, T> { a: &'a T, #[educe(Clone(method = m))] b: u8 }", "fn m(b: &u8) -> u8 { *b }", "", "E0309"),
+    ("a tuple with a reference to a parameter, beside a marker of `Clone`", "#[educe(Clone)] struct S<'a, T> { a: (&'a T, u8), #[educe(Clone(method = m))] b: u8 }", "fn m(b: &u8) -> u8 { *b }", "", "E0309"),
     ("a parameter and a reference to it", "#[educe(Debug)] struct S<'a, T> { a: &'a T, b: T }", "", "", "lifetime may not live long enough"),
     ("a macro call in braces that begins a discriminant", "#[educe(PartialEq, PartialOrd)] enum E { A = m! {} + 1, B }", "macro_rules! m { () => { 1 } } use m;", "", "leading `+` is not supported"),
     ("a method on two traits", "#[educe(Debug)] struct S { a: u8, #[educe(Debug(method = m))] b: dyn A + Send }", "trait A {} fn m(_: &(dyn A + Send), _: &mut core::fmt::Formatter<'_>) -> core::fmt::Result { Ok(()) }", "", "ambiguous `+` in a type"),
