@@ -14,7 +14,7 @@ use Rattle.educe_laws.specs.Cases.{fields_in}
 use Rattle.educe_laws.specs.Listed.{listed}
 use Rattle.educe_laws.specs.Shown.{entry_row, ShownCase, variant_shown, cases_for, shown_cases, all_shown, IsCaseRead}
 use Rattle.educe_laws.proofs.Elements.{In, In-all, In-image}
-use Rattle.educe_make_debug.specs.Cases.{AreRead}
+use Rattle.educe_make_debug_reading.specs.Read.{AreRead}
 use Rattle.educe_make_markers.specs.Marking.{MayMark}
 use Rattle.educe_make_markers.proofs.KeptFields.{in_flat}
 use Rattle.educe_make_markers.proofs.Visiting.{own_field, markers_visit}

@@ -1,10 +1,10 @@
 //! The handler of `Debug`.
 use crate::debug_handling::make_debug;
-use crate::debug_reading::read;
 use educe_attrs::Stop;
 use educe_body::Items;
 use educe_bound::Trait;
 use educe_handlers::{EnumPart, StructPart, TraitHandler, TraitHandlerContext};
+use educe_make_debug_reading::read;
 use educe_syntax::{DeriveInput, Predicates};
 use std::alloc::Global;
 

@@ -10,19 +10,19 @@ ghost use Rattle.educe_laws.specs.Headers.{ImplAdds};
 ghost use Rattle.educe_laws.specs.Settings.{IsBoundOf};
 ghost use Rattle.educe_laws.specs.Shown as laws;
 ghost use Rattle.educe_laws.specs.ShownBodies as bodies;
-ghost use Rattle.educe_make_debug.specs.Cases.{AreRead, IsShown};
-ghost use Rattle.educe_make_debug.specs.DebugNames.{names_of};
+ghost use Rattle.educe_make_debug_shown.specs.Cases.{IsShown};
+ghost use Rattle.educe_make_debug_reading.specs.Read.{AreRead};
+ghost use Rattle.educe_make_debug_bodies.specs.DebugNames.{names_of};
 ghost use Rattle.educe_make_markers.specs.Marking as marking;
 
-use crate::debug_body::body;
 use crate::debug_fields::all_shown;
-use crate::debug_names::DebugNames;
-use crate::debug_shown::Shown;
 use educe_body::{Functions, ImplItem, Item, Items};
 use educe_bound::{Bound, Trait};
 use educe_handlers::{
     Ranked, Task, TraitHandlerContext, function, impl_of, is_copied, no_types, see_each,
 };
+use educe_make_debug_bodies::{DebugNames, body};
+use educe_make_debug_shown::Shown;
 use educe_make_markers::{MarkerNames, method_markers};
 use educe_syntax::{DeriveInput, Duplicate, Predicates};
 use educe_tokens::Seq;

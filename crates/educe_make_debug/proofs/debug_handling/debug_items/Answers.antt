@@ -4,7 +4,7 @@ use Rattle.educe_handlers.proofs.Lists.{one_pushed}
 use Rattle.educe_laws.specs.Markers.{AreMarkers}
 use Rattle.educe_laws.specs.Settings.{Kept}
 use Rattle.educe_laws.specs.Shown.{all_shown}
-use Rattle.educe_make_debug.specs.DebugNames.{names_of}
+use Rattle.educe_make_debug_bodies.specs.DebugNames.{names_of}
 use Rattle.educe_make_markers.specs.Marking as marking
 use Rattle.educe_make_debug.proofs.debug_handling.debug_items.Goals as goal
 

@@ -6,7 +6,7 @@ use Rattle.educe_handlers.proofs.Formed.{function_with}
 use Rattle.educe_laws.specs.Blocks.{IsFunction}
 use Rattle.educe_laws.specs.Headers.{AreCopied}
 use Rattle.educe_laws.specs.ShownBodies.{IsDebugBody}
-use Rattle.educe_make_debug.specs.DebugNames.{names_of}
+use Rattle.educe_make_debug_bodies.specs.DebugNames.{names_of}
 use Rattle.educe_make_debug.proofs.debug_handling.fmt.Goals as goal
 
 pub body-requires-clause-copied : goal.body-requires-clause-copied

@@ -8,7 +8,7 @@ use Rattle.educe_handlers.proofs.Formed.{impl_with}
 use Rattle.educe_laws.specs.Blocks.{IsFunction}
 use Rattle.educe_laws.specs.ShownBodies.{IsDebugBody}
 use Rattle.educe_laws.proofs.ReadHeaders.{lawful_headers}
-use Rattle.educe_make_debug.specs.DebugNames.{names_of}
+use Rattle.educe_make_debug_bodies.specs.DebugNames.{names_of}
 use Rattle.educe_make_debug.proofs.Marked.{shown_visit}
 use Rattle.educe_make_markers.specs.Marking.{MayMark}
 use Rattle.educe_make_debug.proofs.debug_handling.make_debug.Goals as goal

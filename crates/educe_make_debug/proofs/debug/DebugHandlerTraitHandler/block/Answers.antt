@@ -3,8 +3,8 @@ use Rattle.educe_bound_traits.specs.declared.traits.Trait.TheVariants.{Debug}
 use Rattle.educe_bound_traits.specs.Traits.{is_listed}
 use Rattle.educe_laws.specs.Listed.{listed}
 use Rattle.educe_laws.proofs.ShownEvaluating.{debug_evaluates}
-use Rattle.educe_make_debug.proofs.Enough.{HasEnough, has_enough}
-use Rattle.educe_make_debug.proofs.Uncaused.{debug_uncaused}
+use Rattle.educe_make_debug_reading.proofs.Enough.{HasEnough, has_enough}
+use Rattle.educe_make_debug_reading.proofs.Uncaused.{debug_uncaused}
 use Rattle.educe_make_debug.proofs.debug.DebugHandlerTraitHandler.block.Goals as goal
 
 pub returns-clause-means : goal.returns-clause-means

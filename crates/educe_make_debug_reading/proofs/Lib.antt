@@ -1,0 +1,7 @@
+-- The cases of a definition.
+pub mod Cases
+-- Names that are needed.
+pub mod Needs
+-- Why the handler does not refuse.
+pub mod Enough
+pub mod Uncaused
