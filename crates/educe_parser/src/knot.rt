@@ -37,7 +37,7 @@ macro_rules! parts {
 fn ty(alloc: Global, input: &mut ParseStream<'_>, budget: u8) -> Result<Ty, ParseError>
     ensures { Gives (readers budget types input.old) result input.new }
 {
-    educe_parser_types::any_type(&parts!(alloc), input, budget)
+    educe_parser_expressions::any_type(&parts!(alloc), input, budget)
 }
 
 /// A type whose `dyn` has one bound (Rust Reference, Type expressions).
@@ -46,7 +46,7 @@ fn ty(alloc: Global, input: &mut ParseStream<'_>, budget: u8) -> Result<Ty, Pars
 fn plain(alloc: Global, input: &mut ParseStream<'_>, budget: u8) -> Result<Typed, ParseError>
     ensures { Gives (readers budget plains input.old) result input.new }
 {
-    educe_parser_types::plain_type(&parts!(alloc), input, budget)
+    educe_parser_expressions::plain_type(&parts!(alloc), input, budget)
 }
 
 /// An expression (Rust Reference, Expressions).

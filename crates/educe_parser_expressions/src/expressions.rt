@@ -6,10 +6,10 @@ ghost use Rattle.educe_grammar.specs.Steps.{Gives};
 use crate::links::{linked_form, links_fit};
 use crate::lookahead::AtLink;
 use crate::operands::unary;
+use crate::types::plain_type;
 use educe_grammar::{
     Inside, Keyword, Link, ParseError, ParseStream, Parts, Production, Terminal, chain, written,
 };
-use educe_parser_types::plain_type;
 use educe_tree::{Expr, ExprForm};
 
 /// `as` and a type, or an operator and its second operand (Rust Reference, Type cast

@@ -1,4 +1,4 @@
-//! The parser of expressions: each function that reads tokens reads one production of the
+//! The parser of types and of expressions: each function that reads tokens reads one production of the
 //! grammar, or a piece of one.
 #![tactic(auto)]
 
@@ -8,6 +8,8 @@ mod links;
 mod lookahead;
 mod operands;
 mod tails;
+mod types;
 
 pub use expr_paths::expr_path;
 pub use expressions::expression;
+pub use types::{any_type, plain_type};

@@ -41,7 +41,7 @@ macro_rules! parts {
 fn ty(alloc: Global, input: &mut ParseStream<'_>, budget: u8) -> Result<Ty, ParseError>
     ensures { Gives (readers budget types input.old) result input.new }
 {
-    educe_parser_types::any_type(&parts!(alloc), input, budget)
+    educe_parser_expressions::any_type(&parts!(alloc), input, budget)
 }
 
 /// A type whose `dyn` has one bound (Rust Reference, Type expressions).
@@ -50,7 +50,7 @@ fn ty(alloc: Global, input: &mut ParseStream<'_>, budget: u8) -> Result<Ty, Pars
 fn plain(alloc: Global, input: &mut ParseStream<'_>, budget: u8) -> Result<Typed, ParseError>
     ensures { Gives (readers budget plains input.old) result input.new }
 {
-    educe_parser_types::plain_type(&parts!(alloc), input, budget)
+    educe_parser_expressions::plain_type(&parts!(alloc), input, budget)
 }
 
 /// An expression (Rust Reference, Expressions).
@@ -66,7 +66,7 @@ fn expr(alloc: Global, input: &mut ParseStream<'_>, budget: u8) -> Result<Expr, 
 pub(crate) fn read_type(alloc: Global, input: &mut ParseStream<'_>) -> Result<Ty, ParseError>
     ensures { Gives (read (suc depth_limit) any_type input.old) result input.new }
 {
-    educe_parser_types::any_type(&parts!(alloc), input, DEPTH_LIMIT)
+    educe_parser_expressions::any_type(&parts!(alloc), input, DEPTH_LIMIT)
 }
 
 /// The path of an expression, with one more of the budget (Rust Reference, Path expressions).
@@ -80,7 +80,7 @@ pub(crate) fn read_path(alloc: Global, input: &mut ParseStream<'_>) -> Result<Ex
 pub(crate) fn note_type(alloc: Global, input: &mut ParseStream<'_>) -> Result<Ty, ParseError>
     ensures { Gives (read depth_limit any_type input.old) result input.new }
 {
-    educe_parser_types::any_type(&parts!(alloc), input, PARSED)
+    educe_parser_expressions::any_type(&parts!(alloc), input, PARSED)
 }
 
 /// The path of an expression that was parsed (Rust Reference, Path expressions).

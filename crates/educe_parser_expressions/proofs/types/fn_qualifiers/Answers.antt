@@ -2,7 +2,7 @@ use Rattle.std.proofs.Common.{rules, arith}
 use Rattle.std.proofs.lemmas.Grind.{common_steps}
 use Rattle.educe_grammar.specs.Noting.{run}
 use Rattle.educe_grammar.specs.Types.{fn_qualifiers}
-use Rattle.educe_parser_types.proofs.types.fn_qualifiers.Goals as goal
+use Rattle.educe_parser_expressions.proofs.types.fn_qualifiers.Goals as goal
 
 pub returns : goal.returns
 unfolding fn_qualifiers run

@@ -1,7 +1,7 @@
 use Rattle.std.proofs.Common.{rules, arith}
 use Rattle.std.proofs.lemmas.Grind.{common_steps}
 use Rattle.educe_grammar.proofs.Opened.{rules as opened}
-use Rattle.educe_parser_types.proofs.types.referred.Goals as goal
+use Rattle.educe_parser_expressions.proofs.types.referred.Goals as goal
 
 pub returns : goal.returns
 unfolding opened
