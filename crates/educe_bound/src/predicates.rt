@@ -91,11 +91,7 @@ fn known_keys(
 }
 
 /// Appends, one after the other, those predicates that are not there yet, by their tokens.
-pub fn extend_where_predicates(
-    alloc: Global,
-    own: &mut Predicates,
-    extra: &Predicates,
-) -> Result<(), AllocError>
+fn append_new(alloc: Global, own: &mut Predicates, extra: &Predicates) -> Result<(), AllocError>
     ensures ok { OnOk result (Extends (spec.keys_of own.old) (spec.keys_of extra.now) (spec.keys_of own.new)) }
     ensures kept { HasPrefix own.old own.new }
     ensures read { spec.AreRead own.old → spec.AreRead extra.now → OnOk result (spec.AreRead own.new) }
@@ -108,6 +104,23 @@ pub fn extend_where_predicates(
         }
     }
     Ok(())
+}
+
+/// Appends, one after the other, those predicates that are not there yet, by their tokens. Where there
+/// are none to append, the own ones are not gone through.
+pub fn extend_where_predicates(
+    alloc: Global,
+    own: &mut Predicates,
+    extra: &Predicates,
+) -> Result<(), AllocError>
+    ensures ok { OnOk result (Extends (spec.keys_of own.old) (spec.keys_of extra.now) (spec.keys_of own.new)) }
+    ensures kept { HasPrefix own.old own.new }
+    ensures read { spec.AreRead own.old → spec.AreRead extra.now → OnOk result (spec.AreRead own.new) }
+{
+    match extra.as_slice() {
+        [] => Ok(()),
+        _ => append_new(alloc, own, extra),
+    }
 }
 
 /// The generics with these predicates behind their own.

@@ -16,7 +16,7 @@ use Rattle.educe_tree.specs.declared.generics.GenericParam.{GenericParam}
 use Rattle.educe_tree.specs.declared.ty.Ty.{Ty}
 use Rattle.educe_bound_classes.specs.Exceptions.{Exceptions}
 use Rattle.educe_bound_classes.specs.Asked.{key_of, keys_of, AreAskedRead, AddsAll, AreKept}
-use Rattle.educe_bound_classes.specs.Keys.{kind_number, kind_char, marked, word_key, token_key, tokens_key, asked_key, all_keys}
+use Rattle.educe_bound_classes.specs.Keys.{kind_number, kind_char, word_key, token_key, tokens_key, asked_key, all_keys}
 
 -- ---- keys read back
 
@@ -64,10 +64,9 @@ mutual
   text_from : TokenKind → List ℕ → List ℕ → List Lexeme
   text_from k text [] = []
   text_from k text (zero ∷ more) = record { kind = k; spelling = text } ∷ words_from more
-  text_from k text (suc n ∷ []) = []
-  text_from k text (suc n ∷ c ∷ more) = text_from k (text ++ c ∷ []) more
+  text_from k text (suc c ∷ more) = text_from k (text ++ c ∷ []) more
 
-text_back : (k : TokenKind) (before text more : List ℕ) → text_from k before ((flat_map marked text ++ 0 ∷ []) ++ more) ≡ record { kind = k; spelling = before ++ text } ∷ words_from more
+text_back : (k : TokenKind) (before text more : List ℕ) → text_from k before ((map suc text ++ 0 ∷ []) ++ more) ≡ record { kind = k; spelling = before ++ text } ∷ words_from more
 unfolding words_from
 text_back k before [] more = ap (λ (t : List ℕ). record { kind = k; spelling = t } ∷ words_from more) (sym (append-nil before))
 text_back k before (c ∷ text) more =
@@ -140,7 +139,7 @@ lexeme_key l = word_key l.kind l.spelling
 
 word_aside : (k : TokenKind) (text : List ℕ) → word_key (kind_aside k) text ≡ word_key k text
 word_aside k text =
-    ap (λ (n : ℕ). n ∷ kind_char (kind_aside k) ∷ (flat_map marked text ++ 0 ∷ [])) (kind_number_aside k) ∙ ap (λ (c : ℕ). kind_number k ∷ c ∷ (flat_map marked text ++ 0 ∷ [])) (kind_char_aside k)
+    ap (λ (n : ℕ). n ∷ kind_char (kind_aside k) ∷ (map suc text ++ 0 ∷ [])) (kind_number_aside k) ∙ ap (λ (c : ℕ). kind_number k ∷ c ∷ (map suc text ++ 0 ∷ [])) (kind_char_aside k)
 
 lexemes_key : (tokens : List Token) → flat_map lexeme_key (lexemes_aside tokens) ≡ tokens_key tokens
 unfolding token_key lexeme_key

@@ -1,5 +1,5 @@
 -- Numbers by which tokens are told apart, spans and jointness aside.
-use Rattle.std.specs.Prelude.{◌≡◌, ℕ, Bool, List, [], ◌∷◌, ◌++◌, map}
+use Rattle.std.specs.Prelude.{◌≡◌, ℕ, suc, Bool, List, [], ◌∷◌, ◌++◌, map}
 use Rattle.std.specs.List.{flat_map, list_any}
 use Rattle.std.specs.Str.{bytes_eq}
 use Rattle.std.specs.Ordering.{nat_cmp}
@@ -44,13 +44,9 @@ kind_char (kind.Start b) = 0
 kind_char (kind.Stop b) = 0
 kind_char kind.Doc = 0
 
--- a character behind a 1
-abbrev pub marked : ℕ → List ℕ
-marked c = 1 ∷ c ∷ []
-
--- the kind, and the characters, which a 0 ends
+-- the kind, and the characters, each as the number behind its own, which a 0 ends
 abbrev pub word_key : TokenKind → List ℕ → List ℕ
-word_key k text = kind_number k ∷ kind_char k ∷ (flat_map marked text ++ 0 ∷ [])
+word_key k text = kind_number k ∷ kind_char k ∷ (map suc text ++ 0 ∷ [])
 
 -- those of a token
 unfoldable pub token_key : Token → List ℕ

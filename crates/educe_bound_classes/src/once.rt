@@ -1,6 +1,5 @@
 //! Subjects of predicates, each once: an ordered set knows one by numbers that stand for its tokens.
-ghost use Rattle.std.specs.Prelude.{◌≡◌, ℕ, List, [], ◌++◌, IfOk, OnOk, chars};
-ghost use Rattle.std.specs.List.{flat_map};
+ghost use Rattle.std.specs.Prelude.{◌≡◌, ℕ, suc, List, [], ◌++◌, map, IfOk, OnOk, chars};
 ghost use Rattle.educe_bound_classes.specs.Deriving.{Extends};
 ghost use Rattle.educe_bound_classes.specs.Keys as spec;
 ghost use Rattle.educe_tree.specs.declared.generics.GenericParam.{GenericParam};
@@ -51,47 +50,33 @@ fn kind_char(kind: TokenKind) -> u32
     }
 }
 
-/// The characters of a text.
-fn chars_of(alloc: Global, text: &str) -> Result<Vec<char>, AllocError>
-    ensures { IfOk result (λ found. found.items ≡ chars text.now) }
+/// Appends the characters of a text, each as the number behind its own.
+fn append_chars(text: &str, key: &mut Vec<u32>) -> Result<(), AllocError>
+    ensures ok { OnOk result (key.new.items ≡ key.old.items ++ map suc (chars text.now)) }
 {
-    text.chars().collect(alloc)
-}
-
-/// Appends characters, each behind a 1.
-fn append_chars(text: &[char], key: &mut Vec<u32>) -> Result<(), AllocError>
-    ensures ok { OnOk result (key.new.items ≡ key.old.items ++ flat_map spec.marked text.now) }
-{
-    for c in text {
-        key.push(1)?;
-        key.push(*c as u32)?;
+    for c in text.chars() {
+        key.push(c as u32 + 1)?;
     }
     Ok(())
 }
 
 /// Appends the numbers of a word.
-fn append_word(
-    alloc: Global,
-    kind: TokenKind,
-    text: &Spelling,
-    key: &mut Vec<u32>,
-) -> Result<(), AllocError>
+fn append_word(kind: TokenKind, text: &Spelling, key: &mut Vec<u32>) -> Result<(), AllocError>
     ensures ok { OnOk result (key.new.items ≡ key.old.items ++ spec.word_key kind text.now) }
 {
     key.push(kind_number(kind))?;
     key.push(kind_char(kind))?;
-    let chars = chars_of(alloc, text.as_str())?;
-    append_chars(chars.as_slice(), key)?;
+    append_chars(text.as_str(), key)?;
     key.push(0)?;
     Ok(())
 }
 
 /// Appends the numbers of a token.
 #[tactic(auto, unfolding(crate::specs::Keys::token_key))]
-fn append_token(alloc: Global, token: &Token, key: &mut Vec<u32>) -> Result<(), AllocError>
+fn append_token(token: &Token, key: &mut Vec<u32>) -> Result<(), AllocError>
     ensures ok { OnOk result (key.new.items ≡ key.old.items ++ spec.token_key token.now) }
 {
-    append_word(alloc, token.kind, &token.spelling, key)
+    append_word(token.kind, &token.spelling, key)
 }
 
 /// The numbers by which lists of tokens are told apart, spans and whether puncts are joint aside:
@@ -101,7 +86,7 @@ pub fn key_of_tokens(alloc: Global, tokens: &[Token]) -> Result<Vec<u32>, AllocE
 {
     let mut key = Vec::new(alloc);
     for token in tokens {
-        append_token(alloc, token, &mut key)?;
+        append_token(token, &mut key)?;
     }
     Ok(key)
 }
@@ -111,7 +96,7 @@ fn key_of_word(alloc: Global, text: &Spelling) -> Result<Vec<u32>, AllocError>
     ensures { IfOk result (λ key. key.items ≡ spec.word_key TokenKind.Ident text.now) }
 {
     let mut key = Vec::new(alloc);
-    append_word(alloc, TokenKind::Ident, text, &mut key)?;
+    append_word(TokenKind::Ident, text, &mut key)?;
     Ok(key)
 }
 

@@ -2,7 +2,7 @@ use Rattle.std.proofs.Common.{map, take}
 use Rattle.educe_tokens.specs.Prefix.{HasPrefix}
 use Rattle.educe_bound_classes.proofs.Kept.{Kept}
 use Rattle.educe_bound.specs.Predicates.{number_of, AreRead}
-use Rattle.educe_bound.proofs.predicates.extend_where_predicates.Given as goal
+use Rattle.educe_bound.proofs.predicates.append_new.Given as goal
 
 abbrev pub invariant-loop-predicate : goal.invariant-loop-predicate
 invariant-loop-predicate l = record {
