@@ -25,7 +25,7 @@ pub fn settings_of_fields(
     ensures cause { IfErr result (λ s. OfStop (spec.OfFields which row.now listed.now fields.now) s) }
     ensures uncaused { IfOk result (λ _. spec.HaveNoCauses which row.now listed.now fields.now) }
 {
-    let mut all = Seq::new(alloc);
+    let mut all = Seq::with_capacity(alloc, fields.len())?;
     for field in fields {
         match field_settings(alloc, which, row, listed, field.attrs.as_slice()) {
             Ok(settings) => all.push(settings)?,

@@ -17,7 +17,7 @@ use educe_attrs::FieldSettings;
 use educe_body::{Arm, Arms, Comparison, Form, Forms, Known, Shared};
 use educe_cmp_keys::Names;
 use educe_cmp_steps::{neutral, steps};
-use educe_handlers::{Ranked, Reading, pattern};
+use educe_handlers::{Ranked, Reading, block_of, pattern};
 use educe_syntax::{Duplicate, ExprPath, Ident, Variant};
 use educe_tokens::{Boxed, Seq};
 use std::alloc::{AllocError, Global};
@@ -29,8 +29,7 @@ fn otherwise(alloc: Global, which: Comparison) -> Result<Option<Forms>, AllocErr
     match which {
         Comparison::PartialEq => {
             let differ = Form::Known(Known::Truth(false));
-            let mut forms = Seq::new(alloc);
-            forms.push(Form::Return(Boxed::new(alloc, differ)?))?;
+            let forms = block_of(alloc, Form::Return(Boxed::new(alloc, differ)?))?;
             Ok(Some(forms))
         }
         Comparison::PartialOrd => Ok(None),
@@ -61,8 +60,7 @@ pub fn arm(
     let (first, second) = (Reading::Bound(&names.own), Reading::Bound(&names.others));
     let steps = steps(alloc, which, plain, first, second, fields)?;
     let others = otherwise(alloc, which)?;
-    let mut block = Seq::new(alloc);
-    block.push(Form::IfLet(inner, value, steps, others))?;
+    let block = block_of(alloc, Form::IfLet(inner, value, steps, others))?;
     Ok(Arm {
         pattern: own,
         braced: true,

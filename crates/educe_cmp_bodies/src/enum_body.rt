@@ -131,9 +131,7 @@ fn enum_block(
     ensures { IfOk result (spec.IsEnumBlock which ast.now (names_of names.now) variants.now) }
 {
     if variants.is_empty() {
-        let mut block = Seq::new(alloc);
-        block.push(Form::Known(neutral(which)))?;
-        return Ok(block);
+        return block_of(alloc, Form::Known(neutral(which)));
     }
     if is_order(trait_of(which)) {
         keyed_block(alloc, which, ast, names, variants, arms)

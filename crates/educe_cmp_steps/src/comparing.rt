@@ -47,7 +47,7 @@ fn compared(
     requires others { CanRead others }
     ensures { IfOk result (spec.IsComparison which (reading_of own.entry) (reading_of others.entry) (kept_of ranked.now)) }
 {
-    let mut arguments = Seq::new(alloc);
+    let mut arguments = Seq::with_capacity(alloc, 2)?;
     arguments.push(read(alloc, own, ranked)?)?;
     arguments.push(read(alloc, others, ranked)?)?;
     let path = called(alloc, ranked.how, plain)?;
@@ -131,7 +131,7 @@ pub fn steps(
     requires others { CanRead others }
     ensures { IfOk result (spec.AreSteps which (reading_of own.entry) (reading_of others.entry) (map kept_of fields.now)) }
 {
-    let mut block = Seq::new(alloc);
+    let mut block = Seq::with_capacity(alloc, fields.len())?;
     for ranked in fields {
         block.push(step(alloc, which, plain, own, others, ranked)?)?;
     }

@@ -13,7 +13,7 @@ use std::alloc::{AllocError, Global};
 pub fn block_of(alloc: Global, form: Form) -> Result<Forms, AllocError>
     ensures { IfOk result (λ block. block ≡ form ∷ []) }
 {
-    let mut block = Seq::new(alloc);
+    let mut block = Seq::with_capacity(alloc, 1)?;
     block.push(form)?;
     Ok(block)
 }

@@ -53,7 +53,7 @@ fn pattern_fields(
     requires each { length settings.now ≡ length fields.now }
     ensures { IfOk result (spec.ArePatternFields prefix.now 0 fields.now settings.now) }
 {
-    let mut found = Seq::new(alloc);
+    let mut found = Seq::with_capacity(alloc, fields.len())?;
     for (place, field) in fields.iter().enumerate() {
         found.push(PatternField {
             key: key(alloc, &field.ident)?,

@@ -36,8 +36,7 @@ fn init(
     requires reading { CanRead reading }
     ensures { IfOk result (spec.IsCloneInit (reading_of reading.entry) (kept_of ranked.now)) }
 {
-    let mut arguments = Seq::new(alloc);
-    arguments.push(read(alloc, reading, ranked)?)?;
+    let arguments = block_of(alloc, read(alloc, reading, ranked)?)?;
     let path = called(alloc, ranked.how, plain)?;
     Ok(Init {
         key: key(alloc, &ranked.field.ident)?,
@@ -56,7 +55,7 @@ fn inits(
     requires reading { CanRead reading }
     ensures { IfOk result (λ inits. AllZip (spec.IsCloneInit (reading_of reading.entry)) (map kept_of fields.now) inits) }
 {
-    let mut inits = Seq::new(alloc);
+    let mut inits = Seq::with_capacity(alloc, fields.len())?;
     for ranked in fields {
         inits.push(init(alloc, plain, reading, ranked)?)?;
     }

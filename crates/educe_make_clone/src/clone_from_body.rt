@@ -70,7 +70,7 @@ fn assignments(
     requires nowhere { source.now.span ≡ no_place }
     ensures { IfOk result (λ block. AllZip (spec.IsAssignment copied source.now.text) (map kept_of fields.now) block) }
 {
-    let mut block = Seq::new(alloc);
+    let mut block = Seq::with_capacity(alloc, fields.len())?;
     for ranked in fields {
         block.push(assignment(alloc, plain, source, copied, ranked)?)?;
     }
@@ -134,7 +134,7 @@ fn throughs(
     requires { IsBuiltIn built_in.CloneFrom plain.now }
     ensures { IfOk result (λ steps. AllZip (spec.IsThrough (names_of names.now)) (map kept_of fields.now) steps) }
 {
-    let mut steps = Seq::new(alloc);
+    let mut steps = Seq::with_capacity(alloc, fields.len())?;
     for ranked in fields {
         steps.push(through(alloc, plain, names, ranked)?)?;
     }

@@ -41,7 +41,7 @@ fn inits(alloc: Global, fields: &[Field], settings: &[FieldSettings]) -> Result<
     ensures { (definition : DeriveInput) → settings.now ≡ map (settings_by true definition) fields.now →
         IfOk result (λ inits. AllZip (spec.IsInit definition) fields.now inits) }
 {
-    let mut inits = Seq::new(alloc);
+    let mut inits = Seq::with_capacity(alloc, fields.len())?;
     for (place, field) in fields.iter().enumerate() {
         let text = field_text(alloc, field, &settings[place].values.expression)?;
         inits.push(Init {

@@ -34,7 +34,7 @@ fn feed(
     ensures { IfOk result (spec.Feeds state.now.text (how_of how.entry) fed) }
 {
     let hasher = state.duplicate(alloc)?;
-    let mut arguments = Seq::new(alloc);
+    let mut arguments = Seq::with_capacity(alloc, 2)?;
     arguments.push(fed)?;
     arguments.push(Form::Local(hasher))?;
     let path = called(alloc, how, plain)?;
@@ -87,7 +87,7 @@ pub fn steps(
     requires reading { CanRead reading }
     ensures { IfOk result (spec.AreHashSteps state.now.text (reading_of reading.entry) (map kept_of fields.now)) }
 {
-    let mut block = Seq::new(alloc);
+    let mut block = Seq::with_capacity(alloc, fields.len())?;
     for ranked in fields {
         block.push(step(alloc, plain, state, reading, ranked)?)?;
     }

@@ -71,7 +71,7 @@ fn last_ending(found: &[SegmentRead]) -> Ending
 fn segments_of(alloc: Global, found: Seq<SegmentRead>) -> Result<Segments, AllocError>
     ensures { IfOk result (λ segments. segments ≡ map (λ read. read.0) found) }
 {
-    let mut segments = Seq::new(alloc);
+    let mut segments = Seq::with_capacity(alloc, found.len())?;
     for (segment, _, _) in found.into_items() {
         segments.push(segment)?;
     }

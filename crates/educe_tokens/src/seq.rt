@@ -1,5 +1,5 @@
 //! Lists that contracts see as lists.
-ghost use Rattle.std.specs.Prelude.{◌≡◌, ◌<◌, ◌≤◌, [], ◌∷◌, ◌++◌, length, slice_index_or, OnOk, OnErr, IfSome, IfNone};
+ghost use Rattle.std.specs.Prelude.{◌≡◌, ◌<◌, ◌≤◌, [], ◌∷◌, ◌++◌, length, slice_index_or, OnOk, OnErr, IfOk, IfSome, IfNone};
 ghost use Rattle.educe_tokens.specs.Prefix.{HasPrefix};
 
 use std::alloc::{AllocError, Global};
@@ -31,6 +31,14 @@ impl<T> Seq<T> {
         Seq {
             items: Vec::new(alloc),
         }
+    }
+
+    /// The empty list, with memory for so many items.
+    pub fn with_capacity(alloc: Global, capacity: usize) -> Result<Seq<T>, AllocError>
+        ensures { IfOk result (λ seq. seq ≡ []) }
+    {
+        let items = Vec::with_capacity(alloc, capacity)?;
+        Ok(Seq { items })
     }
 
     /// How many items there are.

@@ -1,7 +1,6 @@
 use Rattle.std.proofs.Common.{subst, map, refl}
 use Rattle.educe_handlers.specs.Ranked.{kept_of}
 use Rattle.educe_laws.specs.Arms.{IsPatternBy}
-use Rattle.educe_handlers.proofs.Lists.{one_pushed}
 use Rattle.educe_handlers.proofs.Named.{name_copied}
 use Rattle.educe_cmp_bodies.proofs.arms.arm.Goals as goal
 
@@ -22,5 +21,5 @@ returns c = λ definition said in_order.
       steps_are = c.in_ok-steps.ensures;
       others = c.in_ok-others.others;
       others_are = c.in_ok-others.ensures;
-      block_is = one_pushed _ _ _ c.new-block.ensures c.in_ok-push.ensures.ok;
+      block_is = c.in_ok-block.ensures;
     }

@@ -10,7 +10,7 @@ pub returns : goal.returns
 returns c =
     let first = c.in_ok-read.field-0 in
     let second = c.in_ok-read-2.field-0 in
-    let arguments = two_pushed _ _ _ first second c.new-arguments.ensures c.in_ok-push.ensures.ok c.in_ok-push-2.ensures.ok in
+    let arguments = two_pushed _ _ _ first second c.in_ok-arguments.ensures c.in_ok-push.ensures.ok c.in_ok-push-2.ensures.ok in
     record {
       path = c.in_ok-path.path;
       first = first;

@@ -3,7 +3,6 @@ use Rattle.educe_body_values.specs.declared.callee.BuiltIn.TheVariants.{Clone}
 use Rattle.educe_body_forms.specs.declared.form.Form.{Call}
 use Rattle.educe_handlers.specs.Ranked.{how_of}
 use Rattle.educe_handlers.proofs.CalledPaths.{called_is}
-use Rattle.educe_handlers.proofs.Lists.{one_pushed}
 use Rattle.educe_make_clone.proofs.clone_body.init.Goals as goal
 
 pub returns : goal.returns
@@ -15,5 +14,5 @@ returns c =
       path_is = called_is Clone (how_of c.args.ranked.now.how) c.args.plain.now c.in_ok-path.path c.requires.plain c.in_ok-path.ensures;
       own = own;
       own_is = c.in_ok-read.ensures;
-      is = ap (Call c.in_ok-path.path) (one_pushed _ _ own c.new-arguments.ensures c.in_ok-push.ensures.ok);
+      is = ap (Call c.in_ok-path.path) c.in_ok-arguments.ensures;
     }

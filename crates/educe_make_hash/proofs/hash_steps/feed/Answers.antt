@@ -10,7 +10,7 @@ use Rattle.educe_make_hash.proofs.hash_steps.feed.Goals as goal
 pub returns : goal.returns
 returns c =
     let hasher = c.in_ok-hasher.hasher in
-    let arguments = two_pushed _ _ _ c.args.fed (Local hasher) c.new-arguments.ensures c.in_ok-push.ensures.ok c.in_ok-push-2.ensures.ok in
+    let arguments = two_pushed _ _ _ c.args.fed (Local hasher) c.in_ok-arguments.ensures c.in_ok-push.ensures.ok c.in_ok-push-2.ensures.ok in
     record {
       path = c.in_ok-path.path;
       path_is = called_is Hash (how_of c.args.how) c.args.plain.now c.in_ok-path.path c.requires.plain c.in_ok-path.ensures;
