@@ -32,9 +32,8 @@ spelling-take items i d h =
     ∙ flat_map-append (λ item. text_of (item_lexemes item) ++ 10 ∷ []) (take i items) (item ∷ [])
     ∙ ap (λ line. spelling (take i items) ++ line) (append-nil (text_of (item_lexemes item) ++ 10 ∷ []))
 
--- the characters of a text, behind which a line and a line feed were put
-pub put_line : (old mid new line text : List ℕ) → IsUtf8 old → IsUtf8 mid → mid ≡ old ++ line → chars line ≡ text → new ≡ mid ++ (10 ∷ []) → chars new ≡ chars old ++ (text ++ 10 ∷ [])
-put_line old mid new line text u v e h f =
-    let front = put_text old mid line text (chars old) u e h refl in
-    put_text mid new (10 ∷ []) (10 ∷ []) (chars old ++ text) v f (chars-IsAscii (10 ∷ []) (IsAscii-cons 10 [] (omega arith) IsAscii-nil)) front
-    ∙ append_assoc (chars old) text (10 ∷ [])
+-- the characters of a text, behind which a line feed was put
+pub put_line : (mid new front text : List ℕ) → IsUtf8 mid → chars mid ≡ front ++ text → new ≡ mid ++ (10 ∷ []) → chars new ≡ front ++ (text ++ 10 ∷ [])
+put_line mid new front text u e f =
+    put_text mid new (10 ∷ []) (10 ∷ []) (front ++ text) u f (chars-IsAscii (10 ∷ []) (IsAscii-cons 10 [] (omega arith) IsAscii-nil)) e
+    ∙ append_assoc front text (10 ∷ [])

@@ -6,17 +6,27 @@ ghost use Rattle.educe_tokens.specs.Text.{text_of};
 ghost use Rattle.educe_body_items.specs.Items.{item_lexemes, tokens_of, spelling};
 
 use crate::items::{Item, Items};
-use educe_tree::text_of_tree;
+use educe_tokens::{Seq, TokenStream, push_text};
+use educe_tree::ToTokens;
 use std::alloc::{AllocError, Global};
 
-/// Adds the text of an item, and a line feed behind it.
-fn push_item(alloc: Global, out: &mut String, item: &Item) -> Result<(), AllocError>
+/// Adds the text of an item, and a line feed behind it. The tokens of the item stand in the list, which
+/// is empty before and behind, so that all items use the same memory.
+fn push_item(
+    alloc: Global,
+    out: &mut String,
+    tokens: &mut TokenStream,
+    item: &Item,
+) -> Result<(), AllocError>
+    requires { tokens.old ≡ [] }
+    ensures emptied { OnOk result (tokens.new ≡ []) }
     ensures spelled { OnOk result (chars (string_bytes out.new) ≡
         chars (string_bytes out.old) ++ (text_of (item_lexemes item.now) ++ 10 ∷ [])) }
     ensures lexes { let found = item_lexemes item.now in OnOk result (LexesAside (text_of found) found) }
 {
-    let line = text_of_tree(alloc, item)?;
-    out.push_str(&line)?;
+    item.to_tokens(alloc, tokens)?;
+    push_text(out, tokens)?;
+    tokens.clear();
     out.push('\n')?;
     Ok(())
 }
@@ -27,8 +37,9 @@ pub fn spell(alloc: Global, items: &Items) -> Result<String, AllocError>
     ensures lexes { IfOk result (λ _. LexesAside (spelling items.now) (tokens_of items.now)) }
 {
     let mut out = String::new(alloc);
+    let mut tokens = Seq::new(alloc);
     for item in items.as_slice() {
-        push_item(alloc, &mut out, item)?;
+        push_item(alloc, &mut out, &mut tokens, item)?;
     }
     Ok(out)
 }

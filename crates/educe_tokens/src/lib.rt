@@ -28,7 +28,7 @@ pub use error::{EduceError, Kind, Texts};
 pub use growing::{append_written, push_word};
 pub use laws::{copying_laws, kind_laws, lexing_laws, limits, printing_laws, value_laws};
 pub use lexer::lex;
-pub use printer::{have_no_doc, text};
+pub use printer::{have_no_doc, push_text, text};
 pub use seq::Seq;
 pub use sequence::{pair, terminated, unit};
 pub use slice::TokenSlice;

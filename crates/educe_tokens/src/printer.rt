@@ -42,6 +42,19 @@ pub fn have_no_doc(tokens: &TokenStream) -> bool
     tokens.as_slice().iter().all(|token| is_no_doc(token.kind))
 }
 
+/// Adds the spellings, with one space between two tokens and none behind a joint punct.
+pub fn push_text(out: &mut String, tokens: &TokenStream) -> Result<(), AllocError>
+    ensures { OnOk result (chars (string_bytes out.new) ≡
+        chars (string_bytes out.old) ++ text_of (lexemes tokens.now)) }
+{
+    let mut joint = true;
+    for token in tokens.as_slice() {
+        push_token(out, joint, token)?;
+        joint = joins_next(token.kind);
+    }
+    Ok(())
+}
+
 /// The spellings, with one space between two tokens and none behind a joint punct.
 pub fn text(alloc: Global, tokens: &TokenStream) -> Result<String, AllocError>
     requires { IsWellFormed (lexemes tokens.now) }
@@ -49,10 +62,6 @@ pub fn text(alloc: Global, tokens: &TokenStream) -> Result<String, AllocError>
     ensures lexes { IfOk result (λ s. LexesAside (chars (string_bytes s)) (lexemes tokens.now)) }
 {
     let mut out = String::new(alloc);
-    let mut joint = true;
-    for token in tokens.as_slice() {
-        push_token(&mut out, joint, token)?;
-        joint = joins_next(token.kind);
-    }
+    push_text(&mut out, tokens)?;
     Ok(out)
 }

@@ -79,6 +79,15 @@ impl<T> Seq<T> {
         Ok(())
     }
 
+    /// Drops all items, and keeps the memory for others.
+    pub fn clear(&mut self)
+    where
+        T: Drop,
+        ensures { self.new ≡ [] }
+    {
+        self.items.clear();
+    }
+
     /// The items, given away.
     pub fn into_items(self) -> Vec<T>
         ensures { result.items ≡ self }

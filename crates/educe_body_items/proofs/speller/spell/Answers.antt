@@ -9,7 +9,7 @@ use Rattle.educe_body_items.proofs.Spelled.{ItemLexes, spelling_lexes}
 use Rattle.educe_body_items.proofs.speller.spell.Goals as goal
 
 pub loop-item-init : goal.loop-item-init
-loop-item-init c = record { spelled = ap chars c.new-out.ensures.bytes ∙ chars-nil; each = tt }
+loop-item-init c = record { spelled = ap chars c.new-out.ensures.bytes ∙ chars-nil; emptied = c.new-tokens.ensures; each = tt }
 
 pub returns-clause-spelled : goal.returns-clause-spelled
 returns-clause-spelled c =
