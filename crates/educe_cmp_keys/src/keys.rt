@@ -8,10 +8,10 @@ ghost use Rattle.educe_discriminants.specs.declared.discriminant_type.Discrimina
 ghost use Rattle.educe_syntax.specs.Few.{variants_of};
 ghost use Rattle.educe_laws.specs.Discriminants.{counted_from};
 
-use crate::discriminants::{Constants, constants};
 use crate::names::Names;
 use educe_attrs::discriminant_type;
 use educe_body::{BuiltIn, Form, KeyArm, KeyArms, Shared, built_in_path};
+use educe_cmp_constants::{Constants, constants};
 use educe_handlers::bare_pattern;
 use educe_syntax::{DeriveInput, Duplicate, Ident, Variant};
 use educe_tokens::Seq;

@@ -6,6 +6,7 @@ mod discriminants;
 mod keys;
 mod names;
 
-pub use discriminants::{Constants, discriminants_of};
+pub use discriminants::discriminants_of;
+pub use educe_cmp_constants::Constants;
 pub use keys::{key_comparison, key_function};
 pub use names::Names;

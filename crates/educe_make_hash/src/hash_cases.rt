@@ -19,13 +19,13 @@ ghost use Rattle.educe_laws.specs.Settings.{settings_of, kept_fields};
 ghost use Rattle.educe_make_hash.specs.HashNames.{names_of};
 
 use crate::hash_names::HashNames;
-use crate::hash_steps::{hash_path, place_step, steps};
 use educe_attrs::{FieldSettings, Stop};
 use educe_body::{Arm, Arms, Form, Forms, Shared};
 use educe_handlers::{
     Ranked, Reading, SeenTypes, Task, case_fields, field_settings, pattern, variant_fields,
     variant_settings,
 };
+use educe_make_hash_steps::{hash_path, place_step, steps};
 use educe_syntax::{ExprPath, Field, Ident, Variant};
 use educe_tokens::Seq;
 use std::alloc::{AllocError, Global};

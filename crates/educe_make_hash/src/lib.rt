@@ -5,6 +5,5 @@ mod hash;
 mod hash_body;
 mod hash_cases;
 mod hash_names;
-mod hash_steps;
 
 pub use hash::{HashEnumHandler, HashHandler, HashStructHandler};

@@ -10,6 +10,62 @@ use educe_syntax::Meta;
 use std::alloc::Global;
 use std::test::Fail;
 
+const CLONE: clone::TypeAttributeBuilder = clone::TypeAttributeBuilder {
+    enable_flag: true,
+    enable_bound: true,
+};
+
+const COPY: copy::TypeAttributeBuilder = copy::TypeAttributeBuilder {
+    enable_flag: true,
+    enable_bound: true,
+};
+
+const PARTIAL_EQ: partial_eq::TypeAttributeBuilder = partial_eq::TypeAttributeBuilder {
+    enable_flag: true,
+    enable_bound: true,
+};
+
+const EQ: eq::TypeAttributeBuilder = eq::TypeAttributeBuilder {
+    enable_flag: true,
+    enable_bound: true,
+};
+
+const PARTIAL_ORD: partial_ord::TypeAttributeBuilder = partial_ord::TypeAttributeBuilder {
+    enable_flag: true,
+    enable_bound: true,
+};
+
+const ORD: ord::TypeAttributeBuilder = ord::TypeAttributeBuilder {
+    enable_flag: true,
+    enable_bound: true,
+};
+
+const HASH: hash::TypeAttributeBuilder = hash::TypeAttributeBuilder {
+    enable_flag: true,
+    enable_bound: true,
+};
+
+const DEFAULT: default::TypeAttributeBuilder = default::TypeAttributeBuilder {
+    enable_flag: true,
+    enable_new: true,
+    enable_expression: true,
+    enable_bound: true,
+};
+
+const CLONED: clone::FieldAttributeBuilder = clone::FieldAttributeBuilder {
+    enable_method: true,
+};
+
+const COMPARED: partial_eq::FieldAttributeBuilder = partial_eq::FieldAttributeBuilder {
+    enable_ignore: true,
+    enable_method: true,
+};
+
+const HASHED: hash::FieldAttributeBuilder = hash::FieldAttributeBuilder {
+    enable_ignore: true,
+    enable_method: true,
+};
+
 /// What a `Debug` attribute says of a type.
 fn debug_of_a_type(alloc: Global, source: &str, meta: &Meta) -> Result<String, Fail>
     requires { IsNamed meta.now }
@@ -18,104 +74,6 @@ fn debug_of_a_type(alloc: Global, source: &str, meta: &Meta) -> Result<String, F
     let answered = builder.build_from_debug_meta(alloc, meta);
     drop(builder);
     answer(alloc, source, answered)
-}
-
-/// What a `Clone` attribute says of a type.
-fn clone_of_a_type(alloc: Global, source: &str, meta: &Meta) -> Result<String, Fail>
-    requires { IsNamed meta.now }
-{
-    let builder = clone::TypeAttributeBuilder {
-        enable_flag: true,
-        enable_bound: true,
-    };
-    answer(alloc, source, builder.build_from_clone_meta(alloc, meta))
-}
-
-/// What a `Copy` attribute says of a type.
-fn copy_of_a_type(alloc: Global, source: &str, meta: &Meta) -> Result<String, Fail>
-    requires { IsNamed meta.now }
-{
-    let builder = copy::TypeAttributeBuilder {
-        enable_flag: true,
-        enable_bound: true,
-    };
-    answer(alloc, source, builder.build_from_copy_meta(alloc, meta))
-}
-
-/// What a `PartialEq` attribute says of a type.
-fn partial_eq_of_a_type(alloc: Global, source: &str, meta: &Meta) -> Result<String, Fail>
-    requires { IsNamed meta.now }
-{
-    let builder = partial_eq::TypeAttributeBuilder {
-        enable_flag: true,
-        enable_bound: true,
-    };
-    answer(
-        alloc,
-        source,
-        builder.build_from_partial_eq_meta(alloc, meta),
-    )
-}
-
-/// What an `Eq` attribute says of a type.
-fn eq_of_a_type(alloc: Global, source: &str, meta: &Meta) -> Result<String, Fail>
-    requires { IsNamed meta.now }
-{
-    let builder = eq::TypeAttributeBuilder {
-        enable_flag: true,
-        enable_bound: true,
-    };
-    answer(alloc, source, builder.build_from_eq_meta(alloc, meta))
-}
-
-/// What a `PartialOrd` attribute says of a type.
-fn partial_ord_of_a_type(alloc: Global, source: &str, meta: &Meta) -> Result<String, Fail>
-    requires { IsNamed meta.now }
-{
-    let builder = partial_ord::TypeAttributeBuilder {
-        enable_flag: true,
-        enable_bound: true,
-    };
-    answer(
-        alloc,
-        source,
-        builder.build_from_partial_ord_meta(alloc, meta),
-    )
-}
-
-/// What an `Ord` attribute says of a type.
-fn ord_of_a_type(alloc: Global, source: &str, meta: &Meta) -> Result<String, Fail>
-    requires { IsNamed meta.now }
-{
-    let builder = ord::TypeAttributeBuilder {
-        enable_flag: true,
-        enable_bound: true,
-    };
-    answer(alloc, source, builder.build_from_ord_meta(alloc, meta))
-}
-
-/// What a `Hash` attribute says of a type.
-fn hash_of_a_type(alloc: Global, source: &str, meta: &Meta) -> Result<String, Fail>
-    requires { IsNamed meta.now }
-{
-    let builder = hash::TypeAttributeBuilder {
-        enable_flag: true,
-        enable_bound: true,
-    };
-    answer(alloc, source, builder.build_from_hash_meta(alloc, meta))
-}
-
-/// What a `Default` attribute says of a type.
-fn default_of_a_type(alloc: Global, source: &str, meta: &Meta) -> Result<String, Fail>
-    requires { IsNamed meta.now }
-{
-    let builder = default::TypeAttributeBuilder {
-        enable_flag: true,
-        enable_new: true,
-        enable_expression: true,
-        enable_bound: true,
-    };
-    answer(alloc, source, builder.build_from_default_meta(alloc, meta))
 }
 
 /// What a `Debug` attribute says of a field.
@@ -128,92 +86,28 @@ fn debug_of_a_field(alloc: Global, source: &str, meta: &Meta) -> Result<String, 
     answer(alloc, source, answered)
 }
 
-/// What a `Clone` attribute says of a field.
-fn clone_of_a_field(alloc: Global, source: &str, meta: &Meta) -> Result<String, Fail>
-    requires { IsNamed meta.now }
-{
-    let builder = clone::FieldAttributeBuilder {
-        enable_method: true,
-    };
-    answer(alloc, source, builder.build_from_clone_meta(alloc, meta))
-}
-
-/// What a `Copy` attribute says of a field.
-fn copy_of_a_field(alloc: Global, source: &str, meta: &Meta) -> Result<String, Fail>
-    requires { IsNamed meta.now }
-{
-    let builder = copy::FieldAttributeBuilder;
-    answer(alloc, source, builder.build_from_copy_meta(alloc, meta))
-}
-
-/// What a `PartialEq` attribute says of a field.
-fn partial_eq_of_a_field(alloc: Global, source: &str, meta: &Meta) -> Result<String, Fail>
-    requires { IsNamed meta.now }
-{
-    let builder = partial_eq::FieldAttributeBuilder {
-        enable_ignore: true,
-        enable_method: true,
-    };
-    answer(
-        alloc,
-        source,
-        builder.build_from_partial_eq_meta(alloc, meta),
-    )
-}
-
-/// What an `Eq` attribute says of a field.
-fn eq_of_a_field(alloc: Global, source: &str, meta: &Meta) -> Result<String, Fail>
-    requires { IsNamed meta.now }
-{
-    let builder = eq::FieldAttributeBuilder;
-    answer(alloc, source, builder.build_from_eq_meta(alloc, meta))
-}
-
-/// What a `PartialOrd` attribute says of a field.
-fn partial_ord_of_a_field(alloc: Global, source: &str, meta: &Meta) -> Result<String, Fail>
-    requires { IsNamed meta.now }
-{
-    let builder = partial_ord_field(true, true, true);
-    answer(
-        alloc,
-        source,
-        builder.build_from_partial_ord_meta(alloc, meta),
-    )
-}
-
-/// What an `Ord` attribute says of a field.
-fn ord_of_a_field(alloc: Global, source: &str, meta: &Meta) -> Result<String, Fail>
-    requires { IsNamed meta.now }
-{
-    let builder = ord_field(true, true, true);
-    answer(alloc, source, builder.build_from_ord_meta(alloc, meta))
-}
-
-/// What a `Hash` attribute says of a field.
-fn hash_of_a_field(alloc: Global, source: &str, meta: &Meta) -> Result<String, Fail>
-    requires { IsNamed meta.now }
-{
-    let builder = hash::FieldAttributeBuilder {
-        enable_ignore: true,
-        enable_method: true,
-    };
-    answer(alloc, source, builder.build_from_hash_meta(alloc, meta))
-}
-
 /// What the attribute of a trait says of a type.
 fn type_words(alloc: Global, which: Trait, source: &str, meta: &Meta) -> Result<String, Fail>
     requires { IsNamed meta.now }
 {
     match which {
         Trait::Debug => debug_of_a_type(alloc, source, meta),
-        Trait::Clone => clone_of_a_type(alloc, source, meta),
-        Trait::Copy => copy_of_a_type(alloc, source, meta),
-        Trait::PartialEq => partial_eq_of_a_type(alloc, source, meta),
-        Trait::Eq => eq_of_a_type(alloc, source, meta),
-        Trait::PartialOrd => partial_ord_of_a_type(alloc, source, meta),
-        Trait::Ord => ord_of_a_type(alloc, source, meta),
-        Trait::Hash => hash_of_a_type(alloc, source, meta),
-        Trait::Default => default_of_a_type(alloc, source, meta),
+        Trait::Clone => answer(alloc, source, CLONE.build_from_clone_meta(alloc, meta)),
+        Trait::Copy => answer(alloc, source, COPY.build_from_copy_meta(alloc, meta)),
+        Trait::PartialEq => answer(
+            alloc,
+            source,
+            PARTIAL_EQ.build_from_partial_eq_meta(alloc, meta),
+        ),
+        Trait::Eq => answer(alloc, source, EQ.build_from_eq_meta(alloc, meta)),
+        Trait::PartialOrd => answer(
+            alloc,
+            source,
+            PARTIAL_ORD.build_from_partial_ord_meta(alloc, meta),
+        ),
+        Trait::Ord => answer(alloc, source, ORD.build_from_ord_meta(alloc, meta)),
+        Trait::Hash => answer(alloc, source, HASH.build_from_hash_meta(alloc, meta)),
+        Trait::Default => answer(alloc, source, DEFAULT.build_from_default_meta(alloc, meta)),
     }
 }
 
@@ -223,13 +117,33 @@ fn field_words(alloc: Global, which: Trait, source: &str, meta: &Meta) -> Result
 {
     match which {
         Trait::Debug => debug_of_a_field(alloc, source, meta),
-        Trait::Clone => clone_of_a_field(alloc, source, meta),
-        Trait::Copy => copy_of_a_field(alloc, source, meta),
-        Trait::PartialEq => partial_eq_of_a_field(alloc, source, meta),
-        Trait::Eq => eq_of_a_field(alloc, source, meta),
-        Trait::PartialOrd => partial_ord_of_a_field(alloc, source, meta),
-        Trait::Ord => ord_of_a_field(alloc, source, meta),
-        Trait::Hash => hash_of_a_field(alloc, source, meta),
+        Trait::Clone => answer(alloc, source, CLONED.build_from_clone_meta(alloc, meta)),
+        Trait::Copy => answer(
+            alloc,
+            source,
+            copy::FieldAttributeBuilder.build_from_copy_meta(alloc, meta),
+        ),
+        Trait::PartialEq => answer(
+            alloc,
+            source,
+            COMPARED.build_from_partial_eq_meta(alloc, meta),
+        ),
+        Trait::Eq => answer(
+            alloc,
+            source,
+            eq::FieldAttributeBuilder.build_from_eq_meta(alloc, meta),
+        ),
+        Trait::PartialOrd => answer(
+            alloc,
+            source,
+            partial_ord_field(true, true, true).build_from_partial_ord_meta(alloc, meta),
+        ),
+        Trait::Ord => answer(
+            alloc,
+            source,
+            ord_field(true, true, true).build_from_ord_meta(alloc, meta),
+        ),
+        Trait::Hash => answer(alloc, source, HASHED.build_from_hash_meta(alloc, meta)),
         Trait::Default => Err(Fail::from(source)),
     }
 }

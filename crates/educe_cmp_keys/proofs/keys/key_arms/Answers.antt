@@ -7,7 +7,7 @@ use Rattle.std.proofs.lemmas.Iterator.Adapters.{YieldsList-from_vec}
 use Rattle.std.proofs.lemmas.Iterator.Consumers.{YieldsList-at, YieldsList-end}
 use Rattle.educe_syntax.specs.Variant.{Variant}
 use Rattle.educe_body_forms.specs.declared.key_function.Constant.{Constant}
-use Rattle.educe_cmp_keys.proofs.Counted.{IsArmOf, key_arms_from}
+use Rattle.educe_cmp_keys.proofs.Armed.{IsArmOf, key_arms_from}
 use Rattle.educe_handlers.proofs.Lists.{zip_push, zip_mapped}
 use Rattle.educe_cmp_keys.proofs.keys.key_arms.Goals as goal
 

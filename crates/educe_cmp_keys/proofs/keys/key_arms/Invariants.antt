@@ -1,5 +1,5 @@
 use Rattle.std.specs.List.{AllZip}
-use Rattle.educe_cmp_keys.proofs.Counted.{IsArmOf}
+use Rattle.educe_cmp_keys.proofs.Armed.{IsArmOf}
 use Rattle.educe_cmp_keys.proofs.keys.key_arms.Given as goal
 
 abbrev pub invariant-loop-variant : goal.invariant-loop-variant

@@ -5,7 +5,7 @@ use Rattle.educe_handlers.specs.Ranked.{how_of}
 use Rattle.educe_handlers.proofs.CalledPaths.{called_is}
 use Rattle.educe_handlers.proofs.Lists.{two_pushed}
 use Rattle.educe_handlers.proofs.Named.{name_copied}
-use Rattle.educe_make_hash.proofs.hash_steps.feed.Goals as goal
+use Rattle.educe_make_hash_steps.proofs.feeding.feed.Goals as goal
 
 pub returns : goal.returns
 returns c =

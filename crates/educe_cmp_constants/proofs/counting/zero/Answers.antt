@@ -9,7 +9,7 @@ use Rattle.educe_tokens.specs.Pieces.{spells}
 use Rattle.educe_tokens.specs.Quote.{word_lexeme}
 use Rattle.educe_tokens.specs.TokenKind.TheVariants.{Ident, Literal}
 use Rattle.educe_tokens.specs.declared.token.Token.{Token}
-use Rattle.educe_cmp_keys.proofs.discriminants.zero.Goals as goal
+use Rattle.educe_cmp_constants.proofs.counting.zero.Goals as goal
 
 -- the tokens of a list to which this word alone was pushed
 one_word : (none one : List Token) (pushed text : List ℕ) → none ≡ [] → pushed ≡ text → Appends (word_lexeme pushed ∷ []) none one → lexemes one ≡ word_lexeme text ∷ []

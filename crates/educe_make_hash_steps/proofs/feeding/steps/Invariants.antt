@@ -4,7 +4,7 @@ use Rattle.educe_handlers.specs.declared.ranked.Ranked.{Ranked}
 use Rattle.educe_handlers.specs.Ranked.{kept_of}
 use Rattle.educe_handlers.specs.Readings.{reading_of}
 use Rattle.educe_laws.specs.HashBodies.{IsHashStep}
-use Rattle.educe_make_hash.proofs.hash_steps.steps.Given as goal
+use Rattle.educe_make_hash_steps.proofs.feeding.steps.Given as goal
 
 abbrev pub invariant-loop-ranked : goal.invariant-loop-ranked
 invariant-loop-ranked l = AllZip (λ (r : Ranked) step. IsHashStep l.state.text (reading_of l.reading) (kept_of r) step) (take l.ranked-index l.fields) l.block

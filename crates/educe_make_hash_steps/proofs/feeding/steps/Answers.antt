@@ -8,7 +8,7 @@ use Rattle.educe_handlers.specs.Readings.{reading_of}
 use Rattle.educe_handlers.proofs.Lists.{zip_more, zip_mapped}
 use Rattle.educe_laws.specs.HashBodies.{IsHashStep}
 use Rattle.educe_laws.specs.Settings.{Kept}
-use Rattle.educe_make_hash.proofs.hash_steps.steps.Goals as goal
+use Rattle.educe_make_hash_steps.proofs.feeding.steps.Goals as goal
 
 pub loop-ranked-preserved : goal.loop-ranked-preserved
 loop-ranked-preserved c =

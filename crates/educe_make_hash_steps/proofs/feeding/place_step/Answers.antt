@@ -1,7 +1,7 @@
 use Rattle.std.proofs.Common.{refl}
 use Rattle.std.proofs.lemmas.Result.{IfOk-weaker}
 use Rattle.educe_laws.specs.HashBodies.{IsPlaceStep}
-use Rattle.educe_make_hash.proofs.hash_steps.place_step.Goals as goal
+use Rattle.educe_make_hash_steps.proofs.feeding.place_step.Goals as goal
 
 pub returns : goal.returns
 returns c =
