@@ -48,7 +48,7 @@ not_at : (numbers : List ℤ) (k : ℕ) (n : ℤ) → AllByRecursion (λ m. int_
 not_at numbers k n differs at = true≢false (sym ((Decides-int_eq n n).1 refl) ∙ In-all (λ m. int_eq n m ≡ false) numbers n differs (In-found numbers k n at))
 
 -- where no two numbers are the same, one number is at one place
-one_place : (numbers : List ℤ) (j k : ℕ) (n : ℤ) → IsDistinct int_eq numbers → slice_get numbers j ≡ Some n → slice_get numbers k ≡ Some n → j ≡ k
+pub one_place : (numbers : List ℤ) (j k : ℕ) (n : ℤ) → IsDistinct int_eq numbers → slice_get numbers j ≡ Some n → slice_get numbers k ≡ Some n → j ≡ k
 unfolding IsDistinct
 one_place [] j k n differ at there = absurd (none-some n at)
 one_place (m ∷ ms) zero zero n differ at there = refl
@@ -164,8 +164,8 @@ module _ (which : Comparison) (d : DeriveInput) (variants : List Variant) (fit :
   order_value : IsTrue (is_order (trait_of which)) → (block : List Form) → IsKeyed which d names variants block → Means block
   order_value ordered block k =
       let has = covers.ordered ordered in
-      let m = number_at (trait_of which) d table variants fit has.numbers has.have a of_a in
-      let n = number_at (trait_of which) d table variants fit has.numbers has.have b of_b in
+      let m = number_at d table variants fit.enum.is has.numbers has.have a of_a.variant of_a.at in
+      let n = number_at d table variants fit.enum.is has.numbers has.have b of_b.variant of_b.at in
       let one : int_cmp m.0 n.0 ≡ Equal → a.variant ≡ b.variant =
       λ alike. one_place has.numbers a.variant b.variant m.0 has.distinct m.1 (n.1 ∙ ap Some (sym (exact_signed m.0 n.0 alike))) in
       ap (λ block. outcome_of (list_value scene (env_of a (names_for names.other)) Nothing block)) k.block_is

@@ -20,6 +20,7 @@ use Rattle.educe_syntax.specs.Expr.{Expr}
 use Rattle.educe_syntax.specs.Few.{shape_variants, variants_of}
 use Rattle.educe_syntax.specs.Keywords.{unraw}
 use Rattle.educe_syntax.specs.Naming.{AreApart, variant_names}
+use Rattle.educe_syntax.specs.Shape.TheVariants.{Enum}
 use Rattle.educe_syntax.specs.TokenLaws.{lawful_kinds}
 use Rattle.educe_syntax.specs.Variant.{Variant}
 use Rattle.educe_discriminants.specs.Literals.{literal_number}
@@ -216,24 +217,25 @@ own_base : (d : DeriveInput) (table : Answers) (names : List Binding) → AllByR
 own_base d table names apart None own = tt
 own_base d table names apart (Some value) own = lawful_scopes.number d.tokens table names value apart own
 
-module _ (which : Trait) (d : DeriveInput) (table : Answers) (variants : List Variant) (fit : AreFit which d variants) (numbers : List ℤ) (have : HaveNumbers table d numbers) where
-  -- the variants of what is counted are those of the enum
-  counted_variants : map (λ (c : Counted). c.variant) (counted d) ≡ variants
-  counted_variants = variants_counted None 0 (variants_of d) ∙ ap shape_variants fit.enum.is
+-- the variants of what is counted are those of an enum
+counted_variants : (d : DeriveInput) (variants : List Variant) → d.shape ≡ Enum variants → map (λ (c : Counted). c.variant) (counted d) ≡ variants
+counted_variants d variants is = variants_counted None 0 (variants_of d) ∙ ap shape_variants is
 
+-- the discriminant of a value's variant is among the numbers, at the variant's place
+pub number_at : (d : DeriveInput) (table : Answers) (variants : List Variant) → d.shape ≡ Enum variants → (numbers : List ℤ) → HaveNumbers table d numbers → (value : Value) (v : Variant)
+    → slice_get variants value.variant ≡ Some v → (n : ℤ) × (slice_get numbers value.variant ≡ Some n) × (discriminant_of table d value ≡ Some n)
+number_at d table variants is numbers have value v at =
+    let c = map_at (λ (c : Counted). c.variant) (counted d) value.variant v (ap (λ vs. slice_get vs value.variant) (counted_variants d variants is) ∙ at) in
+    let found : slice_get (discriminants table d) value.variant ≡ Some (discriminant table c.0) =
+    slice_get-map (discriminant table) (counted d) value.variant ∙ ap (option_map (discriminant table)) c.1 in
+    let n = map_at Some numbers value.variant (discriminant table c.0) (ap (λ ns. slice_get ns value.variant) (sym have.are) ∙ found) in
+    (n.0, n.1, ap flat found ∙ sym n.2)
+
+module _ (which : Trait) (d : DeriveInput) (table : Answers) (variants : List Variant) (fit : AreFit which d variants) (numbers : List ℤ) (have : HaveNumbers table d numbers) where
   module _ (value : Value) (is_of : IsOf d variants value) where
     -- that of the value is at its place
     counted_at : slice_get (map (λ (c : Counted). c.variant) (counted d)) value.variant ≡ Some is_of.variant
-    counted_at = ap (λ vs. slice_get vs value.variant) counted_variants ∙ is_of.at
-
-    -- and so is its discriminant among the numbers
-    pub number_at : (n : ℤ) × (slice_get numbers value.variant ≡ Some n) × (discriminant_of table d value ≡ Some n)
-    number_at =
-        let c = map_at (λ (c : Counted). c.variant) (counted d) value.variant is_of.variant counted_at in
-        let found : slice_get (discriminants table d) value.variant ≡ Some (discriminant table c.0) =
-        slice_get-map (discriminant table) (counted d) value.variant ∙ ap (option_map (discriminant table)) c.1 in
-        let n = map_at Some numbers value.variant (discriminant table c.0) (ap (λ ns. slice_get ns value.variant) (sym have.are) ∙ found) in
-        (n.0, n.1, ap flat found ∙ sym n.2)
+    counted_at = ap (λ vs. slice_get vs value.variant) (counted_variants d variants fit.enum.is) ∙ is_of.at
 
     -- the key of the value is its discriminant, where no name in scope is a word of the definition
     key_is : (names : List Binding) (ty : DiscriminantType) (base : List ℕ) (arms : List KeyArm) → AllByRecursion (IsApart d.tokens) names → IsDiscriminantType d.attrs ty
@@ -244,7 +246,7 @@ module _ (which : Trait) (d : DeriveInput) (table : Answers) (variants : List Va
         let reads = each_counted (ReadsBase table names) None 0 (variants_of d) tt (subst (AllByRecursion Reads) (sym (ap shape_variants fit.enum.is)) read) in
         arms_pick d table names ty base value is_of.variant is_of.found (counted d) arms value.variant are
         (each_numbered table names ty base (counted d) numbers reads have.are (have.in_range ty ty_is))
-        (subst (λ (vs : List Variant). AreApart (variant_names vs)) (sym counted_variants) fit.enum.names) counted_at
+        (subst (λ (vs : List Variant). AreApart (variant_names vs)) (sym (counted_variants d variants fit.enum.is)) fit.enum.names) counted_at
 
 -- ---- names in scope
 

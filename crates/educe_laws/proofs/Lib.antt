@@ -49,3 +49,6 @@ pub mod ShownEvaluating
 pub mod Checked
 pub mod Traits
 pub mod Stops
+pub mod Taken
+pub mod Following
+pub mod Agreeing

@@ -164,7 +164,7 @@ fields_give look place (f ∷ fs) [] give = absurd give
 fields_give look place (f ∷ fs) (x ∷ xs) give = (give.0, fields_give look (place + 1) fs xs give.1)
 
 -- there is one case
-one_case : (fs found : List Field) (n : ℕ) → slice_get (fs ∷ []) n ≡ Some found → (n ≡ 0) × (found ≡ fs)
+pub one_case : (fs found : List Field) (n : ℕ) → slice_get (fs ∷ []) n ≡ Some found → (n ≡ 0) × (found ≡ fs)
 one_case fs found zero at = (refl, sym (same_Some fs found at))
 one_case fs found (suc n) at = absurd (cc)
 

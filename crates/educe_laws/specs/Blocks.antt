@@ -302,8 +302,8 @@ Evaluates trait.Debug definition f = Shows definition f.body
 Evaluates trait.Default definition f = MakesDefault definition f.body
 Evaluates _ definition f = ⊥
 
--- each function of the item evaluates to what the item's trait means, or `new` to the default value; the functions of checks and of
--- markers are never called
+-- each function of the item evaluates to what the item's trait means, or `new` to what the call of `default` makes; the functions of
+-- checks and of markers are never called
 abbrev pub EachEvaluates : DeriveInput → Item → Type 0
 EachEvaluates definition (Impl item) = AllByRecursion (Evaluates item.which definition) item.functions
 EachEvaluates definition (New item) = AllByRecursion (λ f. MakesNew definition f.body) item.functions

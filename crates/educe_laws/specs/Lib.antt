@@ -39,6 +39,7 @@ pub mod Handlers
 -- Laws that hold with no call, as terms and as records.
 pub mod BodyLaws
 pub mod Laws
+pub mod OrderLaws
 pub mod HashLaws
 pub mod DefaultLaws
 pub mod EqLaws

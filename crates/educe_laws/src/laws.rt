@@ -7,6 +7,7 @@ ghost use Rattle.educe_laws.specs.EqLaws.{EqLaws};
 ghost use Rattle.educe_laws.specs.HashLaws.{HashLaws};
 ghost use Rattle.educe_laws.specs.HeaderLaws.{HeaderLaws};
 ghost use Rattle.educe_laws.specs.Laws.{ComparisonLaws, TraitLaws};
+ghost use Rattle.educe_laws.specs.OrderLaws.{OrderLaws};
 
 /// Where no cause of a listed trait stands, its settings are what the attributes say, and of a trait that
 /// is read field by field those of fields are no others. What the context notes of the traits that an impl inherits from is what it inherits; and
@@ -22,6 +23,13 @@ pub fn trait_laws()
 /// the input. Where discriminants are numbers of their type, the constants have them.
 pub fn comparison_laws()
     ensures { ComparisonLaws }
+{}
+
+/// Where both orders are listed and no field has an attribute of `PartialOrd`, `partial_cmp` answers in
+/// `Some` what `cmp` answers, if so do the functions that they call on fields without a method
+/// (documentation of `std`, `Ord`: how it is consistent with `PartialOrd`).
+pub fn order_laws()
+    ensures { OrderLaws }
 {}
 
 /// Where no field says something wrong of `Hash`, the function of its block feeds, over each table and any

@@ -7,5 +7,5 @@ mod laws;
 
 pub use laws::{
     clone_laws, comparison_laws, debug_laws, default_laws, eq_laws, hash_laws, header_laws,
-    trait_laws,
+    order_laws, trait_laws,
 };

@@ -8,8 +8,8 @@ ghost use Rattle.educe_handlers.specs.Readings.{reading_of, CanRead};
 ghost use Rattle.educe_laws.specs.HashBodies as spec;
 
 use educe_body::{BuiltIn, Form, Forms, Position, Shared, built_in_path};
-use educe_handlers::{How, Ranked, Reading, called, read};
-use educe_syntax::{Duplicate, ExprPath, Ident};
+use educe_handlers::{How, Ranked, Reading, block_of, called, read, same_name};
+use educe_syntax::{ExprPath, Ident};
 use educe_tokens::{Boxed, Seq};
 use std::alloc::{AllocError, Global};
 
@@ -33,10 +33,8 @@ fn feed(
     requires nowhere { state.now.span ≡ no_place }
     ensures { IfOk result (spec.Feeds state.now.text (how_of how.entry) fed) }
 {
-    let hasher = state.duplicate(alloc)?;
-    let mut arguments = Seq::with_capacity(alloc, 2)?;
-    arguments.push(fed)?;
-    arguments.push(Form::Local(hasher))?;
+    let mut arguments = block_of(alloc, fed)?;
+    arguments.push(Form::Local(same_name(alloc, state)?))?;
     let path = called(alloc, how, plain)?;
     let call = Form::Call(path, arguments);
     Ok(Form::HashPart(Boxed::new(alloc, call)?))
