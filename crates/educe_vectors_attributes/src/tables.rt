@@ -1,5 +1,6 @@
 //! The tables (`educe_vectors_checks`, `rows.rt`): a text, and the place and the message of its refusal, or what it says.
 
+mod alike;
 mod bounds;
 mod calls;
 mod classes;
@@ -12,4 +13,5 @@ mod keys;
 mod orders;
 mod places;
 mod predicates;
+mod switches;
 mod values;

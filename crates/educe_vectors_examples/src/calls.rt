@@ -25,7 +25,7 @@ fn body_in<'a>(item: &'a ImplItem, name: &str) -> Option<&'a Body> {
 fn body<'a>(items: &'a Items, name: &str) -> Option<&'a Body> {
     for item in items.as_slice() {
         match item {
-            Item::Impl(item) => {
+            Item::Impl(item) | Item::New(item) => {
                 let found = body_in(item, name);
                 if found.is_some() {
                     return found;

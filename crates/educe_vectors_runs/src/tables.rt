@@ -20,7 +20,7 @@
 //! - `: cmp V(N, ..) V(N, ..) = Less`, `Equal`, `Greater` or `stuck`
 //! - `: partial_cmp V(N, ..) V(N, ..) = Some(Less)`, .., `None` or `stuck`
 //! - `: hash V(N, ..) = [N, ..]`, the parts that are fed to a hasher
-//! - `: default = V(N, ..)`, `whole N`, a value of the whole type, or `stuck`
+//! - `: default = V(N, ..)`, `whole N`, a value of the whole type, or `stuck`; and `: new` in the same way
 //! - `: clone V(N, ..) = V(N, ..)`, and `: clone_from V(N, ..) V(N, ..) = V(N, ..)`
 //! - `: fmt V(N, ..) = TEXT`, what is shown, where each field prints as its number
 //!

@@ -70,6 +70,15 @@ a rank used again in both orders
 : refused 1:110: the rank `1` is repeatedly used
 : refused 1:125: the rank `2` is repeatedly used
 
+a wrong form, a name that is needed and no default variant
+#[educe(Clone(x), Debug(name = false), Default)] enum E { #[educe(Debug(name = false))] A, B }
+: refused 1:9: you are using an incorrect format of the `Clone` attribute, which should be reformatted as follows:
+    #[educe(Clone)]
+    #[educe(Clone(bound(where_predicates)))]
+    #[educe(Clone(bound = false))]
+: refused 1:59: a unit variant which doesn't use an enum name needs to have a name
+: refused 1:40: there is no variant set as default
+
 the text comes first
 #[educe(Hash, Hash)] struct S<T> { #[educe(Hash)] a: u8, a: impl X }
 : refused 1:61: syntax error

@@ -145,13 +145,23 @@ fn debug_at_a_tuple(rt: HostRuntime) -> Result<(), Fail> {
 
 static ENUM: &str = r#"
 Debug
+Debug()
+Debug(name = "")
 : no name; fields without names; needed bounds
 
 Debug(name = true)
 : own name; fields without names; needed bounds
 
 Debug = E
+Debug(name = E)
+Debug(rename(E))
 : name E; fields without names; needed bounds
+
+Debug(bound = false)
+: no name; fields without names; no bounds
+
+Debug(name = true, bound(T: Debug))
+: own name; fields without names; bounds T : Debug,
 
 Debug(named_field = true)
 : 1:1: you are using an incorrect format of the `Debug` attribute, which should be reformatted as follows:

@@ -129,6 +129,9 @@ PartialEq(ignore = x)
 PartialEq(method)
 : 1:11: expected `method = Path` or `method(Path)`
 
+PartialEq(method = 1)
+: 1:20: expected `method = Path`
+
 PartialEq(ignore, ignore = false)
 : 1:19: you are trying to reset the `ignore` parameter
 
@@ -191,6 +194,9 @@ Hash(ignore = x)
 Hash(method)
 : 1:6: expected `method = Path` or `method(Path)`
 
+Hash(method = 1)
+: 1:15: expected `method = Path`
+
 Hash(ignore, ignore = false)
 : 1:14: you are trying to reset the `ignore` parameter
 
@@ -213,67 +219,5 @@ fn hash_at_a_field(rt: HostRuntime) -> Result<(), Fail> {
             enable_method: true,
         },
         HASH,
-    )
-}
-
-static WITHOUT_IGNORE: &str = r#"
-Hash(method = f)
-: kept; method f
-
-Hash = false
-Hash(ignore)
-: 1:1: you are using an incorrect format of the `Hash` attribute, which should be reformatted as follows:
-    #[educe(Hash(method(path_to_method)))]
-"#;
-
-#[test]
-fn hash_without_ignore(rt: HostRuntime) -> Result<(), Fail> {
-    check_metas(
-        rt.alloc(),
-        hash::FieldAttributeBuilder {
-            enable_ignore: false,
-            enable_method: true,
-        },
-        WITHOUT_IGNORE,
-    )
-}
-
-static WITHOUT_METHOD: &str = r#"
-PartialEq = false
-: ignored; no method
-
-PartialEq(method = f)
-: 1:1: you are using an incorrect format of the `PartialEq` attribute, which should be reformatted as follows:
-    #[educe(PartialEq = false)]
-    #[educe(PartialEq(ignore))]
-"#;
-
-#[test]
-fn partial_eq_without_a_method(rt: HostRuntime) -> Result<(), Fail> {
-    check_metas(
-        rt.alloc(),
-        partial_eq::FieldAttributeBuilder {
-            enable_ignore: true,
-            enable_method: false,
-        },
-        WITHOUT_METHOD,
-    )
-}
-
-static NO_SWITCH: &str = r#"
-PartialEq = false
-PartialEq(1 1)
-: 1:1: the `PartialEq` attribute cannot be placed here
-"#;
-
-#[test]
-fn partial_eq_without_switches(rt: HostRuntime) -> Result<(), Fail> {
-    check_metas(
-        rt.alloc(),
-        partial_eq::FieldAttributeBuilder {
-            enable_ignore: false,
-            enable_method: false,
-        },
-        NO_SWITCH,
     )
 }

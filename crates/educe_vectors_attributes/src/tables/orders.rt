@@ -85,6 +85,15 @@ Ord(::rank = 1)
 Ord = 1
 : 1:7: expected `Ord = false`
 
+Ord(ignore = 1)
+: 1:14: expected `ignore = false`
+
+Ord(method)
+: 1:5: expected `method = Path` or `method(Path)`
+
+Ord(method = 1)
+: 1:14: expected `method = Path`
+
 Ord(rank)
 : 1:5: expected `rank = integer` or `rank(integer)`
 
@@ -167,11 +176,23 @@ PartialOrd(new)
     #[educe(PartialOrd(method(path_to_method)))]
     #[educe(PartialOrd(rank = integer))]
 
+PartialOrd = 1
+: 1:14: expected `PartialOrd = false`
+
+PartialOrd(ignore(x))
+: 1:19: expected `ignore = false`
+
+PartialOrd(rank)
+: 1:12: expected `rank = integer` or `rank(integer)`
+
 PartialOrd(rank = x)
 : 1:19: expected `rank = integer`
 
 PartialOrd(method)
 : 1:12: expected `method = Path` or `method(Path)`
+
+PartialOrd(method = 1)
+: 1:21: expected `method = Path`
 
 PartialOrd(method = f, method = g)
 : 1:24: you are trying to reset the `method` parameter
@@ -189,49 +210,6 @@ PartialOrd(method = "f::<1.5>")
 #[test]
 fn partial_ord_at_a_field(rt: HostRuntime) -> Result<(), Fail> {
     check_metas(rt.alloc(), partial_ord_field(true, true, true), PARTIAL_ORD)
-}
-
-static WITHOUT_RANK: &str = r#"
-Ord(ignore)
-: ignored; no method; rank 7
-
-Ord(rank = 1)
-: 1:1: you are using an incorrect format of the `Ord` attribute, which should be reformatted as follows:
-    #[educe(Ord = false)]
-    #[educe(Ord(ignore))]
-    #[educe(Ord(method(path_to_method)))]
-"#;
-
-#[test]
-fn ord_without_a_rank(rt: HostRuntime) -> Result<(), Fail> {
-    check_metas(rt.alloc(), ord_field(true, true, false), WITHOUT_RANK)
-}
-
-static ONLY_RANK: &str = r#"
-PartialOrd(rank = 1)
-: kept; no method; rank 1 at 11 to 19
-
-PartialOrd = false
-PartialOrd(ignore)
-PartialOrd(method = f)
-: 1:1: you are using an incorrect format of the `PartialOrd` attribute, which should be reformatted as follows:
-    #[educe(PartialOrd(rank = integer))]
-"#;
-
-#[test]
-fn partial_ord_with_a_rank_alone(rt: HostRuntime) -> Result<(), Fail> {
-    check_metas(rt.alloc(), partial_ord_field(false, false, true), ONLY_RANK)
-}
-
-static NO_SWITCH: &str = r#"
-Ord(rank = 1)
-Ord = false
-: 1:1: the `Ord` attribute cannot be placed here
-"#;
-
-#[test]
-fn ord_without_switches(rt: HostRuntime) -> Result<(), Fail> {
-    check_metas(rt.alloc(), ord_field(false, false, false), NO_SWITCH)
 }
 
 static ORD_OR_PARTIAL_ORD: &str = r#"

@@ -280,9 +280,25 @@ nor are bounds
 #[educe(Clone)] enum E { #[educe(Clone(bound(T: X)))] A }
 : refused 1:34: the `Clone` attribute cannot be placed here
 
+nothing is said of `Copy` at a variant
+#[educe(Copy)] enum E { #[educe(Copy)] A }
+: refused 1:33: the `Copy` attribute cannot be placed here
+
 nothing is said of `Copy` at a field
 #[educe(Clone, Copy)] struct S { #[educe(Copy)] a: u8 }
 : refused 1:42: the `Copy` attribute cannot be placed here
+
+a list of a field that is no list of metas
+#[educe(Copy)] struct S { #[educe(1)] a: u8 }
+: refused 1:35: syntax error
+
+a trait at a field that the type does not list
+#[educe(Copy)] struct S { #[educe(Hash)] a: u8 }
+: refused 1:35: the trait `Hash` is not used
+
+a trait twice at a field
+#[educe(Clone)] struct S(#[educe(Clone(method = f), Clone(method = g))] u8);
+: refused 1:53: the trait `Clone` is used repeatedly
 
 no field is ignored
 #[educe(Clone)] struct S { #[educe(Clone(ignore))] a: u8 }

@@ -49,6 +49,13 @@ an expression of the whole type
 : value S { a : 2 } -> 4
 : default = whole 4
 
+the function `new` makes what `default` makes
+#[educe(Default(new))] struct S(u8);
+: Default 0 -> 0
+: value < Self as :: core :: default :: Default > :: default ( ) -> 4
+: default = 0(0)
+: new = whole 4
+
 without an answer there is no value
 #[educe(Default)] struct S { a: u8 }
 : default = stuck
@@ -195,6 +202,27 @@ a float
 an expression twice
 #[educe(Default)] struct S { #[educe(Default(expr = 1, expression = 2))] a: u8 }
 : refused 1:56: you are trying to reset the `expression` parameter
+
+a variant is marked twice
+#[educe(Default)] enum E { #[educe(Default, Default)] A, B }
+: refused 1:45: the trait `Default` is used repeatedly
+
+a field has two values
+#[educe(Default)] struct S(#[educe(Default = 1, Default = 2)] u8);
+: refused 1:49: the trait `Default` is used repeatedly
+
+a trait at a field that the type does not list
+#[educe(Default)] struct S(#[educe(Default = 1, Hash)] u8);
+: refused 1:49: the trait `Hash` is not used
+
+what a variant says is read where what the type says can be read
+#[educe(Default(foo))] enum E { #[educe(Default(bar))] A }
+: refused 1:9: you are using an incorrect format of the `Default` attribute, which should be reformatted as follows:
+    #[educe(Default)]
+    #[educe(Default(new))]
+    #[educe(Default(expression = expr))]
+    #[educe(Default(bound(where_predicates)))]
+    #[educe(Default(bound = false))]
 "#;
 
 #[test]

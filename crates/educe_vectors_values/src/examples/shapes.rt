@@ -260,3 +260,105 @@ an enum without variants needs a name
 fn names_are_needed(rt: HostRuntime) -> Result<(), Fail> {
     check_table(rt.alloc(), REFUSALS)
 }
+
+static FORMS: &str = r#"
+a struct whose fields are shown by name
+#[educe(Debug(x))] struct S { a: u8 }
+: refused 1:9: you are using an incorrect format of the `Debug` attribute, which should be reformatted as follows:
+    #[educe(Debug)]
+    #[educe(Debug = NewName)]
+    #[educe(Debug(name(NewName)))]
+    #[educe(Debug(name = false))]
+    #[educe(Debug(named_field = false))]
+    #[educe(Debug(bound(where_predicates)))]
+    #[educe(Debug(bound = false))]
+
+a struct without fields
+#[educe(Debug(x))] struct S;
+: refused 1:9: you are using an incorrect format of the `Debug` attribute, which should be reformatted as follows:
+    #[educe(Debug)]
+    #[educe(Debug = NewName)]
+    #[educe(Debug(name(NewName)))]
+    #[educe(Debug(name = false))]
+    #[educe(Debug(named_field = false))]
+    #[educe(Debug(bound(where_predicates)))]
+    #[educe(Debug(bound = false))]
+
+a struct whose fields are shown as a tuple
+#[educe(Debug(x))] struct S(u8);
+: refused 1:9: you are using an incorrect format of the `Debug` attribute, which should be reformatted as follows:
+    #[educe(Debug)]
+    #[educe(Debug = NewName)]
+    #[educe(Debug(name(NewName)))]
+    #[educe(Debug(name = false))]
+    #[educe(Debug(named_field = true))]
+    #[educe(Debug(bound(where_predicates)))]
+    #[educe(Debug(bound = false))]
+
+an enum
+#[educe(Debug(named_field = true))] enum E { A }
+: refused 1:9: you are using an incorrect format of the `Debug` attribute, which should be reformatted as follows:
+    #[educe(Debug)]
+    #[educe(Debug = NewName)]
+    #[educe(Debug(name(NewName)))]
+    #[educe(Debug(name = true))]
+    #[educe(Debug(bound(where_predicates)))]
+    #[educe(Debug(bound = false))]
+
+a variant whose fields are shown by name
+#[educe(Debug)] enum E { #[educe(Debug(x))] A { a: u8 } }
+: refused 1:34: you are using an incorrect format of the `Debug` attribute, which should be reformatted as follows:
+    #[educe(Debug = NewName)]
+    #[educe(Debug(name(NewName)))]
+    #[educe(Debug(name = false))]
+    #[educe(Debug(named_field = false))]
+
+a variant without fields
+#[educe(Debug)] enum E { #[educe(Debug(x))] A }
+: refused 1:34: you are using an incorrect format of the `Debug` attribute, which should be reformatted as follows:
+    #[educe(Debug = NewName)]
+    #[educe(Debug(name(NewName)))]
+    #[educe(Debug(name = false))]
+    #[educe(Debug(named_field = true))]
+
+a variant with empty brackets
+#[educe(Debug)] enum E { #[educe(Debug(x))] A() }
+: refused 1:34: you are using an incorrect format of the `Debug` attribute, which should be reformatted as follows:
+    #[educe(Debug = NewName)]
+    #[educe(Debug(name(NewName)))]
+    #[educe(Debug(name = false))]
+    #[educe(Debug(named_field = true))]
+
+a field that is shown without a name
+#[educe(Debug)] struct S(#[educe(Debug = x)] u8);
+: refused 1:42: expected `Debug = false`
+
+a field that is shown by name
+#[educe(Debug(named_field = true))] struct S(#[educe(Debug(rank = 1))] u8);
+: refused 1:54: you are using an incorrect format of the `Debug` attribute, which should be reformatted as follows:
+    #[educe(Debug = NewName)]
+    #[educe(Debug = false)]
+    #[educe(Debug(name(NewName)))]
+    #[educe(Debug(ignore))]
+    #[educe(Debug(method(path_to_method)))]
+
+a trait twice at a field
+#[educe(Debug)] struct S(#[educe(Debug(ignore), Debug(ignore))] u8);
+: refused 1:49: the trait `Debug` is used repeatedly
+
+what a field says is read where what the type says can be read
+#[educe(Debug(foo))] struct S { #[educe(Debug(bar))] a: u8 }
+: refused 1:9: you are using an incorrect format of the `Debug` attribute, which should be reformatted as follows:
+    #[educe(Debug)]
+    #[educe(Debug = NewName)]
+    #[educe(Debug(name(NewName)))]
+    #[educe(Debug(name = false))]
+    #[educe(Debug(named_field = false))]
+    #[educe(Debug(bound(where_predicates)))]
+    #[educe(Debug(bound = false))]
+"#;
+
+#[test]
+fn wrong_forms_are_refused(rt: HostRuntime) -> Result<(), Fail> {
+    check_table(rt.alloc(), FORMS)
+}
