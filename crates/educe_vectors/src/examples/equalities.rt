@@ -55,6 +55,14 @@ without predicates by an empty bound, there is no check
 #[educe(Eq(bound(*)))] struct S<T, U>(T, u8);
 : writes # [ automatically_derived ] impl < T , U > :: core :: cmp :: Eq for S < T , U > where T : :: core :: cmp :: Eq , U : :: core :: cmp :: Eq { }
 
+a packed struct takes what `PartialEq` asks of its copies
+#[educe(PartialEq, Eq)] #[repr(packed)] struct S<T>(T);
+: holds Eq for S < T > where T : :: core :: cmp :: Eq , T : :: core :: cmp :: PartialEq , T : :: core :: marker :: Copy { }
+
+a predicate that is there is not added again
+#[educe(PartialEq(bound(T: ::core::cmp::Eq)), Eq)] struct S<T>(T);
+: holds :: core :: cmp :: Eq for S < T > where T : :: core :: cmp :: Eq { }
+
 `Ord` inherits of it
 #[educe(PartialEq, Eq(bound(T: A)), PartialOrd, Ord)] struct S<T>(T);
 : holds :: core :: cmp :: Ord for S < T > where T : :: core :: cmp :: Ord , T : A , T : :: core :: cmp :: PartialOrd , T : :: core :: cmp :: PartialEq {

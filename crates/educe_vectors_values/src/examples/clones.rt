@@ -224,6 +224,22 @@ a marker has the lints and the parameters of the impl
 #[allow(dead_code)] #[educe(Clone)] struct S<'a, const N: usize>(&'a u8, #[educe(Clone(method = m))] [u8; N]);
 : ends # [ allow ( dead_code ) ] const _ : ( ) = { fn __educe_clone_method_used < 'a , const N : usize > ( educe__value : & [ u8 ; N ] , ) -> [ u8 ; N ] { m ( educe__value ) } } ;
 
+a marker has the predicates that the impl adds
+#[educe(Clone)] struct S<T>(#[educe(Clone(method = m))] u8, T);
+: ends const _ : ( ) = { fn __educe_clone_method_used < T > ( educe__value : & u8 , ) -> u8 where T : :: core :: clone :: Clone { m ( educe__value ) } } ;
+
+each method has its own marker, in written order
+#[educe(Clone)] struct S(#[educe(Clone(method = m))] u8, bool, #[educe(Clone(method = a::n))] u16);
+: items 3
+: ends const _ : ( ) = { fn __educe_clone_method_used ( educe__value : & u8 , ) -> u8 { m ( educe__value ) } } ;
+const _ : ( ) = { fn __educe_clone_method_used ( educe__value : & u16 , ) -> u16 { a :: n ( educe__value ) } } ;
+
+those of variants too, and a method that stands twice has two
+#[educe(Clone)] enum E { A(#[educe(Clone(method = m))] u8), B { #[educe(Clone(method = m))] a: u16 } }
+: items 3
+: ends const _ : ( ) = { fn __educe_clone_method_used ( educe__value : & u8 , ) -> u8 { m ( educe__value ) } } ;
+const _ : ( ) = { fn __educe_clone_method_used ( educe__value : & u16 , ) -> u16 { m ( educe__value ) } } ;
+
 a container hands on what is asked
 #[educe(Clone)] struct S<T> { a: Vec<Box<T>> }
 : holds for S < T > where T : :: core :: clone :: Clone { fn clone
@@ -243,6 +259,22 @@ a struct with a lifetime is copied as a whole
 but predicates of `Copy` on it do
 #[educe(Clone, Copy(bound('a: 'static)))] struct S<'a> { a: &'a u8 }
 : holds fn clone ( & self ) -> Self { Self { a : :: core :: clone :: Clone :: clone ( & self . a ) , } }
+
+a bound that lists no predicate does not keep from copying as a whole
+#[educe(Clone, Copy(bound(*)))] struct S<const N: usize>(u8);
+: holds fn clone ( & self ) -> Self { * self } }
+
+nor do empty bounds
+#[educe(Clone, Copy(bound()))] struct S<const N: usize>(u8);
+: holds fn clone ( & self ) -> Self { * self } }
+
+also in a string
+#[educe(Clone, Copy(bound = ""))] struct S<'a>(&'a u8);
+: holds fn clone ( & self ) -> Self { * self } }
+
+a packed struct that is copied as a whole asks what `bound(*)` says
+#[educe(Clone(bound(*)), Copy)] #[repr(packed)] struct S<T>(u8, PhantomData<u8>);
+: holds Clone for S < T > where T : :: core :: clone :: Clone , T : :: core :: marker :: Copy { fn clone
 
 the impl of `Copy` inherits what that of `Clone` adds
 #[educe(Clone, Copy(bound = true))] struct S<T, U> { a: T, #[educe(Clone(method = m))] b: U }
@@ -315,6 +347,10 @@ what the type says of `Copy` is read for `Clone`
     #[educe(Copy)]
     #[educe(Copy(bound(where_predicates)))]
     #[educe(Copy(bound = false))]
+
+the value of its bound too
+#[educe(Clone, Copy(bound = 1))] struct S<T>(T);
+: refused 1:29: expected `bound = "where_predicates"` or `bound = false`
 
 `Copy` that is not listed
 #[educe(Clone)] struct S { #[educe(Copy)] a: u8 }

@@ -337,8 +337,8 @@ a field that is shown by name
 #[educe(Debug(named_field = true))] struct S(#[educe(Debug(rank = 1))] u8);
 : refused 1:54: you are using an incorrect format of the `Debug` attribute, which should be reformatted as follows:
     #[educe(Debug = NewName)]
-    #[educe(Debug = false)]
     #[educe(Debug(name(NewName)))]
+    #[educe(Debug = false)]
     #[educe(Debug(ignore))]
     #[educe(Debug(method(path_to_method)))]
 
