@@ -16,7 +16,10 @@ from definitions import FUNCTIONS, added, cases, compiled, discriminant_type, ex
 
 TABLE = re.compile(r'^static \w+: &str = r(#+)"\n(.*?)\n"\1;', re.S | re.M)
 VALUE = re.compile(r"(\d+)\(([^)]*)\)")
-TRAITS = {"eq": "PartialEq", "partial_cmp": "PartialOrd", "cmp": "Ord", "hash": "Hash", "default": "Default"}
+TRAITS = {"eq": "PartialEq", "partial_cmp": "PartialOrd", "cmp": "Ord", "hash": "Hash", "default": "Default", "new": "Default"}
+
+# The expression by which `new` makes what `default` makes.
+OWN_DEFAULT = "< Self as :: core :: default :: Default > :: default ( )"
 
 
 def numbers(text):
@@ -30,24 +33,37 @@ def values(text):
 
 
 class Row:
-    """A call of a trait's function: what the definition's methods and constants answer, the values, and the outcome."""
+    """A call of a trait's function or of `new`: what methods, constants and expressions answer, the values, and the outcome."""
 
     def __init__(self, name, definition, told, line):
         self.name, self.definition = name, definition
         self.calls = [told_call(rest) for word, rest in told if word == "method"]
         self.constants = [tuple(rest.rsplit(" -> ", 1)) for word, rest in told if word == "const"]
+        expressions = [rest.rsplit(" -> ", 1) for word, rest in told if word == "value"]
+        self.wholes = {f"whole {number}": text for text, number in expressions}
         call, self.outcome = line.split(" = ", 1)
-        self.trait, self.values = TRAITS[call.split(" ")[0]], values(call)
+        if self.wholes.get(self.outcome) == OWN_DEFAULT:
+            self.outcome = dict(told)["default"].removeprefix("= ")
+        self.word, self.values = call.split(" ")[0], values(call)
+        self.trait = TRAITS[self.word]
 
     def asserted(self):
-        """What holds of the call, as an expression of Rust; nothing where the call has no outcome."""
+        """What holds of the call, as an expression of Rust."""
+        name = cases(self.definition)[0][0].split("::")[0]
         if self.trait == "Hash":
-            return f"fed(&{made(self.definition, *self.values[0])}) == {self.outcome}"
+            return f"fed::<{name}>(&{made(self.definition, *self.values[0])}) == {self.outcome}"
         if self.trait == "Default":
-            return is_made(self.definition, *values(self.outcome)[0]) if VALUE.fullmatch(self.outcome) else None
-        answer = rust(self.outcome)
+            call = f"<{name}>::new()" if self.word == "new" else f"<{name} as ::core::default::Default>::default()"
+            return f"::core::matches!({call}, {self.pattern()})"
         given = ", ".join("&" + made(self.definition, *value) for value in self.values)
-        return answer and f"::core::cmp::{self.trait}::{FUNCTIONS[self.trait]}({given}) == {answer}"
+        return f"::core::cmp::{self.trait}::{FUNCTIONS[self.trait]}({given}) == {rust(self.outcome)}"
+
+    def pattern(self):
+        """The value that is made, as a pattern; of the whole type, the expression itself, which has to be one."""
+        if not VALUE.fullmatch(self.outcome):
+            return self.wholes[self.outcome]
+        [(case, own)] = values(self.outcome)
+        return made(self.definition, case, [f"N({number})" if "N<" in self.definition else number for number in own])
 
 
 def told_call(text):
@@ -57,19 +73,13 @@ def told_call(text):
     return path, numbers(arguments), answer
 
 
-def is_made(definition, case, own):
-    """Whether the default value is this one."""
-    shown = [f"N({number})" if "N<" in definition else number for number in own]
-    name = cases(definition)[0][0].split("::")[0]
-    return f"::core::matches!(<{name} as ::core::default::Default>::default(), {made(definition, case, shown)})"
-
-
 def rows_of(row):
-    """The calls of functions in a row of a table."""
+    """The calls of functions in a row of a table, but for those that have no value."""
     front, *lines = row.split("\n: ")
     name, _, definition = front.partition("\n")
     told = [(word, rest) for word, _, rest in (line.partition(" ") for line in lines)]
-    return [Row(name, definition, told, line) for line in lines if line.split(" ")[0] in TRAITS]
+    calls = [Row(name, definition, told, line) for line in lines if line.split(" ")[0] in TRAITS]
+    return [call for call in calls if call.outcome != "stuck"]
 
 
 def rows(text):
@@ -81,9 +91,7 @@ def rows(text):
 
 
 def rust(answer):
-    """What a method or a function answers, as an expression; nothing where it has no outcome."""
-    if answer == "stuck":
-        return None
+    """What a method or a function answers, as an expression."""
     ordered = re.sub(r"\b(Less|Equal|Greater)\b", r"::core::cmp::Ordering::\1", answer)
     return re.sub(r"\b(Some|None)\b", r"::core::option::Option::\1", ordered)
 
@@ -148,7 +156,7 @@ def in_modules(names, text):
 def method(path, answers):
     """A function of this path that answers so, and panics where it is not to be called.
 
-    It has the type of its first answer: an answer of another type has no outcome."""
+    It has the type of its first answer: a call that an answer of another type decides has no value."""
     names = names_of(path)
     kind = kind_of(next(iter(answers.values())))
     if kind == "Part":
@@ -206,9 +214,9 @@ LEFT_OUT = "left out: rustc does not take the definition"
 
 
 def is_possible(row):
-    """Whether the row has an outcome, and its values are some of the definition."""
+    """Whether the values of the row are some of the definition."""
     held = cases(row.definition)
-    return all(case < len(held) and len(fields) == len(held[case][2]) for case, fields in row.values) and row.asserted() is not None
+    return all(case < len(held) and len(fields) == len(held[case][2]) for case, fields in row.values)
 
 
 def main(program, folder, *tables):
@@ -221,8 +229,10 @@ def main(program, folder, *tables):
     for own in definitions.values():
         answers.append(tried(program, folder, own))
         print(f"{own[0].name}: {answers[-1]}", flush=True)
-    answered = [int(answer.split()[1]) for answer in answers if answer.startswith("answered")]
-    print(f"{len(answered)} definitions, {sum(answered)} rows; {answers.count(LEFT_OUT)} definitions left out")
+    answered = [own for own, answer in zip(definitions.values(), answers) if answer.startswith("answered")]
+    others = [own for own in answered if declared(own)]
+    print(f"{len(answered)} definitions, {sum(map(len, answered))} calls; {answers.count(LEFT_OUT)} definitions left out")
+    print(f"of Hash and Default: {len(others)} definitions, {sum(map(len, others))} calls")
     return 0 if len(answered) + answers.count(LEFT_OUT) == len(answers) else 1
 
 

@@ -7,9 +7,11 @@
 # First the rows with values of five files in crates/educe_vectors_values/src/examples, which rt ci has the evaluator
 # answer: here compiled code answers them. It is each definition without its `educe` attributes, what the built
 # program prints for it, and functions that answer as the rows say. A call that no row names panics. `Ord` and
-# `PartialOrd` ask for other traits, which are added where they are not listed. Rows without an outcome are left
-# out, since such code does not compile or panics; so are rows with a value that no variant has, and definitions
-# that rustc does not take by themselves (two variants of one discriminant).
+# `PartialOrd` ask for other traits, which are added where they are not listed. What `default` makes by an expression
+# of the whole type has to match that expression as a pattern; `new` has to make what the row says of `default`. Each
+# parameter of a definition of `Hash` or `Default` is at its default. Left out are calls whose outcome is `stuck`,
+# calls with a value that no variant has, and definitions that rustc does not take by themselves, since two variants
+# have one discriminant, a discriminant is too large for its type, or its expression has names that nothing declares.
 #
 # Then the enums of enums.py, on all pairs of a few values: the answers are those that the traits mean, by the
 # discriminants that rustc computes.

@@ -1,6 +1,6 @@
 //! Worked examples of default values (documentation of `educe`, Default). `examples/answers.sh` has
-//! compiled code answer the rows with values too, with `N<7>` as a type whose default value is `N(7)`
-//! and `X` as a constant of the value 7.
+//! compiled code answer the rows with values too, with `N<7>` as a type whose default value is `N(7)`,
+//! `X` as a constant of the value 7, and each parameter at its default.
 
 use educe_vectors_runs::check_table;
 use std::test::Fail;
@@ -56,6 +56,14 @@ the function `new` makes what `default` makes
 : default = 0(0)
 : new = whole 4
 
+a type and a constant as parameters
+#[educe(Default(new))] struct S<T = N<3>, const K: i128 = 7> { a: T, b: N<K> }
+: Default 0 -> 3
+: Default 1 -> 7
+: value < Self as :: core :: default :: Default > :: default ( ) -> 4
+: default = 0(3, 7)
+: new = whole 4
+
 without an answer there is no value
 #[educe(Default)] struct S { a: u8 }
 : default = stuck
@@ -92,6 +100,11 @@ the type of a field is that of an earlier variant
 : Default 0 -> 16
 : Default 1 -> 8
 : default = 1(8, 16)
+
+a parameter that the marked variant does not have
+#[educe(Default)] enum E<T = u8, U = &'static u8> { A(U), #[educe(Default)] B(T) }
+: Default 1 -> 0
+: default = 1(0)
 
 an expression of the whole enum
 #[educe(Default(expr = E::A))] enum E { A, B }

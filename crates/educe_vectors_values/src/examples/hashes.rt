@@ -1,5 +1,6 @@
 //! Worked examples of what `Hash` feeds to a hasher (documentation of `educe`, Hash).
-//! `examples/answers.sh` has compiled code answer the rows with values too.
+//! `examples/answers.sh` has compiled code answer the rows with values too, each parameter at
+//! its default.
 
 use educe_vectors_runs::check_table;
 use std::test::Fail;
@@ -48,6 +49,11 @@ a name behind `r#`
 the settings of comparisons say nothing of it
 #[educe(PartialEq, Hash)] struct S { #[educe(PartialEq(ignore))] a: u8, b: u8 }
 : hash 0(1, 2) = [1, 2]
+
+a type and a constant as parameters
+#[educe(Hash)] struct S<T = u16, const K: usize = 3> { a: T, #[educe(Hash(method = twice))] b: u8 }
+: method twice(5) -> [10]
+: hash 0(3, 5) = [3, 10]
 "#;
 
 #[test]
@@ -100,6 +106,11 @@ all fields of a variant are ignored
 two fields of one type feed each its part
 #[educe(Hash)] enum E { A(u8, u8, u8) }
 : hash 0(4, 4, 4) = [0, 4, 4, 4]
+
+a parameter that one variant alone has
+#[educe(Hash)] enum E<T = u16> { A, B(T, #[educe(Hash(ignore))] u8) }
+: hash 0() = [0]
+: hash 1(7, 9) = [1, 7]
 "#;
 
 #[test]
