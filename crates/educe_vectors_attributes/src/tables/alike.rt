@@ -77,65 +77,68 @@ fn debug_anywhere(rt: HostRuntime) -> Result<(), Fail> {
 }
 
 #[test]
-fn traits_at_types(rt: HostRuntime) -> Result<(), Fail> {
+fn clone_copy_and_hash_at_types(rt: HostRuntime) -> Result<(), Fail> {
     let alloc = rt.alloc();
-    let enable_flag = true;
-    let enable_bound = true;
     check_type(
         alloc,
         clone::TypeAttributeBuilder {
-            enable_flag,
-            enable_bound,
+            enable_flag: true,
+            enable_bound: true,
         },
         "Clone",
     )?;
     check_type(
         alloc,
         copy::TypeAttributeBuilder {
-            enable_flag,
-            enable_bound,
+            enable_flag: true,
+            enable_bound: true,
         },
         "Copy()",
     )?;
     check_type(
         alloc,
+        hash::TypeAttributeBuilder {
+            enable_flag: true,
+            enable_bound: true,
+        },
+        "Hash",
+    )
+}
+
+#[test]
+fn comparisons_at_types(rt: HostRuntime) -> Result<(), Fail> {
+    let alloc = rt.alloc();
+    check_type(
+        alloc,
         partial_eq::TypeAttributeBuilder {
-            enable_flag,
-            enable_bound,
+            enable_flag: true,
+            enable_bound: true,
         },
         "PartialEq(bound(*))",
     )?;
     check_type(
         alloc,
         eq::TypeAttributeBuilder {
-            enable_flag,
-            enable_bound,
+            enable_flag: true,
+            enable_bound: true,
         },
         "Eq",
     )?;
     check_type(
         alloc,
         partial_ord::TypeAttributeBuilder {
-            enable_flag,
-            enable_bound,
+            enable_flag: true,
+            enable_bound: true,
         },
         "PartialOrd()",
     )?;
     check_type(
         alloc,
         ord::TypeAttributeBuilder {
-            enable_flag,
-            enable_bound,
+            enable_flag: true,
+            enable_bound: true,
         },
         "Ord(bound = false)",
-    )?;
-    check_type(
-        alloc,
-        hash::TypeAttributeBuilder {
-            enable_flag,
-            enable_bound,
-        },
-        "Hash",
     )
 }
 
