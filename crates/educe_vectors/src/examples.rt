@@ -11,14 +11,17 @@ mod equalities;
 mod evaluations;
 mod expansions;
 mod fields;
+mod handlers;
 mod impls;
 mod inherited;
 mod listings;
 mod names;
 mod phases;
 mod ranks;
+mod readings;
 mod refusals;
 mod selves;
+mod visits;
 
 static EXAMPLES: &str = r##"
 a struct of one field
