@@ -15,7 +15,7 @@ import sys
 from definitions import cases, compiled, expanded, made, plain
 
 # What the methods make of a number.
-METHODS = {"twice": lambda x: 2 * x, "own :: made": lambda x: -x, "source": lambda x: x + 7, "_d_0": lambda x: x + 8, "thrice :: < Self >": lambda x: 3 * x}
+METHODS = {"twice": lambda x: 2 * x, "own :: made": lambda x: -x, "source": lambda x: x + 7, "_d_0": lambda x: x + 8, "thrice ::< Self >": lambda x: 3 * x}
 
 
 def cloned(own):
@@ -39,7 +39,7 @@ pub fn twice(value: &N) -> N { called(::std::format!("twice {}", value.0)); N(2 
 pub mod own { pub fn made(value: &crate::N) -> crate::N { crate::called(::std::format!("own :: made {}", value.0)); crate::N(-value.0) } }
 pub fn source(value: &N) -> N { called(::std::format!("source {}", value.0)); N(value.0 + 7) }
 pub fn _d_0(value: &N) -> N { called(::std::format!("_d_0 {}", value.0)); N(value.0 + 8) }
-pub fn thrice<T>(value: &N) -> N { called(::std::format!("thrice :: < Self > {}", value.0)); N(3 * value.0) }
+pub fn thrice<T>(value: &N) -> N { called(::std::format!("thrice ::< Self > {}", value.0)); N(3 * value.0) }
 type Of<T, U> = <(T, U) as First>::Is; trait First { type Is; } impl<T, U> First for (T, U) { type Is = T; }
 fn taken() -> ::std::string::String { CALLS.with(|calls| ::core::mem::take(&mut *calls.borrow_mut()).join(", ")) }"""
 
@@ -65,7 +65,7 @@ CLONES = [
     ("a parameter", "#[educe(Clone)] struct S<T> { a: T, b: N }", [["", ""]]),
     ("parameters of two kinds, and a where clause", "#[educe(Clone)] struct S<'a, T, U> where T: 'a { a: T, b: U, c: ::core::marker::PhantomData<&'a T> }", [["", "", "phantom"]]),
     ("a method of a field with a parameter", f"#[educe(Clone)] struct S<T: Copy> {{ a: T, {TWICE} b: N }}", [["", "twice"]]),
-    ("`Self` in a method", f"#[educe(Clone)] struct S<T: Copy> {{ a: T, #[educe(Clone(method = thrice::<Self>))] b: N, {TWICE} c: N }}", [["", "thrice :: < Self >", "twice"]]),
+    ("`Self` in a method", f"#[educe(Clone)] struct S<T: Copy> {{ a: T, #[educe(Clone(method = thrice::<Self>))] b: N, {TWICE} c: N }}", [["", "thrice ::< Self >", "twice"]]),
     ("`Self` in the type of a field with a method", f"#[educe(Clone)] struct S<T: Copy>({TWICE} Of<N, Self>, T);", [["twice", ""]]),
     ("bounds that are written", "#[educe(Clone(bound(T: ::core::clone::Clone)))] struct S<T>(T, N);", [["", ""]]),
     ("bounds of every parameter", "#[educe(Clone(bound(*)))] struct S<T>(N, T);", [["", ""]]),
@@ -75,7 +75,7 @@ CLONES = [
     ("one variant", "#[educe(Clone)] enum E { A(N, N) }", [["", ""]]),
     ("each form", "#[educe(Clone)] enum E { A, B(N, N), C { x: N }, D(), F {} }", [[], ["", ""], [""], [], []]),
     ("methods of variants", f"#[educe(Clone)] enum E {{ A({TWICE} N, N), B {{ x: N, {MADE} y: N }}, C }}", [["twice", ""], ["", "own :: made"], []]),
-    ("`Self` in a method of a variant", "#[educe(Clone)] enum E<T> { A(T), B(#[educe(Clone(method = thrice::<Self>))] N, T) }", [[""], ["thrice :: < Self >", ""]]),
+    ("`Self` in a method of a variant", "#[educe(Clone)] enum E<T> { A(T), B(#[educe(Clone(method = thrice::<Self>))] N, T) }", [[""], ["thrice ::< Self >", ""]]),
     ("a method whose name is a variable's", "#[educe(Clone)] enum E { A(#[educe(Clone(method(_d_0)))] N), B(N) }", [["_d_0"], [""]]),
     ("fields that are named as variables are", "#[educe(Clone)] enum E { A { _s_: N, _d_: N, source: N }, B { _s_a: N } }", [["", "", ""], [""]]),
     ("discriminants", "#[educe(Clone)] #[repr(i8)] enum E { A(N) = 7, B = -3, C { x: N } }", [[""], [], [""]]),
