@@ -1,7 +1,8 @@
 //! What handlers ask before they make their items, and their parts for structs and for enums.
-ghost use Rattle.std.specs.Prelude.{◌≡◌, [], IsTrue, IfOk, List};
+ghost use Rattle.std.specs.Prelude.{◌≡◌, [], false, IsTrue, IfOk, List};
 ghost use Rattle.educe_laws.specs.Handlers.{IsReady, Noted};
 ghost use Rattle.educe_laws.specs.Listed as listing;
+ghost use Rattle.educe_laws.specs.Rows.{is_order};
 ghost use Rattle.educe_syntax.specs.Refusal.{IsDefinition};
 ghost use Rattle.educe_syntax.specs.Shape.{Shape};
 
@@ -41,7 +42,8 @@ fn listed_traits(alloc: Global, ast: &DeriveInput) -> Result<Traits, Fail>
 
 /// Whether `clone` copies values as a whole, by what the fields say.
 fn copies_by_fields(alloc: Global, task: Task<'_, '_>) -> Result<bool, Fail>
-    requires { task.listed.now ≡ listing.listed task.ast.now }
+    requires listed { task.listed.now ≡ listing.listed task.ast.now }
+    requires unranked { is_order task.which ≡ false }
 {
     let settings = unstopped(alloc, settings_of_cases(alloc, task))?;
     let has_method = has_custom_method(settings.as_slice());
