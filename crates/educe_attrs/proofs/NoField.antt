@@ -1,4 +1,4 @@
--- Where no form may stand, each meta is refused for its place.
+-- Where no form may stand, each meta is rejected for its place.
 use Rattle.std.proofs.Common.{◌≡◌, true, false, Some, inl, inr, refl, sym, ap, ◌∙◌}
 use Rattle.std.proofs.lemmas.Bool.{false≢true}
 use Rattle.educe_tokens.specs.declared.error.EduceError.{EduceError}

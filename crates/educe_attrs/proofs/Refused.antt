@@ -1,4 +1,4 @@
--- Out of memory is a cause of every refusal; and what stops reading is one.
+-- Out of memory is a cause of every rejection; and what stops reading is one.
 use Rattle.std.proofs.Common.{◌≡◌, subst, sym}
 use Rattle.educe_tokens.specs.declared.error.EduceError.{EduceError}
 use Rattle.educe_tokens.specs.declared.error.Kind.TheVariants.{Alloc}
@@ -13,7 +13,7 @@ use Rattle.educe_attrs_rows.specs.Causes as meta_cause
 use Rattle.educe_attrs_places.specs.Causes.{Cause, OfStop}
 use Rattle.educe_attrs.specs.Building.{OfError, caused, memory}
 
--- a meta may be refused for out of memory
+-- a meta may be rejected for out of memory
 pub memory_of_meta : (row : Row) (meta : Meta) (e : EduceError) → e ≡ placeless Alloc → IsCause row meta e
 memory_of_meta row meta e is = let P : EduceError → Type 0 = λ e. IsCause row meta e in subst P (sym is) meta_cause.memory
 

@@ -19,7 +19,7 @@ SaysAs row IsOf meta attribute = (values : Values) × Says row meta values × Is
 abbrev pub Reads : {A : Type 0} → Row → (FieldSettings → A → Type 0) → Meta → Result A EduceError → Type 0
 Reads row IsOf meta result = MatchResult result (λ attribute. SaysAs row IsOf meta attribute × HasNoCause row meta) (λ e. IsCause row meta e)
 
--- the refusal has the cause, or is for out of memory
+-- the rejection has the cause, or is for out of memory
 pub data OfError (P : Cause) : EduceError → Type 0 where
   caused : {e : EduceError} → P e → OfError P e
   memory : OfError P (placeless Alloc)

@@ -18,7 +18,7 @@ pub use Rattle.educe_attrs_rows.specs.Settings
 pub use Rattle.educe_attrs_rows.specs.Refusals as MetaRefusals
 pub use Rattle.educe_attrs_rows.specs.Causes as Says
 pub use Rattle.educe_attrs_rows.specs.Among
--- The kinds of values: what each reads, and why a value is refused.
+-- The kinds of values: what each reads, and why a value is rejected.
 pub use Rattle.educe_attrs_values.specs.Kinds
 pub use Rattle.educe_attrs_values.specs.Values as Holds
 pub use Rattle.educe_attrs_values.specs.Causes as ValueCauses

@@ -44,7 +44,7 @@ pub trait AttributeBuilder {
     ) -> Result<Self::Attribute, AllocError>
         ensures { IfOk result (IsOf self.now settings) };
 
-    /// What a meta of the trait says of the place. It is refused exactly where it has a cause, or
+    /// What a meta of the trait says of the place. It is rejected exactly where it has a cause, or
     /// memory fails.
     #[tactic(auto, using(crate::proofs::Refused::memory_of_meta))]
     final fn build_from_meta(
@@ -73,7 +73,7 @@ pub trait AttributeBuilder {
 
 /// A builder of what attributes say of a type or a variant.
 pub trait TypeBuilder: AttributeBuilder {
-    /// What the attributes of a type or a variant say of the trait. They are refused exactly where
+    /// What the attributes of a type or a variant say of the trait. They are rejected exactly where
     /// they have a cause, or memory fails.
     #[tactic(auto, using(crate::proofs::Refused::memory_of_place, crate::proofs::Refused::stopped, crate::proofs::Settings::said_as))]
     final fn build_from_attributes(
@@ -116,7 +116,7 @@ pub trait TypeBuilder: AttributeBuilder {
 /// A builder of what attributes say of a field.
 pub trait FieldBuilder: AttributeBuilder {
     /// What the attributes of a field say of the trait; of an order that has none of its own, those
-    /// of the other one, where both are listed. They are refused exactly where they have a cause, or
+    /// of the other one, where both are listed. They are rejected exactly where they have a cause, or
     /// memory fails.
     #[tactic(auto, using(crate::proofs::Refused::memory_of_place, crate::proofs::Refused::stopped, crate::proofs::Settings::field_said_as))]
     final fn build_from_attributes(

@@ -101,7 +101,7 @@ impl AttributeBuilder for FieldAttributeBuilder {
 impl FieldBuilder for FieldAttributeBuilder {}
 
 impl FieldAttributeBuilder {
-    /// Refuses a `Copy` attribute of a field, whatever it says.
+    /// Rejects a `Copy` attribute of a field, whatever it says.
     pub fn build_from_copy_meta(
         &self,
         alloc: Global,

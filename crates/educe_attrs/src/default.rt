@@ -165,7 +165,7 @@ impl FieldAttributeBuilder {
         }
     }
 
-    /// What a `Default` attribute says of a field of the type. It is refused exactly where it has a
+    /// What a `Default` attribute says of a field of the type. It is rejected exactly where it has a
     /// cause, or memory fails.
     #[tactic(auto, using(crate::proofs::Refused::memory_of_meta))]
     pub fn build_from_default_meta(
@@ -183,7 +183,7 @@ impl FieldAttributeBuilder {
         }
     }
 
-    /// What the attributes of a field of the type say of `Default`. They are refused exactly where
+    /// What the attributes of a field of the type say of `Default`. They are rejected exactly where
     /// they have a cause, or memory fails.
     #[tactic(auto, using(crate::proofs::Refused::memory_of_place, crate::proofs::Refused::stopped, crate::proofs::Settings::field_said_as))]
     pub fn build_from_attributes(

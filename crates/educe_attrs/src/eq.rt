@@ -101,7 +101,7 @@ impl AttributeBuilder for FieldAttributeBuilder {
 impl FieldBuilder for FieldAttributeBuilder {}
 
 impl FieldAttributeBuilder {
-    /// Refuses an `Eq` attribute of a field, whatever it says.
+    /// Rejects an `Eq` attribute of a field, whatever it says.
     pub fn build_from_eq_meta(
         &self,
         alloc: Global,

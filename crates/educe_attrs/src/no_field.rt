@@ -13,7 +13,7 @@ use std::alloc::Global;
 #[derive(Clone, Copy)]
 pub struct FieldAttribute;
 
-/// The refusal of a meta of such a field.
+/// The rejection of a meta of such a field.
 #[tactic(auto, using(crate::proofs::NoField::out_of_place, crate::proofs::NoField::never_read))]
 pub(crate) fn refused(alloc: Global, meta: &Meta) -> Result<FieldAttribute, EduceError>
     requires { IsNamed meta.now }

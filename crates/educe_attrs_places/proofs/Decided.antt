@@ -1,4 +1,4 @@
--- What the attributes of a place say is read or refused: no program on them ends out of memory.
+-- What the attributes of a place say is read or rejected: no program on them ends out of memory.
 use Rattle.std.proofs.Common.{◌≡◌, List, [], ◌∷◌, ◌++◌, Bool, true, false, Option, Some, None, Result, Ok, Err, refl}
 use Rattle.std.specs.Prelude.{if◌then◌else◌}
 use Rattle.educe_tokens.specs.declared.error.EduceError.{EduceError}
@@ -40,7 +40,7 @@ use Rattle.educe_attrs_places.specs.Said.{if_listed, listed_metas, said_once, re
 
 -- ---- results
 
--- a value or a refusal
+-- a value or a rejection
 abbrev pub IsDecided : {A : Type 0} → Result A Stop → Type 0
 IsDecided (Ok x) = Unit {0}
 IsDecided (Err Memory) = ⊥

@@ -137,7 +137,7 @@ module _ (which : Trait) (row : Row) (listed : List Trait) (attributes : List At
   field_by e (Ok found) is h = inr (among_cause found (metas_listed listed attributes found is) e h)
   field_by e (Err s) is h = inl (listed_cause listed attributes e (is ∙ ap Err (err_one h)))
 
-  -- a refusal has a cause
+  -- a rejection has a cause
   pub field_cause : (e : EduceError) → read_field which row listed attributes ≡ Err (Refused e) → OfField which row listed attributes e
   unfolding read_field
   field_cause e h = field_by e (listed_metas listed attributes) refl h

@@ -1,4 +1,4 @@
--- What is said at several fields, and that one of them is refused.
+-- What is said at several fields, and that one of them is rejected.
 use Rattle.std.proofs.Common.{◌≡◌, ℕ, zero, suc, ◌<◌, ◌≤◌, List, [], ◌∷◌, ◌++◌, length, get_or, drop, map, sym, subst, ◌∙◌, ap, append-nil, arith}
 use Rattle.std.proofs.lemmas.List.{drop_all}
 use Rattle.educe_bound_traits.specs.declared.traits.Trait.{Trait}
@@ -25,7 +25,7 @@ pub cause_among : (which : Trait) (row : Row) (listed : List Trait) (fields : Li
 cause_among which row listed fields field among Memory cause = tt
 cause_among which row listed fields field among (Refused e) cause = (field, among, cause)
 
--- where none is refused, the settings are what the attributes say
+-- where none is rejected, the settings are what the attributes say
 pub fields_said : (which : Trait) (row : Row) (listed : List Trait) (fields : List Field) → HaveNoCauses which row listed fields
     → AreFieldsSaid which row listed fields (map (settings_at which row listed) fields)
 fields_said which row listed [] none = tt

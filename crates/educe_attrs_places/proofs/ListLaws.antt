@@ -118,7 +118,7 @@ place_read before _ _ (AreMetas.one_more a more front found own rest) =
 pub metas_one : (attributes : List Attribute) (xs ys : List Meta) → AreMetas attributes xs → AreMetas attributes ys → xs ≡ ys
 metas_one attributes xs ys h k = ok_one (sym (place_read [] attributes xs h) ∙ place_read [] attributes ys k)
 
--- a place is refused for one of its attributes
+-- a place is rejected for one of its attributes
 abbrev AttributeErr : List Attribute → EduceError → Type 0
 AttributeErr attributes e = (a : Attribute) × IsAmong a attributes × OwnErr a e
 
@@ -153,7 +153,7 @@ all_are attributes all h = let r = metas_are [] attributes all h in subst (AreMe
 
 -- ---- causes
 
--- an attribute that is refused is a cause
+-- an attribute that is rejected is a cause
 pub lists_cause : (attributes : List Attribute) (e : EduceError) → all_metas [] attributes ≡ Err (Refused e) → IsListCause attributes e
 lists_cause attributes e h =
     let r = attribute_err [] attributes e h in
@@ -175,7 +175,7 @@ own_uncaused a tokens e educe cause some own (AreOwn.educe others _ other whole)
     some (lawful_metas.uncaused (inside tokens) own (subst (λ ts. IsWhole metas (inside ts) own) tokens_one whole) e cause)
 own_uncaused a tokens e educe cause some _ (AreOwn.other none) = none tokens educe
 
--- where the metas of a place are read, no list is refused
+-- where the metas of a place are read, no list is rejected
 pub lists_uncaused : (attributes : List Attribute) (found : List Meta) → AreMetas attributes found → (e : EduceError) → IsListCause attributes e → ⊥
 lists_uncaused attributes found are e c =
     let own = own_of attributes found are c.attribute c.stands in

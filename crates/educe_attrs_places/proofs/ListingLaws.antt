@@ -1,4 +1,4 @@
--- The traits that a type lists, and why its attributes are refused, as they are read.
+-- The traits that a type lists, and why its attributes are rejected, as they are read.
 use Rattle.std.proofs.Common.{◌≡◌, ◌≢◌, ℕ, List, [], ◌∷◌, ◌++◌, refl, sym, subst, ◌∙◌, ap, append_assoc, append-nil, Bool, true, false, ◌||◌, Option, Some, None, Result, Ok, Err, ◌⊎◌, inl, inr}
 use Rattle.std.specs.Prelude.{if◌then◌else◌, IfOk, IfErr}
 use Rattle.std.specs.List.{filter_map, IsDistinct}
@@ -224,9 +224,9 @@ no_reuse ms before r h which later reused =
     in_order reused.between q.next p.here q.back_read ∙ ap (λ xs. xs ++ filter_map trait_of reused.between) first.1 in
     false≢true (sym second.0 ∙ (ap (λ xs. is_listed xs which) all ∙ stands_among q.here (filter_map trait_of reused.between) which))
 
--- ---- all metas, where they are refused
+-- ---- all metas, where they are rejected
 
--- a path is refused: it names no trait, or one that stands there
+-- a path is rejected: it names no trait, or one that stands there
 abbrev NameErr : List Trait → MetaPath → EduceError → Type 0
 NameErr before path e =
     ((trait_named path ≡ None) × (at_name UnsupportedTrait path ≡ e))
@@ -335,7 +335,7 @@ module _ (attributes : List Attribute) where
         let r = list_err attributes e (is ∙ ap Err (err_one h)) in
         inl (subst (IsListingCause attributes) r.2.2 (IsListingCause.format r.0 r.2.0 r.1 r.2.1))
 
-    -- a refusal has a cause
+    -- a rejection has a cause
     pub listing_cause : (e : EduceError) → read_listing attributes end ≡ Err (Refused e) → OfListing attributes end e
     unfolding read_listing
     listing_cause e h = lists_err e (checked_lists attributes) refl h

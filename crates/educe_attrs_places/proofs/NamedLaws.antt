@@ -26,7 +26,7 @@ use Rattle.educe_attrs_rows.proofs.Among.{among_none, among_first, among_more, a
 use Rattle.educe_attrs_rows.proofs.Chained.{chained, refused_one}
 
 module _ (listed : List Trait) where
-  -- why the name of a trait is refused
+  -- why the name of a trait is rejected
   abbrev NameErr : MetaPath → EduceError → Type 0
   NameErr path e =
       ((trait_named path ≡ None) × (at_name UnsupportedTrait path ≡ e))
@@ -114,7 +114,7 @@ module _ (listed : List Trait) where
 
   -- ---- causes
 
-  -- a meta of the place that is refused is a cause
+  -- a meta of the place that is rejected is a cause
   pub names_cause : (attributes : List Attribute) (found : List Meta) → AreMetas attributes found → (e : EduceError) → all_checked listed found ≡ Err (Refused e) → IsPlaceCause listed attributes e
   names_cause attributes found are e h =
       let r = checks_err found e h in

@@ -31,7 +31,7 @@ module _ (which : Trait) (row : Row) (listed : List Trait) (attributes : List At
       inr (said_listed listed attributes found l which row e cause, cause)
   place_by e (Err s) is h = inl (listed_cause listed attributes e (is ∙ ap Err (err_one h)))
 
-  -- a refusal has a cause
+  -- a rejection has a cause
   pub place_cause : (e : EduceError) → read_place which row listed attributes ≡ Err (Refused e) → OfPlace which row listed attributes e
   unfolding read_place
   place_cause e h = place_by e (listed_metas listed attributes) refl h

@@ -1,4 +1,4 @@
--- What the metas of a place say of a trait, and why they are refused, as they are read.
+-- What the metas of a place say of a trait, and why they are rejected, as they are read.
 use Rattle.std.proofs.Common.{◌≡◌, List, [], ◌∷◌, ◌++◌, refl, sym, subst, ◌∙◌, ap, Bool, true, false, Option, Some, None, Result, Ok, Err, ◌⊎◌, inl, inr}
 use Rattle.std.specs.Prelude.{if◌then◌else◌}
 use Rattle.std.proofs.lemmas.Bool.{false≢true}
@@ -249,7 +249,7 @@ module _ (listed : List Trait) (attributes : List Attribute) where
   pub listed_uncaused : (found : List Meta) → AreListed found → (e : EduceError) → IsPlaceCause listed attributes e → ⊥
   listed_uncaused found l e cause = no_place_cause listed attributes found l.are l.checked_as l.checked e cause
 
-  -- where what they say of a trait is refused, it is listed
+  -- where what they say of a trait is rejected, it is listed
   pub said_listed : (found : List Meta) → AreListed found → (which : Trait) (row : Row) (e : EduceError) → IsSaidCause which row attributes e → is_listed listed which ≡ true
   said_listed found l which row e (IsSaidCause.reuse others later path are reused path_is) =
       let among : IsAmong later others = record { front = reused.front ++ reused.earlier ∷ reused.between; back = reused.rest; is = reused.is } in

@@ -17,10 +17,10 @@ settings_at which row listed field = field_settings which row listed field.attrs
 abbrev pub AreFieldsSaid : Trait → Row → List Trait → List Field → List FieldSettings → Type 0
 AreFieldsSaid which row listed fields all = AllZip (λ (field : Field) settings. IsFieldSaid which row listed field.attrs settings) fields all
 
--- one of the fields is refused for this
+-- one of the fields is rejected for this
 abbrev pub OfFields : Trait → Row → List Trait → List Field → Cause
 OfFields which row listed fields = λ e. (field : Field) × IsAmong field fields × OfField which row listed field.attrs e
 
--- none is refused for any cause
+-- none is rejected for any cause
 abbrev pub HaveNoCauses : Trait → Row → List Trait → List Field → Type 0
 HaveNoCauses which row listed fields = AllByRecursion (λ (field : Field). NoCause (OfField which row listed field.attrs)) fields

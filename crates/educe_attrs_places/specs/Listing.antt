@@ -1,4 +1,4 @@
--- The traits that the attributes of a type list, and why they are refused.
+-- The traits that the attributes of a type list, and why they are rejected.
 use Rattle.std.specs.Prelude.{◌≡◌, ◌≢◌, ℕ, true, if◌then◌else◌, List, [], ◌∷◌, ◌++◌, codes, chars, Option, Some, None, Result, Ok, Err, ◌⊎◌}
 use Rattle.std.specs.List.{filter_map, IsDistinct}
 use Rattle.std.specs.Result.{result_unwrap_or}
@@ -24,7 +24,7 @@ use Rattle.educe_attrs_places.specs.Causes.{Cause, NoCause}
 use Rattle.educe_attrs_places.specs.Lists.{is_educe, all_metas, AreMetas, IsNameIn, IsListCause}
 use Rattle.educe_attrs_places.specs.Named.{trait_of, IsReused}
 
--- ---- refusals
+-- ---- rejections
 
 -- an `educe` attribute of a type is no list: the words are `educe` and the form that it has to have
 abbrev pub format_incorrect : MetaPath → EduceError
@@ -100,7 +100,7 @@ pub record IsListing (attributes : List Attribute) (traits : List Trait) : Type 
   pub once : IsDistinct same_trait traits
   pub some_listed : traits ≢ []
 
--- ---- why they are refused
+-- ---- why they are rejected
 
 -- the attribute is `educe` with this path, and no list
 pub data IsBareEduce (path : MetaPath) : Meta → Type 0 where
@@ -108,7 +108,7 @@ pub data IsBareEduce (path : MetaPath) : Meta → Type 0 where
   name_value : (value : Expr) (place : Span) → is_educe path ≡ true → IsBareEduce path (said.NameValue path value place)
   unread : (tokens : Written) (place : Span) → is_educe path ≡ true → IsBareEduce path (said.Unread path tokens place)
 
--- why what a type lists is refused: an `educe` attribute is no list, or no list of metas; a meta is of no trait; or a trait is
+-- why what a type lists is rejected: an `educe` attribute is no list, or no list of metas; a meta is of no trait; or a trait is
 -- listed twice
 pub data IsListingCause (attributes : List Attribute) : EduceError → Type 0 where
   format : (a : Attribute) (path : MetaPath) → IsAmong a attributes → IsBareEduce path a.meta → IsListingCause attributes (format_incorrect path)
@@ -124,6 +124,6 @@ pub record IsNotSetUp (attributes : List Attribute) : Type 0 where
   pub none_listed : filter_map trait_of found ≡ []
   pub no_other : NoCause (IsListingCause attributes)
 
--- why the attributes of a type are refused in a source that ends there
+-- why the attributes of a type are rejected in a source that ends there
 abbrev pub OfListing : List Attribute → ℕ → Cause
 OfListing attributes end = λ e. IsListingCause attributes e ⊎ (IsNotSetUp attributes × (e ≡ not_set_up end))

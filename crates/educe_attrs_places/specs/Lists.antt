@@ -71,7 +71,7 @@ pub record IsNameIn (attributes : List Attribute) (path : MetaPath) : Type 0 whe
   pub named : IsNamed meta
   pub path_is : path_of meta ≡ Some path
 
--- one of the lists is refused for this, since it is no list of metas
+-- one of the lists is rejected for this, since it is no list of metas
 pub record IsListCause (attributes : List Attribute) (e : EduceError) : Type 0 where
   pub attribute : Attribute
   pub tokens : List Token

@@ -40,7 +40,7 @@ pub record IsReused (which : Trait) (found : List Meta) (later : Meta) : Type 0 
 
 -- ---- whether they are listed
 
--- the refusal at the name of a meta, if it is none of these traits
+-- the rejection at the name of a meta, if it is none of these traits
 abbrev pub unless_listed : List Trait → MetaPath → Option Trait → Result (Unit {0}) Stop
 unless_listed listed path None = Err (Refused (at_name UnsupportedTrait path))
 unless_listed listed path (Some which) = if is_listed listed which then Ok tt else Err (Refused (at_name TraitNotUsed path))

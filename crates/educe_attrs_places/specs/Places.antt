@@ -1,4 +1,4 @@
--- The settings of a trait at a place, and why its attributes are refused.
+-- The settings of a trait at a place, and why its attributes are rejected.
 use Rattle.std.specs.Prelude.{◌≡◌, true, false, ◌&&◌, if◌then◌else◌, is_some, List, Option, Some, None, Result, Ok, ◌⊎◌}
 use Rattle.std.specs.Result.{result_unwrap_or}
 use Rattle.educe_tokens.specs.declared.error.EduceError.{EduceError}
@@ -26,7 +26,7 @@ or_nothing (Some values) = values
 unfoldable pub read_place : Trait → Row → List Trait → List Attribute → Result Values Stop
 read_place which row listed attributes = and_then (λ found. map_ok or_nothing (read_one which row found None)) (listed_metas listed attributes)
 
--- the settings of a trait at a type or a variant; where the attributes are refused, none
+-- the settings of a trait at a type or a variant; where the attributes are rejected, none
 unfoldable pub place_settings : Trait → Row → List Trait → List Attribute → Values
 place_settings which row listed attributes = result_unwrap_or (read_place which row listed attributes) no_values
 
@@ -35,7 +35,7 @@ pub data IsSaid (which : Trait) (row : Row) (attributes : List Attribute) : Valu
   by_meta : (values : Values) → SaysThere which row attributes values → IsSaid which row attributes values
   by_none : IsUnsaid which attributes → IsSaid which row attributes no_values
 
--- why the attributes of a type or a variant are refused for a trait: for its lists, whatever the trait; or, where the trait is
+-- why the attributes of a type or a variant are rejected for a trait: for its lists, whatever the trait; or, where the trait is
 -- listed, for what they say of it
 abbrev pub OfPlace : Trait → Row → List Trait → List Attribute → Cause
 OfPlace which row listed attributes = λ e. IsPlaceCause listed attributes e ⊎ ((is_listed listed which ≡ true) × IsSaidCause which row attributes e)
@@ -86,7 +86,7 @@ read_among which row listed found = and_then (or_other which row listed found) (
 unfoldable pub read_field : Trait → Row → List Trait → List Attribute → Result FieldSettings Stop
 read_field which row listed attributes = and_then (read_among which row listed) (listed_metas listed attributes)
 
--- the settings of a trait at a field; where the attributes are refused, none
+-- the settings of a trait at a field; where the attributes are rejected, none
 unfoldable pub field_settings : Trait → Row → List Trait → List Attribute → FieldSettings
 field_settings which row listed attributes = result_unwrap_or (read_field which row listed attributes) (own_settings no_values)
 
@@ -99,13 +99,13 @@ pub data IsFieldSaid (which : Trait) (row : Row) (listed : List Trait) (attribut
   none_said : IsUnsaid which attributes → ((other : Trait) → fallback which listed ≡ Some other → IsUnsaid other attributes)
       → IsFieldSaid which row listed attributes (own_settings no_values)
 
--- why what the attributes of a field say of a trait is refused: for its own metas, where it is listed; or, where there is none,
+-- why what the attributes of a field say of a trait is rejected: for its own metas, where it is listed; or, where there is none,
 -- for those of the other order, where both are listed
 pub data IsFieldCause (which : Trait) (row : Row) (listed : List Trait) (attributes : List Attribute) : EduceError → Type 0 where
   own_meta : {e : EduceError} → is_listed listed which ≡ true → IsSaidCause which row attributes e → IsFieldCause which row listed attributes e
   other_meta : {e : EduceError} (other : Trait) → fallback which listed ≡ Some other → IsUnsaid which attributes → IsSaidCause other row attributes e
       → IsFieldCause which row listed attributes e
 
--- why the attributes of a field are refused for a trait
+-- why the attributes of a field are rejected for a trait
 abbrev pub OfField : Trait → Row → List Trait → List Attribute → Cause
 OfField which row listed attributes = λ e. IsPlaceCause listed attributes e ⊎ IsFieldCause which row listed attributes e

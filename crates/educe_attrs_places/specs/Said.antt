@@ -1,4 +1,4 @@
--- What the metas of a place say of a trait, and why they are refused.
+-- What the metas of a place say of a trait, and why they are rejected.
 use Rattle.std.specs.Prelude.{◌≡◌, true, false, if◌then◌else◌, List, [], ◌∷◌, Option, Some, None, Result, Ok, Err}
 use Rattle.educe_tokens.specs.declared.error.EduceError.{EduceError}
 use Rattle.educe_tokens.specs.declared.error.Kind.TheVariants.{UnsupportedTrait, ReuseATrait, TraitNotUsed}
@@ -31,7 +31,7 @@ if_listed listed found = map_ok (λ _. found) (all_checked listed found)
 abbrev pub listed_metas : List Trait → List Attribute → Result (List Meta) Stop
 listed_metas listed attributes = and_then (if_listed listed) (all_metas [] attributes)
 
--- a second meta of a trait is refused at its name
+-- a second meta of a trait is rejected at its name
 abbrev pub refused_again : Option MetaPath → Result (Option Values) Stop
 refused_again None = Err Memory
 refused_again (Some path) = Err (Refused (at_name ReuseATrait path))
@@ -64,9 +64,9 @@ pub record SaysThere (which : Trait) (row : Row) (attributes : List Attribute) (
   pub of : is_of which meta ≡ true
   pub says : Says row meta values
 
--- ---- why they are refused
+-- ---- why they are rejected
 
--- why the `educe` lists of a place are refused, whatever the trait: one is no list of metas; one has a meta that is of no
+-- why the `educe` lists of a place are rejected, whatever the trait: one is no list of metas; one has a meta that is of no
 -- trait, or of one that is not listed
 pub data IsPlaceCause (listed : List Trait) (attributes : List Attribute) : EduceError → Type 0 where
   list : {e : EduceError} → IsListCause attributes e → IsPlaceCause listed attributes e
@@ -74,7 +74,7 @@ pub data IsPlaceCause (listed : List Trait) (attributes : List Attribute) : Educ
   not_used : (path : MetaPath) (which : Trait) → IsNameIn attributes path → trait_named path ≡ Some which → is_listed listed which ≡ false
       → IsPlaceCause listed attributes (at_name TraitNotUsed path)
 
--- why what they say of a trait is refused: it is said twice; or a meta of it is refused
+-- why what they say of a trait is rejected: it is said twice; or a meta of it is rejected
 pub data IsSaidCause (which : Trait) (row : Row) (attributes : List Attribute) : EduceError → Type 0 where
   reuse : (found : List Meta) (later : Meta) (path : MetaPath) → AreMetas attributes found → IsReused which found later → path_of later ≡ Some path
       → IsSaidCause which row attributes (at_name ReuseATrait path)

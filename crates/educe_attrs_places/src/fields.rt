@@ -11,7 +11,7 @@ use educe_syntax::Field;
 use educe_tokens::Seq;
 use std::alloc::Global;
 
-/// The settings of a trait at each of the fields, by one row, in their order. They are refused
+/// The settings of a trait at each of the fields, by one row, in their order. They are rejected
 /// exactly where the attributes of one of them have a cause, or memory fails.
 pub fn settings_of_fields(
     alloc: Global,

@@ -25,7 +25,7 @@ fn format_incorrect(alloc: Global, path: &MetaPath) -> Result<EduceError, AllocE
     })
 }
 
-/// That the path of an attribute without a list is not `educe`, or its refusal.
+/// That the path of an attribute without a list is not `educe`, or its rejection.
 fn check_other(alloc: Global, path: &MetaPath) -> Result<(), Stop>
     ensures { Gives Stop.Memory (spec.checked_other path.now) result }
 {
@@ -36,7 +36,7 @@ fn check_other(alloc: Global, path: &MetaPath) -> Result<(), Stop>
     }
 }
 
-/// That an attribute that is `educe` is a list, or its refusal.
+/// That an attribute that is `educe` is a list, or its rejection.
 fn check_list(alloc: Global, meta: &Meta) -> Result<(), Stop>
     ensures { Gives Stop.Memory (spec.checked_list meta.now) result }
 {
@@ -121,7 +121,7 @@ fn read_listing(alloc: Global, attributes: &[Attribute], end: u32) -> Result<Tra
 }
 
 /// The traits that the attributes of a type list, as they are written (documentation of `educe`,
-/// Traits). `end` is the end of the last token of the source. The attributes are refused exactly
+/// Traits). `end` is the end of the last token of the source. The attributes are rejected exactly
 /// where they have a cause, or memory fails.
 pub fn type_listing(alloc: Global, attributes: &[Attribute], end: u32) -> Result<Traits, Stop>
     ensures listed { IfOk result (λ traits. traits ≡ spec.listed_traits attributes.now) }

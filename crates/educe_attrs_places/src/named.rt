@@ -32,7 +32,7 @@ pub fn is_of(which: Trait, meta: &Meta) -> bool
     }
 }
 
-/// That the path names a listed trait, or its refusal.
+/// That the path names a listed trait, or its rejection.
 fn check_path(alloc: Global, listed: &[Trait], path: &MetaPath) -> Result<(), Stop>
     ensures { Gives Stop.Memory (spec.checked_path listed.now path.now) result }
 {

@@ -50,7 +50,7 @@ fn read_place(
 }
 
 /// The settings of a trait at a type or a variant, by the row of its place (documentation of `educe`,
-/// Traits). The attributes are refused exactly where they have a cause, or memory fails.
+/// Traits). The attributes are rejected exactly where they have a cause, or memory fails.
 pub fn place_settings(
     alloc: Global,
     which: Trait,
@@ -161,7 +161,7 @@ fn read_field(
 
 /// The settings of a trait at a field, by the row of its place: an order that has no attribute of its
 /// own takes those of the other one, where both are listed (documentation of `educe`, Ord). The
-/// attributes are refused exactly where they have a cause, or memory fails.
+/// attributes are rejected exactly where they have a cause, or memory fails.
 pub fn field_settings(
     alloc: Global,
     which: Trait,

@@ -26,6 +26,6 @@ pub mapped_same : {A E : Type 0} (r : Result A E) → map_ok (λ (x : A). x) r �
 mapped_same (Ok x) = refl
 mapped_same (Err e) = refl
 
--- one refusal
+-- one rejection
 pub refused_one : {A : Type 0} {d e : EduceError} → ◌≡◌ {A = Result A Stop} (Err (Refused d)) (Err (Refused e)) → d ≡ e
 refused_one {d = d} {e = e} h = let same : Refused d ≡ Refused e = err_one h in cc

@@ -1,4 +1,4 @@
--- The metas in a bracket pair: the program reads what the rule says, and refuses for its causes.
+-- The metas in a bracket pair: the program reads what the rule says, and rejects for its causes.
 use Rattle.std.proofs.Common.{◌≡◌, List, refl, ◌∙◌, ap, Result, Ok, Err}
 use Rattle.std.specs.Prelude.{◌≢◌, IfOk}
 use Rattle.std.specs.List.{AllByRecursion}
@@ -57,6 +57,6 @@ metas_read tokens found h = whole_read (inside tokens) found h
 pub metas_back : (tokens : List Token) (found : List Meta) → IsWhole metas (inside tokens) found → metas_in tokens ≡ Ok found
 metas_back tokens found whole = whole_found (inside tokens) found whole
 
--- a refusal is one of the parser's
+-- a rejection is one of the parser's
 pub metas_refused : (tokens : List Token) (e : EduceError) → metas_in tokens ≡ Err (Refused e) → IsParseCause metas (inside tokens) e × (e.kind ≢ Alloc)
 metas_refused tokens e h = parsed_cause lawful_metas (inside tokens) e (refused_by (inside tokens) e (parsed lawful_metas (inside tokens)) refl h)

@@ -1,4 +1,4 @@
--- What an attribute says, and why it is refused: by the program of a row.
+-- What an attribute says, and why it is rejected: by the program of a row.
 use Rattle.std.proofs.Common.{◌≡◌, List, [], ◌∷◌, ◌++◌, refl, sym, subst, ◌∙◌, ap, Bool, true, false, Option, Some, None, Result, Ok, Err, ◌⊎◌, inl, inr}
 use Rattle.std.specs.Prelude.{◌≢◌, if◌then◌else◌}
 use Rattle.std.proofs.lemmas.Bool.{false≢true}
@@ -85,7 +85,7 @@ module _ (row : Row) where
   list_reads : (name : MetaPath) (tokens : List Token) (place : Span) (params : List Meta) → IsWhole metas (inside tokens) params → read_list row name tokens place ≡ read_metas row name place params
   list_reads name tokens place params h = ap (and_then (read_metas row name place)) (metas_back tokens params h)
 
-  -- why a list is refused
+  -- why a list is rejected
   abbrev ListErr : MetaPath → List Token → Span → EduceError → Type 0
   ListErr name tokens place e =
       ((params : List Meta) × IsWhole metas (inside tokens) params × (read_metas row name place params ≡ Err (Refused e)))
@@ -153,7 +153,7 @@ module _ (row : Row) where
   meta_says (said.Doc t) v h = absurd (cc)
   meta_says (said.Unread path tokens place) v h = absurd (cc)
 
-  -- ---- why it is refused
+  -- ---- why it is rejected
 
   -- the cause of a list is one of its meta
   from_list : (name : MetaPath) (meta : Meta) (place : Span) (params : List Meta) (e : EduceError) → is_empty row ≡ false → Lists meta params → ListCause row name params (values_at place) e
@@ -189,7 +189,7 @@ module _ (row : Row) where
     | inr form ↦ inner form.0 form.1
   ]
 
-  -- a refusal has a cause
+  -- a rejection has a cause
   pub meta_cause : (meta : Meta) (e : EduceError) → read_meta row meta ≡ Err (Refused e) → IsOwnCause row meta e
   meta_cause (said.Word path) e h = (
     path,

@@ -174,7 +174,7 @@ module _ (row : Row) where
       let r = mapped (given_as row p m) (value_of (kind_of row p) path m) x h in
       record { value = r.0; holds = (lawful_kind (kind_of row p)).holds path m r.0 r.1; is = sym r.2 }
 
-  -- it is refused for the value
+  -- it is rejected for the value
   give_cause : (p : Param) (path : MetaPath) (m : Meta) (e : EduceError) → give row p path m ≡ Err (Refused e) → IsValueCause (kind_of row p) path m e
   give_cause p path m e h = (lawful_kind (kind_of row p)).cause path m e (mapped_err (given_as row p m) (value_of (kind_of row p) path m) (Refused e) h)
 
@@ -385,7 +385,7 @@ module _ (row : Row) (name : MetaPath) where
     | inr found ↦ subst (IsGiven row p ms) (sym found.1) (found.2, found.3, found.4, found.5)
   ]
 
-  -- ---- why a list is refused
+  -- ---- why a list is rejected
 
   pub data ListCause (ms : List Meta) (v : Values) : EduceError → Type 0 where
     unknown : (m : Meta) → IsAmong m ms → param_in row m ≡ None → ListCause ms v (incorrect_format row name)
@@ -422,6 +422,6 @@ module _ (row : Row) (name : MetaPath) where
   params_err [] v e h = absurd (cc)
   params_err (m ∷ ms) v e h = params_err_by m ms v e (next_param row name m v) refl h (λ u k. params_err ms u e k)
 
-  -- a list that is refused has a cause
+  -- a list that is rejected has a cause
   pub list_cause : (ms : List Meta) (v : Values) (e : EduceError) → read_params row name ms v ≡ Err (Refused e) → ListCause ms v e
   list_cause ms v e h = params_err ms v e h

@@ -1,4 +1,4 @@
--- What an attribute says, and why it is refused.
+-- What an attribute says, and why it is rejected.
 use Rattle.std.specs.Prelude.{◌≡◌, ◌≢◌, Bool, true, false, List, [], ◌∷◌, ◌++◌, Option, Some, None, option_and_then}
 use Rattle.educe_tokens.specs.declared.error.EduceError.{EduceError}
 use Rattle.educe_tokens.specs.declared.error.Kind.TheVariants.{Alloc}
@@ -84,7 +84,7 @@ pub data Says (row : Row) : Meta → Values → Type 0 where
   params : (path : MetaPath) (tokens : Written) (place : Span) (found : List Meta) (values : Values) → IsWhole metas (inside tokens.tokens) found
       → AreGiven row found values → values.span ≡ place → Says row (said.List path tokens place) values
 
--- ---- why it is refused
+-- ---- why it is rejected
 
 -- the form is none of the row: the trait alone, or an empty list; or a parameter
 pub data HasWrongForm (row : Row) : Meta → Type 0 where
@@ -100,7 +100,7 @@ HasValue (said.NameValue path value place) = Unit {0}
 HasValue (said.Doc t) = ⊥
 HasValue (said.Unread path tokens place) = ⊥
 
--- the parser refuses what stands in its brackets so
+-- the parser rejects what stands in its brackets so
 abbrev pub IsListCause : Meta → EduceError → Type 0
 IsListCause (said.Word path) e = ⊥
 IsListCause (said.List path tokens place) e = IsParseCause metas (inside tokens.tokens) e × (e.kind ≢ Alloc)
@@ -108,7 +108,7 @@ IsListCause (said.NameValue path value place) e = ⊥
 IsListCause (said.Doc t) e = ⊥
 IsListCause (said.Unread path tokens place) e = ⊥
 
--- Why a meta of the trait that is named so is refused, by the row of its place.
+-- Why a meta of the trait that is named so is rejected, by the row of its place.
 pub data IsMetaCause (row : Row) (name : MetaPath) (meta : Meta) : EduceError → Type 0 where
   place : is_empty row ≡ true → IsMetaCause row name meta (incorrect_place name)
   format : is_empty row ≡ false → HasWrongForm row meta → IsMetaCause row name meta (incorrect_format row name)
@@ -124,7 +124,7 @@ pub data IsMetaCause (row : Row) (name : MetaPath) (meta : Meta) : EduceError �
 abbrev pub IsOwnCause : Row → Meta → EduceError → Type 0
 IsOwnCause row meta e = (name : MetaPath) × (path_of meta ≡ Some name) × IsMetaCause row name meta e
 
--- Why a meta is refused, by the row of its place. Any may be refused for out of memory.
+-- Why a meta is rejected, by the row of its place. Any may be rejected for out of memory.
 pub data IsCause (row : Row) (meta : Meta) : EduceError → Type 0 where
   own : {e : EduceError} → IsOwnCause row meta e → IsCause row meta e
   memory : IsCause row meta (placeless Alloc)

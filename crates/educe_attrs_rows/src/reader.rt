@@ -150,7 +150,7 @@ pub fn read_form(alloc: Global, row: &Row, meta: &Meta) -> Result<Values, Stop>
     }
 }
 
-/// What an attribute says, by the row of its place. It is refused exactly where it has a cause, or
+/// What an attribute says, by the row of its place. It is rejected exactly where it has a cause, or
 /// memory fails.
 pub fn read_meta(alloc: Global, row: &Row, meta: &Meta) -> Result<Values, EduceError>
     requires { IsNamed meta.now }

@@ -112,7 +112,7 @@ module _ (tokens : List Token) where
   metas_within pair within found whole =
       each_into (IsMetaPlaced (inside pair)) (IsMetaPlaced tokens) (meta_within (inside pair) (inside_within pair within)) found (lawful_places.metas (inside pair) found whole)
 
-  -- a pair whose tokens are no metas is refused at a boundary
+  -- a pair whose tokens are no metas is rejected at a boundary
   pub pair_placed : (pair : List Token) → AreWithin tokens pair → (e : EduceError) → IsParseCause metas (inside pair) e → Starts e.span
   pair_placed pair within e cause = elim (lawful_metas.reported (inside pair) e cause).place [
     | inl is ↦ place_boundary (inside pair) (inside_within pair within) e.span is
@@ -155,7 +155,7 @@ module _ (tokens : List Token) where
   else_within others [] first second = first
   else_within others (t ∷ ts) first second = second
 
-  -- and the place at which it is refused starts at a boundary
+  -- and the place at which it is rejected starts at a boundary
   pub value_boundary : (m : Meta) → IsMetaPlaced tokens m → Starts (value_place m)
   value_boundary (said.Word path) placed = IsBoundary.beginning
   value_boundary (said.List path group place) placed =

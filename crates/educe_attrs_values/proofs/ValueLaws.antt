@@ -1,4 +1,4 @@
--- What a parameter says, and why its value is refused.
+-- What a parameter says, and why its value is rejected.
 use Rattle.std.proofs.Common.{◌≡◌, ℕ, Bool, true, false, IsTrue, List, [], ◌∷◌, refl, sym, subst, ◌∙◌, ap, Option, Some, None, Result, Ok, Err}
 use Rattle.std.specs.Prelude.{◌&&◌, ◌||◌, if◌then◌else◌, is_some}
 use Rattle.std.proofs.lemmas.Bool.{and_parts, and_from, false≢true}
@@ -292,7 +292,7 @@ module _ (k : ValueKind) (path : MetaPath) where
     value_stopped : (st : Stop) → value_of k path meta ≡ Err st → IsStopped st
     value_stopped st h = err_by (value_source meta) refl st h
 
-    -- a refusal has a cause
+    -- a rejection has a cause
     pub value_cause : (e : EduceError) → value_of k path meta ≡ Err (Refused e) → IsValueCause k path meta e
     value_cause e h = value_stopped (Refused e) h
 

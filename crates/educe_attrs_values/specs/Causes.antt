@@ -1,4 +1,4 @@
--- Why the value of a parameter is refused.
+-- Why the value of a parameter is rejected.
 use Rattle.std.specs.Prelude.{◌≡◌, ℕ, ◌<◌, ◌≤◌, IsTrue, List, [], ◌∷◌, ◌++◌, length, encode_utf8_all, Some, None}
 use Rattle.educe_tokens.specs.declared.error.EduceError.{EduceError}
 use Rattle.educe_tokens.specs.declared.error.Kind.TheVariants.{TooDeep, NotCarried, Alloc}
@@ -48,7 +48,7 @@ pub record IsUncarried (text : List ℕ) (e : EduceError) : Type 0 where
 abbrev pub IsCarried : ValueKind → Source → Type 0
 IsCarried k s = (text : List ℕ) (e : EduceError) → IsOpened k s text → IsUncarried text e → ⊥
 
--- Why the value of a parameter is refused: it is missing; or it is none of the kind, and no literal is to blame; or it is
+-- Why the value of a parameter is rejected: it is missing; or it is none of the kind, and no literal is to blame; or it is
 -- none, and more openers count at a token of it, or of the text that is read for it, than the limit allows; or that text
 -- has a literal that is not supported.
 pub data IsValueCause (k : ValueKind) (path : MetaPath) (meta : Meta) : EduceError → Type 0 where
@@ -62,7 +62,7 @@ pub data IsValueCause (k : ValueKind) (path : MetaPath) (meta : Meta) : EduceErr
 
 -- ---- of a meta alone
 
--- why a call that reads a meta as a value of the kind refuses it
+-- why a call that reads a meta as a value of the kind rejects it
 pub data IsReaderCause (k : ValueKind) (meta : Meta) : EduceError → Type 0 where
   value : (path : MetaPath) (e : EduceError) → path_of meta ≡ Some path → IsValueCause k path meta e → IsReaderCause k meta e
   memory : IsReaderCause k meta (placeless Alloc)

@@ -16,7 +16,7 @@ pub record ValueLaws (k : ValueKind) : Type 0 where
   pub holds : (path : MetaPath) (meta : Meta) (v : ValueOf k) → value_of k path meta ≡ Ok v → Holds k meta v
   -- what it says is read
   pub back : (path : MetaPath) (meta : Meta) (v : ValueOf k) → Holds k meta v → value_of k path meta ≡ Ok v
-  -- a refusal has a cause
+  -- a rejection has a cause
   pub cause : (path : MetaPath) (meta : Meta) (e : EduceError) → value_of k path meta ≡ Err (Refused e) → IsValueCause k path meta e
   -- with a cause the parameter says nothing
   pub excludes : (path : MetaPath) (meta : Meta) (e : EduceError) → IsValueCause k path meta e → (v : ValueOf k) → Holds k meta v → ⊥

@@ -140,7 +140,7 @@ reading kind.Bound s = bound_in s
 
 -- ---- what a parameter says
 
--- what was read as a value of the kind at this place, or its refusal
+-- what was read as a value of the kind at this place, or its rejection
 abbrev pub or_refused : {A : Type 0} → ValueKind → MetaPath → Span → Result A Fault → Result A Stop
 or_refused k path place (Ok x) = Ok x
 or_refused k path place (Err fault.Wrong) = Err (Refused (wrong k path place))

@@ -1,4 +1,4 @@
--- The refusals of metas, with their places and words.
+-- The rejections of metas, with their places and words.
 use Rattle.std.specs.Prelude.{ℕ, List, [], ◌∷◌, chars, encode_utf8_all}
 use Rattle.educe_tokens.specs.declared.error.EduceError.{EduceError}
 use Rattle.educe_tokens.specs.declared.error.Kind.{Kind}
@@ -35,7 +35,7 @@ wrong k path place = expected place (chars (wrong_text k (encode_utf8_all (text_
 abbrev pub not_carried : Span → List (List ℕ) → EduceError
 not_carried place words = refusal NotCarried place words
 
--- the refusal, or the error for out of memory
+-- the rejection, or the error for out of memory
 abbrev pub error_of : Stop → EduceError
 error_of Memory = placeless Alloc
 error_of (Refused e) = e

@@ -24,11 +24,11 @@ abbrev pub or_else : List Token → List Token → List Token
 or_else others [] = others
 or_else others (t ∷ ts) = t ∷ ts
 
--- the tokens at which a wrong value in brackets is refused: its own, or the empty brackets
+-- the tokens at which a wrong value in brackets is rejected: its own, or the empty brackets
 abbrev pub shown : List Token → List Token
 shown tokens = or_else tokens (inside tokens)
 
--- the place at which a wrong value is refused
+-- the place at which a wrong value is rejected
 abbrev pub value_place : Meta → Span
 value_place (said.Word path) = record { start = 0; end = 0 }
 value_place (said.List path tokens place) = place_of (shown tokens.tokens)

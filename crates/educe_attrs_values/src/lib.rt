@@ -1,5 +1,5 @@
 //! The values that parameters of `educe` attributes have: what the tokens behind `=` or in brackets
-//! are as a value of a kind, and why a value is refused (documentation of `educe`, Traits).
+//! are as a value of a kind, and why a value is rejected (documentation of `educe`, Traits).
 #![tactic(auto)]
 
 mod choices;

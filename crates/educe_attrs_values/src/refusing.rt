@@ -1,4 +1,4 @@
-//! The refusals of metas, with their places and words.
+//! The rejections of metas, with their places and words.
 ghost use Rattle.std.specs.Prelude.{◌≡◌, IfOk, chars};
 ghost use Rattle.educe_attrs_values.specs.Refusals as spec;
 
@@ -9,7 +9,7 @@ use educe_syntax::MetaPath;
 use educe_tokens::{EduceError, Kind, Span, Spelling, Texts};
 use std::alloc::{AllocError, Global};
 
-/// The refusal at the name of a meta, which is its word.
+/// The rejection at the name of a meta, which is its word.
 pub fn at_name(alloc: Global, kind: Kind, path: &MetaPath) -> Result<EduceError, AllocError>
     ensures { IfOk result (λ e. e ≡ spec.at_name kind path.now) }
 {
@@ -17,7 +17,7 @@ pub fn at_name(alloc: Global, kind: Kind, path: &MetaPath) -> Result<EduceError,
     EduceError::with_word(alloc, kind, span, name_of(alloc, path)?)
 }
 
-/// The refusal of a value with this message.
+/// The rejection of a value with this message.
 fn expected(alloc: Global, span: Span, text: &str) -> Result<EduceError, AllocError>
     ensures { IfOk result (λ e. e ≡ spec.expected span (chars text.now)) }
 {

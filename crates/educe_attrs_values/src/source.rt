@@ -50,7 +50,7 @@ pub fn value_source(meta: &Meta) -> Result<Option<Source>, AllocError>
     }
 }
 
-/// The tokens at which a wrong value is refused: its own, or the empty brackets.
+/// The tokens at which a wrong value is rejected: its own, or the empty brackets.
 fn shown<'a>(tokens: &'a [Token]) -> &'a [Token]
     ensures { result.now ≡ spec.shown tokens.now }
 {
@@ -60,7 +60,7 @@ fn shown<'a>(tokens: &'a [Token]) -> &'a [Token]
     }
 }
 
-/// The place at which a wrong value is refused.
+/// The place at which a wrong value is rejected.
 pub fn value_place(meta: &Meta) -> Span
     ensures { result ≡ spec.value_place meta.now }
 {

@@ -10,7 +10,7 @@ use std::alloc::{AllocError, Global};
 pub enum Stop {
     /// Out of memory.
     Memory,
-    /// The meta is refused.
+    /// The meta is rejected.
     Refused(EduceError),
 }
 
@@ -25,7 +25,7 @@ impl From<AllocError> for Stop {
     }
 }
 
-/// The refusal, or the error for out of memory.
+/// The rejection, or the error for out of memory.
 pub fn error_of(alloc: Global, stop: Stop) -> EduceError
     ensures { result ≡ spec.error_of stop }
 {

@@ -15,7 +15,7 @@ use educe_syntax::{Expr, ExprPath, Ident, Meta, MetaPath};
 use educe_tokens::{EduceError, Kind, Span};
 use std::alloc::Global;
 
-/// What was read as a value of the kind at this place, or its refusal.
+/// What was read as a value of the kind at this place, or its rejection.
 fn or_refused<T>(
     alloc: Global,
     kind: ValueKind,

@@ -84,7 +84,7 @@ mod tests {
     /// A definition that is expanded.
     const DEFINITION: &[u8] = b"#[educe(PartialEq)] struct S { a: u8 }";
 
-    /// A definition that is refused.
+    /// A definition that is rejected.
     const REFUSED: &[u8] = b"#[educe] struct S;";
 
     /// The lines that say why.
@@ -99,7 +99,7 @@ mod tests {
         Ok(arguments.into_iter())
     }
 
-    /// How the program ends over a definition that is refused.
+    /// How the program ends over a definition that is rejected.
     fn ending(
         alloc: Global,
         arguments: io::Result<Args>,

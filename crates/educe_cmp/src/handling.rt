@@ -33,7 +33,7 @@ fn functions(alloc: Global, which: Comparison, body: Body) -> Result<Functions, 
 }
 
 /// The body of a listed comparison. Fields are read by copies where they have to be, and the types that
-/// bounds speak of are added. It is refused exactly where an attribute of a variant or a field or a rank
+/// bounds speak of are added. It is rejected exactly where an attribute of a variant or a field or a rank
 /// is wrong, or memory fails.
 fn body<'d>(
     alloc: Global,
@@ -58,7 +58,7 @@ fn body<'d>(
     }
 }
 
-/// The block of a listed comparison, and the predicates that its impl adds. It is refused exactly where
+/// The block of a listed comparison, and the predicates that its impl adds. It is rejected exactly where
 /// an `educe` list, an attribute of the comparison or a rank is wrong, or memory fails.
 pub fn comparison_block(
     alloc: Global,

@@ -31,7 +31,7 @@ use educe_tokens::Seq;
 use std::alloc::Global;
 
 /// The body of a comparison of a struct of these fields, which are read by copies where they have to be.
-/// It is refused exactly where an attribute of a field or a rank is wrong, or memory fails.
+/// It is rejected exactly where an attribute of a field or a rank is wrong, or memory fails.
 pub fn struct_case<'d>(
     alloc: Global,
     which: Comparison,
@@ -53,7 +53,7 @@ pub fn struct_case<'d>(
     Ok(struct_body(alloc, which, task.ast, copied, &ordered)?)
 }
 
-/// The arm of a variant. It is refused exactly where an attribute of the variant or of a field or a rank
+/// The arm of a variant. It is rejected exactly where an attribute of the variant or of a field or a rank
 /// is wrong, or memory fails.
 fn variant_arm<'d>(
     alloc: Global,
@@ -105,7 +105,7 @@ fn variant_arms<'d>(
     Ok(arms)
 }
 
-/// The body of a comparison of an enum of these variants. It is refused exactly where an attribute of a
+/// The body of a comparison of an enum of these variants. It is rejected exactly where an attribute of a
 /// variant or of a field or a rank is wrong, or memory fails.
 pub fn enum_case<'d>(
     alloc: Global,

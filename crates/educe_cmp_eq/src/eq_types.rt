@@ -22,7 +22,7 @@ use educe_handlers::{
 use educe_syntax::{Field, Shape, Ty, Variant};
 use std::alloc::Global;
 
-/// Sees the types of the fields of a case that take part. It is refused exactly where an attribute of a
+/// Sees the types of the fields of a case that take part. It is rejected exactly where an attribute of a
 /// field or a rank is wrong, or memory fails.
 fn see_case<'d>(
     alloc: Global,
@@ -75,7 +75,7 @@ fn see_variants<'d>(
     Ok(())
 }
 
-/// Sees the types of the fields of a definition that take part. It is refused exactly where an attribute
+/// Sees the types of the fields of a definition that take part. It is rejected exactly where an attribute
 /// of a field or a rank is wrong, or memory fails.
 fn see_fields<'d>(alloc: Global, task: Task<'d, '_>, types: &mut SeenTypes<'d>) -> Result<(), Stop>
     requires { task.listed.now ≡ listing.listed task.ast.now }
@@ -88,7 +88,7 @@ fn see_fields<'d>(alloc: Global, task: Task<'d, '_>, types: &mut SeenTypes<'d>) 
     }
 }
 
-/// The types of the fields that `PartialEq` compares by its own function. Where `PartialEq` refuses
+/// The types of the fields that `PartialEq` compares by its own function. Where `PartialEq` rejects
 /// nothing, memory fails alone.
 fn compared_types<'d>(alloc: Global, task: Task<'d, '_>) -> Result<Vec<&'d Ty>, Stop>
     requires equality { task.which ≡ PartialEq }
@@ -103,7 +103,7 @@ fn compared_types<'d>(alloc: Global, task: Task<'d, '_>) -> Result<Vec<&'d Ty>, 
 }
 
 /// The types of which `Eq` is checked: those of the fields that `PartialEq` compares by its own function,
-/// where it is listed and refuses nothing, and else of all fields. Memory fails alone.
+/// where it is listed and rejects nothing, and else of all fields. Memory fails alone.
 pub fn checked_types<'d>(alloc: Global, task: Task<'d, '_>) -> Result<SeenTypes<'d>, Stop>
     requires listed { task.listed.now ≡ listing.listed task.ast.now }
     requires uncaused { traits.is_listed (listing.listed task.ast.now) PartialEq ≡ true → NoCause (OfShape PartialEq task.ast.now task.ast.now.shape) }

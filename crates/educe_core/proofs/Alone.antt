@@ -1,4 +1,4 @@
--- A text that is no definition has one cause to be refused, out of memory aside.
+-- A text that is no definition has one cause to be rejected, out of memory aside.
 use Rattle.std.proofs.Common.{◌≡◌, ◌≢◌, ℕ, List, refl, subst, chars}
 use Rattle.educe_tokens.specs.declared.error.EduceError.{EduceError}
 use Rattle.educe_tokens.specs.declared.error.Kind.TheVariants.{Alloc}
@@ -27,6 +27,6 @@ module _ (source : List ℕ) (undefined : IsUndefined source) where
   cause_once e f (IsCause.grammatical ts are refusal) (IsCause.grammatical us are_also also) kind kind_also =
       lawful_definitions.one_cause us e f (subst (λ (xs : List Token). IsRefusalOf xs e) (lawful_lexing.one_list (chars source) ts us are.lexes are_also.lexes) refusal) also kind kind_also
 
-  -- a refusal with a cause is the only one
+  -- a rejection with a cause is the only one
   pub alone : (e : EduceError) → IsCause source e → e.kind ≢ Alloc → IsAlone source e
   alone e cause kind other kind_also also = cause_once other e also cause kind_also kind

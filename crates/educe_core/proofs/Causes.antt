@@ -1,4 +1,4 @@
--- Refusals and their causes, and words.
+-- Rejections and their causes, and words.
 use Rattle.std.proofs.Common.{◌≡◌, ◌≢◌, ◌∙◌, ℕ, List, Result, Ok, Err, refl, sym, ap, subst, chars}
 use Rattle.std.specs.Prelude.{IfOk, IfErr}
 use Rattle.educe_tokens.specs.declared.error.EduceError.{EduceError}
@@ -55,7 +55,7 @@ pub parsed_defines :
 parsed_defines source tokens (Ok found) are whole apart = defined_by source tokens found are whole apart
 parsed_defines source tokens (Err e) are whole apart = tt
 
--- what the parser refuses has a cause
+-- what the parser rejects has a cause
 pub parsed_cause : (source : List ℕ) (tokens : List Token) (r : Result DeriveInput EduceError) → IsReading (chars source) tokens → IfErr r (IsRefusalOf tokens) → IfErr r (IsCause source)
 parsed_cause source tokens (Ok found) are refused = tt
 parsed_cause source tokens (Err e) are refused = IsCause.grammatical tokens are refused
@@ -70,13 +70,13 @@ cause_words source e IsCause.memory = refl
 
 -- ---- what is done has no cause
 
--- where no cause stands in any phase, the handler refuses only for out of memory
+-- where no cause stands in any phase, the handler rejects only for out of memory
 handled_undone : (d : DeriveInput) (e : EduceError) → NoCause (IsListingCause d) → NoCause (IsListedCause d) → IsHandlerCause d e → e.kind ≡ Alloc
 handled_undone d e listing uncaused (IsHandlerCause.listing cause) = absurd (listing.none_stands e cause)
 handled_undone d e listing uncaused (IsHandlerCause.handled none cause) = absurd (uncaused.none_stands e cause)
 handled_undone d e listing uncaused IsHandlerCause.memory = refl
 
--- the handler refuses a valid text only where memory runs out
+-- the handler rejects a valid text only where memory runs out
 pub valid_handler : (source : List ℕ) (d : DeriveInput) (e : EduceError) → Defines (chars source) d → IsHandlerCause d e → IsValid source → e.kind ≡ Alloc
 valid_handler source d e defines cause valid =
     handled_undone valid.definition e valid.listing valid.uncaused (subst (λ (x : DeriveInput). IsHandlerCause x e) (one_defined source d valid.definition defines valid.defines) cause)

@@ -1,4 +1,4 @@
--- A text in which no cause of a refusal stands is valid, out of memory aside.
+-- A text in which no cause of a rejection stands is valid, out of memory aside.
 use Rattle.std.proofs.Common.{◌≡◌, ◌≢◌, ℕ, List, ◌⊎◌, inl, inr, refl, chars}
 use Rattle.educe_tokens.specs.declared.error.EduceError.{EduceError}
 use Rattle.educe_tokens.specs.declared.error.Kind.{Kind}
@@ -32,7 +32,7 @@ defined_or_refused source =
 
 -- ---- texts without a reading
 
--- the kinds of refusals of texts that are no definition
+-- the kinds of rejections of texts that are no definition
 abbrev OfNone : Kind → Type 0
 OfNone kind = (kind ≡ Syntax) ⊎ ((kind ≡ TooDeep) ⊎ (kind ≡ NotCarried))
 
@@ -51,7 +51,7 @@ parse_kind found e told (IsParseCause.syntax left none stop) = inl refl
 parse_kind found e told (IsParseCause.too_deep front rest t none stop is many) = inr (inl refl)
 parse_kind found e told IsParseCause.memory = absurd (told refl)
 
--- a refusal of tokens that are no definition is of these
+-- a rejection of tokens that are no definition is of these
 refusal_kind : (found : List Token) (e : EduceError) → e.kind ≢ Alloc → ((d : DeriveInput) → IsWhole definition found d → ⊥) → IsRefusalOf found e → OfNone e.kind
 refusal_kind found e told none (IsRefusalOf.union word is) = inr (inr refl)
 refusal_kind found e told none (IsRefusalOf.grammar never cause) = parse_kind found e told cause

@@ -1,4 +1,4 @@
--- Refusals of the phases have causes.
+-- Rejections of the phases have causes.
 use Rattle.std.proofs.Common.{◌≡◌, sym, subst}
 use Rattle.educe_tokens.specs.declared.error.EduceError.{EduceError}
 use Rattle.educe_tokens.specs.declared.error.Kind.TheVariants.{Alloc}
@@ -9,7 +9,7 @@ use Rattle.educe_attrs.specs.Stop.{Stop}
 use Rattle.educe_attrs.specs.Stop.TheVariants.{Memory, Refused}
 use Rattle.educe_core.specs.Headline.{IsHandlerCause}
 
--- the refusal of a stop, or the error for out of memory
+-- the rejection of a stop, or the error for out of memory
 abbrev error_of : Stop → EduceError
 error_of Memory = placeless Alloc
 error_of (Refused e) = e

@@ -1,4 +1,4 @@
--- Refusals start where a character begins, or at the end.
+-- Rejections start where a character begins, or at the end.
 use Rattle.std.proofs.Common.{ℕ, zero, suc, ◌-◌, ◌≡◌, List, [], ◌∷◌, Option, Some, None, length, inl, inr, refl, sym, subst, chars, IsUtf8}
 use Rattle.std.specs.Prelude.{slice_get}
 use Rattle.std.specs.List.{AllByRecursion}
@@ -51,7 +51,7 @@ module _ (source : List ℕ) (utf8 : IsUtf8 source) where
         go None is = rw is beginning
         go (Some t) is = rw is (all_get (λ (t : Token). Begins t.span.start × Begins t.span.end) tokens (length tokens - 1) t tokens_begin is).1
 
-    -- where a refusal of the tokens starts
+    -- where a rejection of the tokens starts
     refusal_begins : (e : EduceError) → IsRefusalOf tokens e → Begins e.span.start
     refusal_begins e refusal =
         elim (lawful_definitions.reported tokens e refusal).place [

@@ -32,7 +32,7 @@ Answers-line words source sink notes NoMemory line status stands (whole gains) k
 Answers-line words source sink notes answer line status stands (fault fails) kept = inr (answer, record { line = line; stands = stands; gained = fails; kept = kept })
 Answers-line words source sink notes answer line status stands (short runs) kept = inr (inr (answer, record { line = line; stands = stands; gained = runs; kept = kept }))
 
--- a refusal of the whole input
+-- a rejection of the whole input
 pub Answers-refusal :
     (source sink notes : Change) (input : List ℕ) (error : EduceError) (status : Status) → ReadsAll source input → IsUtf8 input → IsCause input error
     → (IsValid input → error.kind ≡ Alloc) → Refuses notes input error status → IsUnchanged sink → Answers expand_words source sink notes status

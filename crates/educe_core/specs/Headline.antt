@@ -1,4 +1,4 @@
--- What a text is expanded to, and why a text is refused.
+-- What a text is expanded to, and why a text is rejected.
 use Rattle.std.specs.Prelude.{◌≡◌, ◌≢◌, ℕ, List, chars, encode_utf8_all}
 use Rattle.std.specs.List.{AllByRecursion}
 use Rattle.educe_tokens.specs.declared.token.Token.{Token}
@@ -28,8 +28,8 @@ pub record Defines (text : List ℕ) (definition : DeriveInput) : Type 0 where
   pub whole : IsWhole grammar.definition definition.tokens definition
   pub names_apart : AreNamesApart definition
 
--- why the handler refuses a definition, by phases, of which the first with a cause is the one that is reported: what the
--- definition lists is refused; or a listed trait is refused. Out of memory has no cause.
+-- why the handler rejects a definition, by phases, of which the first with a cause is the one that is reported: what the
+-- definition lists is rejected; or a listed trait is rejected. Out of memory has no cause.
 pub data IsHandlerCause (definition : DeriveInput) : EduceError → Type 0 where
   listing : {e : EduceError} → IsListingCause definition e → IsHandlerCause definition e
   handled : {e : EduceError} → NoCause (IsListingCause definition) → IsListedCause definition e → IsHandlerCause definition e
@@ -46,9 +46,9 @@ pub record IsValid (source : List ℕ) : Type 0 where
 abbrev pub IsUndefined : List ℕ → Type 0
 IsUndefined source = (definition : DeriveInput) → Defines (chars source) definition → ⊥
 
--- why a text is refused, for each kind of refusal with its place and words: it has no tokens whose brackets close in
+-- why a text is rejected, for each kind of rejection with its place and words: it has no tokens whose brackets close in
 -- order, not too deep, or an unsupported literal; it has such tokens, and they begin as a union, are no definition
--- within the limits, or one in which a name is given twice; or it is a definition, and the handler refuses that. Out of
+-- within the limits, or one in which a name is given twice; or it is a definition, and the handler rejects that. Out of
 -- memory has no cause.
 pub data IsCause (source : List ℕ) : EduceError → Type 0 where
   lexical : {e : EduceError} → IsLexicalCause (chars source) e → IsCause source e
@@ -56,7 +56,7 @@ pub data IsCause (source : List ℕ) : EduceError → Type 0 where
   handled : {e : EduceError} (definition : DeriveInput) → Defines (chars source) definition → IsHandlerCause definition e → IsCause source e
   memory : IsCause source (placeless Alloc)
 
--- no other refusal than this one has a cause, out of memory aside
+-- no other rejection than this one has a cause, out of memory aside
 abbrev pub IsAlone : List ℕ → EduceError → Type 0
 IsAlone source e = (other : EduceError) → other.kind ≢ Alloc → IsCause source other → other ≡ e
 

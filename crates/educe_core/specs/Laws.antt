@@ -1,4 +1,4 @@
--- What holds of each text: without a cause of a refusal it is valid, and a valid text has none. Out of memory is no cause here.
+-- What holds of each text: without a cause of a rejection it is valid, and a valid text has none. Out of memory is no cause here.
 use Rattle.std.specs.Prelude.{◌≡◌, ◌≢◌, ◌⊎◌, ℕ, List, chars}
 use Rattle.educe_tokens.specs.declared.error.EduceError.{EduceError}
 use Rattle.educe_tokens.specs.declared.error.Kind.TheVariants.{Syntax, TooDeep, NotCarried, Alloc}

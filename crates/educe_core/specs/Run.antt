@@ -25,7 +25,7 @@ too_long_line = codes "the input is longer than 131072 bytes\n"
 abbrev pub not_utf8_line : List ℕ
 not_utf8_line = codes "the input is not UTF-8\n"
 
--- line, column and message of a refusal
+-- line, column and message of a rejection
 abbrev pub refusal_line : List ℕ → EduceError → List ℕ
 refusal_line source error =
     decimal (line_of source error.span.start) ++ codes ":" ++ decimal (column_of source error.span.start) ++ codes ": "
@@ -45,7 +45,7 @@ pub record ReadsTooMuch (source : Change) : Type 0 where
   pub limit : length input ≡ 131_073
   pub faults : source.faults_after ≡ source.faults_before
 
--- the text of an expansion of the whole input, in which no cause of a refusal stands
+-- the text of an expansion of the whole input, in which no cause of a rejection stands
 pub record IsText (source : Change) (text : List ℕ) : Type 0 where
   pub input : List ℕ
   pub whole : ReadsAll source input
@@ -54,8 +54,8 @@ pub record IsText (source : Change) (text : List ℕ) : Type 0 where
   pub expands : IsExpansion input items text
   pub uncaused : (e : EduceError) → e.kind ≢ Alloc → IsCause input e → ⊥
 
--- the line of a refusal whose cause stands in the whole input, which is not valid; where the input is no definition, no other
--- refusal has a cause
+-- the line of a rejection whose cause stands in the whole input, which is not valid; where the input is no definition, no other
+-- rejection has a cause
 pub record IsRefusal (source : Change) (error : EduceError) (line : List ℕ) : Type 0 where
   pub input : List ℕ
   pub whole : ReadsAll source input
@@ -117,7 +117,7 @@ Answers words source sink notes NoMemory =
     ((source.faults_after ≡ source.faults_before) × WritesNothing sink notes)
     ⊎ (WritesText RunsShortWithin words source sink notes ⊎ ((status : Status) × WritesLine RunsShortWithin words source sink notes status))
 
--- the line of a refusal goes to the notes, or memory does not suffice for the refusal or its line
+-- the line of a rejection goes to the notes, or memory does not suffice for the rejection or its line
 abbrev pub Refuses : Change → List ℕ → EduceError → Status → Type 0
 Refuses notes source error status =
     ((error.kind ≢ Alloc) × Delivers notes (refusal_line source error) (Refused error) status) ⊎ (IsUnchanged notes × (status ≡ NoMemory))

@@ -42,7 +42,7 @@ fn read(alloc: Global, source: &str) -> Result<DeriveInput, EduceError>
     requires { length source.now ≤ SOURCE_LIMIT }
     ensures defines { IfOk result (Defines (chars source.now)) }
     ensures cause { IfErr result (IsCause source.now) }
-    // There is no other definition, and where there is one no other refusal.
+    // There is no other definition, and where there is one no other rejection.
     ensures only { (definition : DeriveInput) → Defines (chars source.now) definition →
         IsOnly definition result }
 {
@@ -56,7 +56,7 @@ fn read(alloc: Global, source: &str) -> Result<DeriveInput, EduceError>
     }
 }
 
-/// The expansion of a definition, or a refusal with its cause.
+/// The expansion of a definition, or a rejection with its cause.
 fn expanded(alloc: Global, source: &str) -> Result<Expansion, EduceError>
     requires { length source.now ≤ SOURCE_LIMIT }
     ensures done { IfOk result (λ e.
@@ -80,7 +80,7 @@ fn expanded(alloc: Global, source: &str) -> Result<Expansion, EduceError>
     }
 }
 
-/// The expansion of a definition with `educe` attributes. A source is refused, in this order, where it
+/// The expansion of a definition with `educe` attributes. A source is rejected, in this order, where it
 /// does not lex, is no definition within the limits, or gives a name twice; where what the type lists
 /// is wrong; and where an `educe` attribute of a variant or a field, or what is said of a listed trait, is
 /// wrong, two fields have one rank, not one variant is the default one, or `Debug` has no name to show. Of
@@ -94,11 +94,11 @@ pub fn expand(alloc: Global, source: &str) -> Result<Expansion, EduceError>
     ensures valid { IsValid source.now → IfErr result (λ e. e.kind ≡ Kind.Alloc) }
     ensures invalid { IfOk result (λ _. (e : EduceError) → e.kind ≢ Kind.Alloc →
         IsCause source.now e → ⊥) }
-    // Where the source is no definition, no other refusal than the one that is answered has a cause,
+    // Where the source is no definition, no other rejection than the one that is answered has a cause,
     // out of memory aside.
     ensures alone { IsUndefined source.now →
         IfErr result (λ e. e.kind ≢ Kind.Alloc → IsAlone source.now e) }
-    // Its refusal can be shown.
+    // Its rejection can be shown.
     ensures words { IfErr result (λ e. HasWords e.kind e.words) }
     ensures placed { IfErr result (λ e. IsCharBoundary source.now e.span.start) }
 {

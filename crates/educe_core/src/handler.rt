@@ -58,7 +58,7 @@ fn items_of(alloc: Global, ast: &DeriveInput) -> Result<Items, Stop>
 }
 
 /// The items of a definition: one block for each listed trait, in the fixed order. A definition is
-/// refused where what it lists is, and then where a handler of a listed trait refuses it (documentation
+/// rejected where what it lists is, and then where a handler of a listed trait rejects it (documentation
 /// of `educe`, Traits).
 pub fn derive_input_handler(alloc: Global, ast: &DeriveInput) -> Result<Items, EduceError>
     // The definition is the value of its tokens, as those that are read from a text.
@@ -73,7 +73,7 @@ pub fn derive_input_handler(alloc: Global, ast: &DeriveInput) -> Result<Items, E
     ensures listing { IfOk result (λ _. NoCause (listing.IsListingCause ast.now)) }
     ensures uncaused { IfOk result (λ _. NoCause (IsListedCause ast.now)) }
     ensures err { IfErr result (IsHandlerCause ast.now) }
-    // Its refusal has the words of its message.
+    // Its rejection has the words of its message.
     ensures words { IfErr result (λ e. HasWords e.kind e.words) }
 {
     match items_of(alloc, ast) {

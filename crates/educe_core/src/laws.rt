@@ -1,7 +1,7 @@
 //! Laws of texts that hold with no call: the function does nothing, and its contract is the law.
 ghost use Rattle.educe_core.specs.Laws.{ExpansionLaws};
 
-/// A text without a cause of a refusal is valid, and a valid text has none.
+/// A text without a cause of a rejection is valid, and a valid text has none.
 pub fn expansion_laws()
     ensures { ExpansionLaws }
 {}

@@ -1,4 +1,4 @@
-//! How a refusal is shown.
+//! How a rejection is shown.
 ghost use Rattle.std.specs.Prelude.{◌≡◌, ◌≢◌, ◌≤◌, length, IfOk, IsCharBoundary, string_bytes};
 ghost use Rattle.educe_tokens.specs.Message.{HasWords};
 ghost use Rattle.educe_core_devices.specs.Devices.{change};
@@ -8,7 +8,7 @@ use educe_core_devices::{Sink, Status, deliver};
 use educe_tokens::{EduceError, Kind, SOURCE_LIMIT};
 use std::alloc::{AllocError, Global};
 
-/// The place and the message of a refusal, as a line.
+/// The place and the message of a rejection, as a line.
 fn show(alloc: Global, source: &str, error: &EduceError) -> Result<String, AllocError>
     requires limit { length source.now ≤ SOURCE_LIMIT }
     requires kind { error.now.kind ≢ Kind.Alloc }
@@ -21,7 +21,7 @@ fn show(alloc: Global, source: &str, error: &EduceError) -> Result<String, Alloc
     format!(in alloc; "{line}:{column}: {message}\n")
 }
 
-/// Writes the line of a refusal of the source, unless the refusal is out of memory.
+/// Writes the line of a rejection of the source, unless the rejection is out of memory.
 pub fn refuse<E: Sink>(alloc: Global, source: &str, error: EduceError, notes: &mut E) -> Status
     requires limit { length source.now ≤ SOURCE_LIMIT }
     requires words { HasWords error.kind error.words }

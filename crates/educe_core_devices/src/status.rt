@@ -9,7 +9,7 @@ use educe_tokens::EduceError;
 pub enum Status {
     /// The input was read to its end, and the whole text was written.
     Done,
-    /// The input is refused. The kind of the error is never `Alloc`.
+    /// The input is rejected. The kind of the error is never `Alloc`.
     Refused(EduceError),
     /// The words are no known command.
     Usage,

@@ -1,4 +1,4 @@
--- A list of tokens has a reading by a rule, or there is a cause why it is refused.
+-- A list of tokens has a reading by a rule, or there is a cause why it is rejected.
 use Rattle.std.proofs.Common.{◌≡◌, ◌≢◌, ◌⊎◌, inl, inr, ℕ, ◌-◌, List, [], ◌∷◌, ◌++◌, length, true, refl, sym, ap, ◌∙◌, subst, Some, Ok, Err, codes, arith, append-nil, length-append, slice_get}
 use Rattle.std.specs.Str.{bytes_eq}
 use Rattle.std.proofs.lemmas.Bool.{cases_Bool}
@@ -76,7 +76,7 @@ module _ {A : Type 0} (g : Rule A) (again : ReadsAgain g) where
         subst (λ span. IsParseCause g tokens (too_deep_at span)) (sym same)
         (IsParseCause.too_deep place.front place.rest place.place (stops tokens (TooDeep left) stop) (stop ∙ ap (λ n. Some (TooDeep n)) left_is) place.whole place.many)
 
-    -- a refusal that is not out of memory
+    -- a rejection that is not out of memory
     stopped : (tokens : Tokens) (error : ParseError) → stop_of (read depth_limit g tokens) ≡ Some error → (refusal_of tokens error).kind ≢ Alloc → HasCause (IsParseCause g tokens)
     stopped tokens error stop reported = record { error = refusal_of tokens error; is_told = reported; stands = stop_cause tokens error stop }
 
@@ -88,7 +88,7 @@ module _ {A : Type 0} (g : Rule A) (again : ReadsAgain g) where
     decided_by tokens (Err (Syntax left)) is = inr (stopped tokens (Syntax left) (ap stop_of is) (λ same. cc))
     decided_by tokens (Err (TooDeep left)) is = inr (stopped tokens (TooDeep left) (ap stop_of is) (λ same. cc))
 
-    -- A whole list has a value, or there is a cause why it is refused, which is not out of memory.
+    -- A whole list has a value, or there is a cause why it is rejected, which is not out of memory.
     pub decided : (tokens : Tokens) → IsDecided g tokens
     decided tokens = decided_by tokens (read depth_limit g tokens) refl
 
@@ -135,7 +135,7 @@ by_names tokens d whole =
       | inr twice ↦ inr (record { error = duplicate_of twice.0; is_told = (λ same. cc); stands = IsRefusalOf.repeated d twice.0 whole twice.1 })
     ]
 
--- A list of tokens is a definition whose names are apart, or there is a cause why it is refused, which is not out of memory.
+-- A list of tokens is a definition whose names are apart, or there is a cause why it is rejected, which is not out of memory.
 pub definition_decided : (tokens : Tokens) → ((d : DeriveInput) × IsDefinition tokens d) ⊎ HasCause (IsRefusalOf tokens)
 definition_decided tokens =
     elim (union_by tokens (read depth_limit head tokens) refl) [

@@ -1,4 +1,4 @@
--- Where the program of a rule refuses what nests too deep, more openers count than the budget.
+-- Where the program of a rule rejects what nests too deep, more openers count than the budget.
 use Rattle.std.proofs.Common.{◌≡◌, ℕ, zero, suc, ◌-◌, ◌<◌, ◌≤◌, Bool, true, ◌&&◌, List, [], ◌∷◌, ◌++◌, length, drop, refl, ap, sym, subst, ◌∙◌, ◌⊎◌, inl, inr, arith, if◌then◌else◌, Option, Some, None, Ok, Err}
 use Rattle.std.proofs.Math.Seq.{drop-append_seam}
 use Rattle.educe_tokens.specs.declared.token.Token.{Token}
@@ -167,7 +167,7 @@ module _ (n : ℕ) (part_deep : (budget : ℕ) → budget ≤ chain_limit → (p
   plain_behind : (k left : ℕ) (t : Token) (ts : Tokens) → is_plain t.kind ≡ true → DeepAt k left ts → DeepAt k left (t ∷ ts)
   plain_behind k left t ts is deep = deep_after k left (t ∷ []) ts (plain_even t is) deep
 
-  -- where the program of a rule refuses what nests too deep, more openers count than the budget, if so it is with the parts
+  -- where the program of a rule rejects what nests too deep, more openers count than the budget, if so it is with the parts
   pub rule_deep : {A : Type 0} (g : Rule A) → is_ready g ≡ true → (budget : ℕ) → budget ≤ chain_limit → (ts : Tokens) (left : ℕ) → run (readers_below n) budget g ts ≡ Err (TooDeep left) → DeepAt budget left ts
   unfolding run is_ready
   rule_deep (token asked) ready budget within ts left h = absurd (expect_fails (accepts asked) ts left h)
@@ -275,7 +275,7 @@ part_ready plains = refl
 part_ready exprs = refl
 part_ready trees = refl
 
--- where a part refuses what nests too deep, more openers count than the budget
+-- where a part rejects what nests too deep, more openers count than the budget
 pub parts_deep : (n budget : ℕ) → budget ≤ chain_limit → (p : Part) (ts : Tokens) (left : ℕ) → readers_below n budget p ts ≡ Err (TooDeep left) → DeepAt budget left ts
 unfolding readers_below
 parts_deep zero budget within p ts left h = absurd (syntax_fails {A = TreeOf p} (length ts) left h)

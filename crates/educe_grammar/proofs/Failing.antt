@@ -25,11 +25,11 @@ failed (Err x) f e h = inl (let k : x ≡ e = cc in ap Err k)
 pub ok_fails : {A : Type 0} (x : A × Tokens) (e : ParseError) → ◌≡◌ {A = Outcome A} (Ok x) (Err e) → ⊥
 ok_fails x e h = cc
 
--- a refusal of the tokens is no refusal of the depth
+-- a rejection of the tokens is no rejection of the depth
 pub syntax_fails : {A : Type 0} (m left : ℕ) → ◌≡◌ {A = Outcome A} (Err (Syntax m)) (Err (TooDeep left)) → ⊥
 syntax_fails m left h = cc
 
--- the place of a refusal of the depth
+-- the place of a rejection of the depth
 pub place_same : {A : Type 0} (m left : ℕ) → ◌≡◌ {A = Outcome A} (Err (TooDeep m)) (Err (TooDeep left)) → m ≡ left
 place_same m left h = cc
 
@@ -38,7 +38,7 @@ pub made_fails : {A B : Type 0} (p : Outcome A) (make : A → Tokens → B) (lef
 made_fails (Ok x) make left h = absurd (ok_fails _ (TooDeep left) h)
 made_fails (Err x) make left h = let k : x ≡ TooDeep left = cc in ap Err k
 
--- a token that is found or refused is not too deep
+-- a token that is found or rejected is not too deep
 found_fails : (test : Token → Bool) (t : Token) (ts : Tokens) (b : Bool) (is : test t ≡ b) (left : ℕ) → found_if test t ts b is ≡ Err (TooDeep left) → ⊥
 found_fails test t ts true is left h = ok_fails _ (TooDeep left) h
 found_fails test t ts false is left h = syntax_fails {A = Found test} (length (t ∷ ts)) left h

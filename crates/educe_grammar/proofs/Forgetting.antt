@@ -160,6 +160,6 @@ forget_read budget g = forget_run noted_reads.readers reads.readers (λ budget. 
 pub forget_ok : {A : Type 0} (budget : ℕ) (g : Rule A) (s t : ParseStream) (x : A) → noted_reads.read budget g s ≡ Ok (x, t) → reads.read budget g s.cursor ≡ Ok (x, t.cursor)
 forget_ok budget g s t x is = sym (forget_read budget g s) ∙ ap forget is
 
--- what is refused is refused
+-- what is rejected is rejected
 pub forget_err : {A : Type 0} (budget : ℕ) (g : Rule A) (s : ParseStream) (e : ParseError) → noted_reads.read budget g s ≡ Err e → reads.read budget g s.cursor ≡ Err e
 forget_err budget g s e is = sym (forget_read budget g s) ∙ ap forget is

@@ -25,11 +25,11 @@ NeedsNone outcome = outcome ≡ Err Memory → ⊥
 ok_needs_none : {A : Type 0} (x : A × Tokens) → NeedsNone {A = A} (Ok x)
 ok_needs_none x h = ok_fails x Memory h
 
--- a refusal of the tokens
+-- a rejection of the tokens
 syntax_needs_none : {A : Type 0} (left : ℕ) → NeedsNone {A = A} (Err (Syntax left))
 syntax_needs_none left h = cc
 
--- a refusal of the depth
+-- a rejection of the depth
 deep_needs_none : {A : Type 0} (left : ℕ) → NeedsNone {A = A} (Err (TooDeep left))
 deep_needs_none left h = cc
 

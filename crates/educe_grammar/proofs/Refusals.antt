@@ -1,5 +1,5 @@
--- Why tokens are refused is one thing: two refusals of the same tokens, neither out of memory, are equal; and what has a
--- reading is not refused.
+-- Why tokens are rejected is one thing: two rejections of the same tokens, neither out of memory, are equal; and what has a
+-- reading is not rejected.
 use Rattle.std.proofs.Common.{◌≡◌, ◌≢◌, ◌++◌, ◌∷◌, length, refl, ap, sym, subst, ◌∙◌, inl, inr, arith, Option, Some, [], length-append}
 use Rattle.educe_tokens.specs.declared.token.Token.{Token}
 use Rattle.educe_tokens.specs.declared.error.EduceError.{EduceError}
@@ -38,7 +38,7 @@ one_place front rest others more t u same left =
       | inr (inr earlier) ↦ absurd (fewer_left others more front rest u t earlier (sym left))
     ]
 
--- a whole list has one cause at most why it is refused
+-- a whole list has one cause at most why it is rejected
 pub one_cause : {A : Type 0} (g : Rule A) (tokens : Tokens) (e f : EduceError) → IsParseCause g tokens e → IsParseCause g tokens f → e.kind ≢ Alloc → f.kind ≢ Alloc → e ≡ f
 one_cause g tokens e f (IsParseCause.syntax left never stop) (IsParseCause.syntax other none at) some more =
     let same : left ≡ other = let at_one = one_stop stop at in cc in
@@ -60,7 +60,7 @@ whole_uncaused g tokens x whole e IsParseCause.memory = refl
 
 -- ---- definitions
 
--- a definition is not refused by the grammar
+-- a definition is not rejected by the grammar
 refused_undefined : (tokens : Tokens) (e : EduceError) (found : DeriveInput) → IsParseCause definition tokens e → IsWhole definition tokens found → e.kind ≢ Alloc → ⊥
 refused_undefined tokens e found cause whole some = some (whole_uncaused definition tokens found whole e cause)
 
@@ -71,7 +71,7 @@ one_name tokens found other name again whole all twice much =
     let same : found ≡ other = one_reading definition definition_again depth_limit tokens found other whole all in
     one_repeated_in (scopes other) name again (subst (λ (d : DeriveInput). IsRepeatedIn name (scopes d)) same twice) much
 
--- the tokens of a definition are refused for one reason
+-- the tokens of a definition are rejected for one reason
 pub one_refusal : (tokens : Tokens) (e f : EduceError) → IsRefusalOf tokens e → IsRefusalOf tokens f → e.kind ≢ Alloc → f.kind ≢ Alloc → e ≡ f
 one_refusal tokens e f (IsRefusalOf.union word is) (IsRefusalOf.union other was) some more = ap union_of (one_union tokens word other is was)
 one_refusal tokens e f (IsRefusalOf.union word is) (IsRefusalOf.grammar never cause) some more = absurd (never word is)

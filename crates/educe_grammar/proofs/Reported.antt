@@ -24,7 +24,7 @@ found_place (u ∷ ts) zero t is = record { front = []; found = u; rest = ts; is
 found_place (u ∷ ts) (suc n) t is =
     let p = found_place ts n t is in record { front = u ∷ p.front; found = p.found; rest = p.rest; is = ap (λ us. u ∷ us) p.is; at_place = p.at_place }
 
--- the place of a refusal of the grammar
+-- the place of a rejection of the grammar
 place_at_placed : (tokens : Tokens) (left : ℕ) → IsPlace tokens (place_at tokens left)
 place_at_placed tokens left = go (slice_get tokens (length tokens - left)) refl
   where
@@ -48,7 +48,7 @@ cause_reported g tokens e (IsParseCause.too_deep front rest t never stop is many
     record { words = refl; place = inl (inl (record { front = front; found = t; rest = rest; is = is; at_place = refl })) }
 cause_reported g tokens e IsParseCause.memory = record { words = refl; place = inr refl }
 
--- So does a cause of the refusal of a definition, with the one word of its message where it has one.
+-- So does a cause of the rejection of a definition, with the one word of its message where it has one.
 pub refusal_reported : (tokens : Tokens) (e : EduceError) → IsRefusalOf tokens e → IsReported tokens e
 refusal_reported tokens e (IsRefusalOf.union word is) =
     record { words = refl; place = inl (inl (record { front = is.front; found = word; rest = is.rest; is = is.is; at_place = refl })) }

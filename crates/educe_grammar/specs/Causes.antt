@@ -23,6 +23,6 @@ pub record IsReported (tokens : Tokens) (e : EduceError) : Type 0 where
   pub words : HasWords e.kind e.words
   pub place : IsPlace tokens e.span ⊎ (e ≡ placeless Alloc)
 
--- the whole list has a value by the rule, or there is a cause why it is refused, which is not out of memory
+-- the whole list has a value by the rule, or there is a cause why it is rejected, which is not out of memory
 abbrev pub IsDecided : {A : Type 0} → Rule A → Tokens → Type 0
 IsDecided {A = A} g tokens = ((x : A) × IsWhole g tokens x) ⊎ HasCause (IsParseCause g tokens)

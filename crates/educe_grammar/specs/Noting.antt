@@ -19,7 +19,7 @@ use Rattle.educe_grammar.specs.Reading.{chain_limit}
 use Rattle.educe_grammar.specs.Rules.{Rule, token, documentation, empty, both, made, checked, either, prefer, operator, lone, binary, nest, angles, under, arrow, list, many, chain, path, sliced, written, part, Part, TreeOf}
 use Rattle.educe_grammar.specs.Running.{skip_if, written_if}
 
--- what was read with what is left and what is noted, or a refusal
+-- what was read with what is left and what is noted, or a rejection
 abbrev pub Noted : Type 0 → Type 0
 Noted A = Result (A × ParseStream) ParseError
 

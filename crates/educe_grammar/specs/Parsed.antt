@@ -47,7 +47,7 @@ place_at tokens left = place_of (slice_get tokens (length tokens - left))
     place_of None = end_place tokens
     place_of (Some t) = t.span
 
--- ---- refusals
+-- ---- rejections
 
 -- where the program of the rule stops on a list that it doesn't read to its end
 abbrev pub stop_of : {A : Type 0} → Outcome A → Option ParseError
@@ -55,14 +55,14 @@ stop_of (Ok (x, [])) = None
 stop_of (Ok (x, t ∷ rest)) = Some (SyntaxAt (length (t ∷ rest)))
 stop_of (Err e) = Some e
 
--- the refusal of the tokens where a program stops so
+-- the rejection of the tokens where a program stops so
 abbrev pub refusal_of : Tokens → ParseError → EduceError
 refusal_of tokens Memory = placeless Alloc
 refusal_of tokens (SyntaxAt left) = syntax_at (place_at tokens left)
 refusal_of tokens (TooDeepAt left) = too_deep_at (place_at tokens left)
 
--- Why a whole list is refused: it has no reading within the limits; or none, and at the place, a token, more openers count
--- than the limit allows. The place is where the program of the rule stops. Any list may be refused for out of memory.
+-- Why a whole list is rejected: it has no reading within the limits; or none, and at the place, a token, more openers count
+-- than the limit allows. The place is where the program of the rule stops. Any list may be rejected for out of memory.
 pub data IsParseCause {A : Type 0} (g : Rule A) (tokens : Tokens) : EduceError → Type 0 where
   syntax : (left : ℕ) → HasNoReading g tokens → stop_of (read depth_limit g tokens) ≡ Some (SyntaxAt left)
       → IsParseCause g tokens (record { kind = Syntax; span = place_at tokens left; words = [] })

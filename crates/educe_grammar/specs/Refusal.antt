@@ -1,4 +1,4 @@
--- Why the tokens of a definition are refused.
+-- Why the tokens of a definition are rejected.
 use Rattle.std.specs.Prelude.{◌≡◌, List, ◌∷◌, ◌++◌, codes}
 use Rattle.educe_tokens.specs.TokenKind.TheVariants as kind
 use Rattle.educe_tokens.specs.declared.token.Token.{Token}
@@ -36,8 +36,8 @@ pub record IsUnion (tokens : Tokens) (word : Token) : Type 0 where
 abbrev pub union_of : Token → EduceError
 union_of word = citing_at NotCarried word.span word.spelling
 
--- Why the tokens are refused: they begin as a union; or they don't, and are no definition within the limits; or a name of
--- the definition is given twice. Any list may be refused for out of memory.
+-- Why the tokens are rejected: they begin as a union; or they don't, and are no definition within the limits; or a name of
+-- the definition is given twice. Any list may be rejected for out of memory.
 pub data IsRefusalOf (tokens : Tokens) : EduceError → Type 0 where
   union : (word : Token) → IsUnion tokens word → IsRefusalOf tokens (union_of word)
   grammar : {e : EduceError} → ((word : Token) → IsUnion tokens word → ⊥) → IsParseCause definition tokens e → IsRefusalOf tokens e

@@ -9,7 +9,7 @@ use Rattle.educe_grammar.specs.declared.parse_error.ParseError.TheVariants.{Memo
 abbrev pub Tokens : Type 0
 Tokens = List Token
 
--- what was read with the tokens that are left, or a refusal
+-- what was read with the tokens that are left, or a rejection
 abbrev pub Outcome : Type 0 → Type 0
 Outcome A = Result (A × Tokens) ParseError
 
@@ -33,7 +33,7 @@ abbrev pub found_if : (test : Token → Bool) (t : Token) (ts : Tokens) (b : Boo
 found_if test t ts true passes = Ok (record { token = t; passes = passes }, ts)
 found_if test t ts false fails = Err (Syntax (length (t ∷ ts)))
 
--- takes a token that passes the test, and refuses any other
+-- takes a token that passes the test, and rejects any other
 unfoldable pub expect : (test : Token → Bool) → Parser (Found test)
 expect test [] = Err (Syntax 0)
 expect test (t ∷ ts) = found_if test t ts (test t) refl

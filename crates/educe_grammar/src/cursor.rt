@@ -131,7 +131,7 @@ impl<'a> Cursor<'a> {
         self.rest.len()
     }
 
-    /// The refusal of the tokens that are left.
+    /// The rejection of the tokens that are left.
     pub fn refuse(&self) -> ParseError
         ensures { result ≡ ParseError.Syntax (length self.now) }
     {
@@ -245,7 +245,7 @@ impl<'a> Cursor<'a> {
         }
     }
 
-    /// Takes such a token, and refuses any other.
+    /// Takes such a token, and rejects any other.
     pub fn expect(&mut self, asked: Terminal) -> Result<&'a Token, ParseError>
         ensures taken { Lends (spec.expect (accepts asked) self.old) result self.new }
         ensures stays { OnErr result (self.new ≡ self.old) }
@@ -253,7 +253,7 @@ impl<'a> Cursor<'a> {
         self.take_if(self.sees(asked))
     }
 
-    /// Takes such an opening bracket, and refuses any other token.
+    /// Takes such an opening bracket, and rejects any other token.
     pub fn expect_open(&mut self, bracket: Bracket) -> Result<&'a Token, ParseError>
         ensures taken { Lends (spec.expect (ahead.opens bracket) self.old) result self.new }
         ensures stays { OnErr result (self.new ≡ self.old) }
@@ -261,7 +261,7 @@ impl<'a> Cursor<'a> {
         self.take_if(self.opens(bracket))
     }
 
-    /// Takes such a closing bracket, and refuses any other token.
+    /// Takes such a closing bracket, and rejects any other token.
     pub fn expect_close(&mut self, bracket: Bracket) -> Result<&'a Token, ParseError>
         ensures taken { Lends (spec.expect (ahead.closes bracket) self.old) result self.new }
         ensures stays { OnErr result (self.new ≡ self.old) }
@@ -269,7 +269,7 @@ impl<'a> Cursor<'a> {
         self.take_if(self.closes(bracket))
     }
 
-    /// Takes a comment of documentation, and refuses any other token.
+    /// Takes a comment of documentation, and rejects any other token.
     pub fn expect_doc(&mut self) -> Result<&'a Token, ParseError>
         ensures taken { Lends (spec.expect ahead.documents self.old) result self.new }
         ensures stays { OnErr result (self.new ≡ self.old) }
@@ -277,7 +277,7 @@ impl<'a> Cursor<'a> {
         self.take_if(self.documents())
     }
 
-    /// Takes the operator of these two puncts, and refuses any other token.
+    /// Takes the operator of these two puncts, and rejects any other token.
     pub fn skip_pair(&mut self, c: char, d: char) -> Result<(), ParseError>
         ensures taken { Passes (skip_if (ahead.begins_pair c d self.old) 2 self.old) result self.new }
         ensures stays { OnErr result (self.new ≡ self.old) }
@@ -289,7 +289,7 @@ impl<'a> Cursor<'a> {
         Ok(())
     }
 
-    /// Takes the punct `c`, where it is not the first half of the operator of both, and refuses any
+    /// Takes the punct `c`, where it is not the first half of the operator of both, and rejects any
     /// other token.
     pub fn skip_lone(&mut self, c: char, d: char) -> Result<(), ParseError>
         ensures taken { Passes (skip_if (ahead.begins_lone c d self.old) 1 self.old) result self.new }

@@ -1,7 +1,7 @@
 //! Why a list of tokens is not read.
 use std::alloc::AllocError;
 
-/// A refusal of the parser. A number says where: that many tokens were left to read.
+/// A rejection of the parser. A number says where: that many tokens were left to read.
 #[derive(Clone, Copy)]
 pub enum ParseError {
     /// Out of memory.

@@ -1,4 +1,4 @@
--- Why the handler of a trait does not refuse a definition.
+-- Why the handler of a trait does not reject a definition.
 use Rattle.std.proofs.Common.{◌≡◌, ◌∙◌, ◌⊎◌, ℕ, ◌+◌, ◌<◌, ◌≤◌, ℤ, true, false, List, [], ◌∷◌, ◌++◌, map, take, length, get_or, Result, Ok, Err, inl, inr, refl, sym, ap, subst, arith}
 use Rattle.std.specs.Prelude.{IsTrue, IfErr}
 use Rattle.std.specs.List.{AllByRecursion, IsDistinct, flat_map}
@@ -105,7 +105,7 @@ module _ (which : Trait) (d : DeriveInput) where
   rank_stopped fields read Memory orders reuse = tt
   rank_stopped fields read (Refused e) orders reuse = inr (record { orders = orders; read = read; reuse = reuse })
 
-  -- what selects the fields of a case by their settings refuses them for a rank
+  -- what selects the fields of a case by their settings rejects them for a rank
   pub ranks_refused : {T : Type 0} (fields : List Field) (all : List FieldSettings) (r : Result T Stop) → all ≡ map (settings_of which d) fields
       → HaveNoCauses which (field_row which) (listed d) fields → IfErr r (λ s. OfStop (λ _. IsTrue (is_order which)) s)
       → IfErr r (λ s. OfStop (IsReuse (kept_by 0 fields all)) s) → IfErr r (λ s. OfStop (OfCase which d fields) s)
@@ -175,7 +175,7 @@ module _ (which : Trait) (d : DeriveInput) where
 
 -- ---- lists
 
--- where no list of a place is refused, none of a definition is
+-- where no list of a place is rejected, none of a definition is
 pub lists_clear : (d : DeriveInput) (e : EduceError) → (IsPlaceCause (listed d) d.attrs e → ⊥) → ((variant : Variant) → In variant (variants_of d) → IsPlaceCause (listed d) variant.attrs e → ⊥)
     → ((field : Field) → In field (all_fields d) → IsPlaceCause (listed d) field.attrs e → ⊥) → IsListsCause d e → ⊥
 lists_clear d e own variants fields cause =
@@ -196,11 +196,11 @@ lists_clear d e own variants fields cause =
 
 -- ---- why no cause stands
 
--- what `Clone` is refused for besides: nothing that the type says of `Copy` is wrong, where that is listed
+-- what `Clone` is rejected for besides: nothing that the type says of `Copy` is wrong, where that is listed
 pub record IsClear (which : Trait) (d : DeriveInput) : Type 0 where
   pub copy : (e : EduceError) → which ≡ trait.Clone → is_listed (listed d) trait.Copy ≡ true → IsSaidCause trait.Copy (type_row trait.Copy d) d.attrs e → ⊥
 
--- another trait is not refused for that
+-- another trait is not rejected for that
 pub other_clear : (which : Trait) (d : DeriveInput) → same_trait which trait.Clone ≡ false → IsClear which d
 other_clear which d apart = record { copy = λ e clones lists said. true≢false (ap (λ (own : Trait). same_trait own trait.Clone) (sym clones) ∙ apart) }
 

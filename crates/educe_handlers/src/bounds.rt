@@ -18,7 +18,7 @@ use educe_bound::Bound;
 use educe_handlers_bounds::bound_said;
 use std::alloc::Global;
 
-/// The bound that the type says for a trait. It is refused exactly where an attribute of the type is
+/// The bound that the type says for a trait. It is rejected exactly where an attribute of the type is
 /// wrong, or memory fails.
 pub fn bound_of_type(alloc: Global, task: Task<'_, '_>) -> Result<Bound, Stop>
     requires { task.listed.now ≡ listing.listed task.ast.now }
@@ -30,7 +30,7 @@ pub fn bound_of_type(alloc: Global, task: Task<'_, '_>) -> Result<Bound, Stop>
     Ok(bound_said(bound))
 }
 
-/// The same of a trait for which it makes no difference what else is said. It is refused exactly where
+/// The same of a trait for which it makes no difference what else is said. It is rejected exactly where
 /// an `educe` list or an attribute of the trait is wrong, or memory fails.
 pub fn checked_bound(alloc: Global, task: Task<'_, '_>) -> Result<Bound, Stop>
     requires listed { task.listed.now ≡ listing.listed task.ast.now }

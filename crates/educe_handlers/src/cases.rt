@@ -59,7 +59,7 @@ fn settings_of_variants(
     Ok(all)
 }
 
-/// What the variants and the fields of a definition say of a trait that has no ranks. They are refused
+/// What the variants and the fields of a definition say of a trait that has no ranks. They are rejected
 /// exactly where an attribute of one of them is wrong, or memory fails.
 pub fn settings_of_cases(alloc: Global, task: Task<'_, '_>) -> Result<CaseSettings, Stop>
     requires listed { task.listed.now ≡ listing.listed task.ast.now }

@@ -23,7 +23,7 @@ use educe_tokens::Seq;
 use std::alloc::Global;
 
 /// The fields of a case that take part, in the order in which the trait goes over them; their types are
-/// seen. The settings are those of the fields. Refused exactly where two of the fields have one rank and
+/// seen. The settings are those of the fields. Rejected exactly where two of the fields have one rank and
 /// the trait is an order, or memory fails.
 pub fn case_fields<'d, 's>(
     alloc: Global,
@@ -45,7 +45,7 @@ pub fn case_fields<'d, 's>(
     Ok(ordered)
 }
 
-/// What the fields of a variant say of a trait, in their order. Refused exactly where an attribute of the
+/// What the fields of a variant say of a trait, in their order. Rejected exactly where an attribute of the
 /// variant or of one of them is wrong, or memory fails.
 pub fn variant_settings(
     alloc: Global,

@@ -41,7 +41,7 @@ pub trait TraitHandler {
         // Its functions evaluate to what the trait means, where the tokens are as few as a `usize` can count.
         ensures means { IfOk result (λ found. length ast.now.tokens ≤ 2 ^ 64 → AllByRecursion (EachEvaluates ast.now) found.0) }
         ensures added { IfOk result (λ found. ImplAdds ast.now TRAIT found.1) }
-        // It refuses exactly where a cause stands, or memory fails.
+        // It rejects exactly where a cause stands, or memory fails.
         ensures uncaused { IfOk result (λ _. NoCause (OfHandler (handling ast.now) TRAIT)) }
         ensures err { IfErr result (λ s. OfStop (OfHandler (handling ast.now) TRAIT) s) };
 
@@ -64,7 +64,7 @@ pub trait TraitHandler {
         // The context is the one that the handler of the next trait asks for.
         ensures notes { OnOk result (AreNoted ast.now (traits_through TRAIT) ctx.new) }
         ensures unnoted { OnErr result (ctx.new ≡ ctx.old) }
-        // It refuses exactly where a cause stands, or memory fails.
+        // It rejects exactly where a cause stands, or memory fails.
         ensures uncaused { OnOk result (NoCause (OfHandler (handling ast.now) TRAIT)) }
         ensures err { IfErr result (λ s. OfStop (OfHandler (handling ast.now) TRAIT) s) }
     {

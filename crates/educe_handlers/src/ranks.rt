@@ -76,7 +76,7 @@ fn repeat_at(sorted: &[Ranked<'_, '_>]) -> Option<usize>
     found
 }
 
-/// The refusal of a field that has the rank of an earlier one.
+/// The rejection of a field that has the rank of an earlier one.
 fn reuse(alloc: Global, later: &Ranked<'_, '_>) -> EduceError
     ensures { result ≡ reuse_of later.now.rank later.now.rank_span }
 {
@@ -87,7 +87,7 @@ fn reuse(alloc: Global, later: &Ranked<'_, '_>) -> EduceError
     )
 }
 
-/// The fields that take part in an order by their settings, the one of least rank first. Refused where
+/// The fields that take part in an order by their settings, the one of least rank first. Rejected where
 /// two of them have one rank; of such fields the one that is written first behind another counts.
 fn by_rank<'f, 's>(
     alloc: Global,
@@ -131,7 +131,7 @@ fn ordered_fields<'f, 's>(
 }
 
 /// The fields of a case that take part, in the order in which the trait goes over them. The settings
-/// are those of the fields. Refused exactly where two of the fields have one rank and the trait is an
+/// are those of the fields. Rejected exactly where two of the fields have one rank and the trait is an
 /// order, or memory fails.
 pub fn fields_in_order<'f, 's>(
     alloc: Global,

@@ -15,7 +15,7 @@ use educe_syntax::{Field, Variant};
 use educe_tokens::Seq;
 use std::alloc::Global;
 
-/// What the type says of a trait. It is refused exactly where an attribute of the type is wrong, or
+/// What the type says of a trait. It is rejected exactly where an attribute of the type is wrong, or
 /// memory fails.
 pub fn type_values(alloc: Global, task: Task<'_, '_>) -> Result<Values, Stop>
     requires { task.listed.now ≡ listing.listed task.ast.now }
@@ -33,7 +33,7 @@ pub fn type_values(alloc: Global, task: Task<'_, '_>) -> Result<Values, Stop>
     )
 }
 
-/// What a variant says of a trait. It is refused exactly where an attribute of the variant is wrong, or
+/// What a variant says of a trait. It is rejected exactly where an attribute of the variant is wrong, or
 /// memory fails.
 pub fn variant_values(alloc: Global, task: Task<'_, '_>, variant: &Variant) -> Result<Values, Stop>
     requires { task.listed.now ≡ listing.listed task.ast.now }
@@ -45,7 +45,7 @@ pub fn variant_values(alloc: Global, task: Task<'_, '_>, variant: &Variant) -> R
     place_settings(alloc, task.which, &row, task.listed, attributes)
 }
 
-/// What the fields of a case say of a trait, in their order. They are refused exactly where an attribute
+/// What the fields of a case say of a trait, in their order. They are rejected exactly where an attribute
 /// of one of them is wrong, or memory fails.
 pub fn field_settings(
     alloc: Global,

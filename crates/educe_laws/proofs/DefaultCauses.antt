@@ -1,4 +1,4 @@
--- Why the handler of `Default` refuses a definition, and what the attributes say where it does not.
+-- Why the handler of `Default` rejects a definition, and what the attributes say where it does not.
 use Rattle.std.proofs.Common.{◌≡◌, ◌∙◌, Bool, List, [], ◌∷◌, ◌++◌, inl, inr, refl, ap, sym, subst, append_assoc}
 use Rattle.std.specs.Prelude.{is_none}
 use Rattle.std.specs.List.{AllByRecursion}

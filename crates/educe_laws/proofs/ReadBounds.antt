@@ -55,7 +55,7 @@ module _ (row : Row) where
   said_read which attributes _ (IsSaid.by_meta values there) = says_read there.meta values there.says
   said_read which attributes _ (IsSaid.by_none none) = tt
 
--- the bound of a place whose attributes have no cause of a refusal
+-- the bound of a place whose attributes have no cause of a rejection
 pub bounds_read : (which : Trait) (row : Row) (listed : List Trait) (attributes : List Attribute) → NoCause (OfPlace which row listed attributes)
     → IsReadBound (bound_said (place_settings which row listed attributes).bound)
 bounds_read which row listed attributes none = said_read row which attributes (place_settings which row listed attributes) (lawful_settings.place_said which row listed attributes none)

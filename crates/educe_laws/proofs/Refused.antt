@@ -1,4 +1,4 @@
--- Why the handler of a trait that is read field by field refuses a definition, and what the attributes say where it does not.
+-- Why the handler of a trait that is read field by field rejects a definition, and what the attributes say where it does not.
 use Rattle.std.proofs.Common.{◌≡◌, ◌∙◌, true, List, [], ◌∷◌, ◌++◌, map, inl, inr, refl, ap, sym, subst, append_assoc}
 use Rattle.std.specs.Prelude.{IsTrue}
 use Rattle.std.specs.List.{AllByRecursion, flat_map}

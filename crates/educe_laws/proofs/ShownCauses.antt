@@ -1,4 +1,4 @@
--- Why the handler of `Debug` refuses a definition, and what the attributes say where it does not.
+-- Why the handler of `Debug` rejects a definition, and what the attributes say where it does not.
 use Rattle.std.proofs.Common.{◌≡◌, ◌∙◌, List, [], ◌∷◌, ◌++◌, inl, inr, refl, ap, sym, subst, append_assoc}
 use Rattle.std.specs.List.{AllByRecursion}
 use Rattle.educe_tokens.specs.declared.error.EduceError.{EduceError}

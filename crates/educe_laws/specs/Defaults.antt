@@ -1,4 +1,4 @@
--- What the attributes of a definition say of `Default`, which value it makes, and why it is refused.
+-- What the attributes of a definition say of `Default`, which value it makes, and why it is rejected.
 use Rattle.std.specs.Prelude.{ℕ, ◌≡◌, ◌+◌, Bool, true, false, ◌&&◌, ◌||◌, List, [], ◌∷◌, ◌++◌, Option, Some, None, is_none, if◌then◌else◌}
 use Rattle.std.specs.List.{AllByRecursion, filter_map}
 use Rattle.educe_tokens.specs.declared.error.EduceError.{EduceError}
@@ -140,9 +140,9 @@ type_without field (Some value) = None
 abbrev pub default_types : DeriveInput → List Ty
 default_types definition = filter_map (λ field. type_without field (field_value definition field)) (written_fields (choice_of definition))
 
--- ---- why it is refused
+-- ---- why it is rejected
 
--- the attributes of the type have no cause of a refusal, and they say this
+-- the attributes of the type have no cause of a rejection, and they say this
 abbrev pub AreTypeSettings : DeriveInput → Values → Type 0
 AreTypeSettings definition values = AreSettings Default (type_row Default definition) definition definition.attrs values
 
@@ -207,7 +207,7 @@ marked_again place = record { kind = MultipleDefaultVariants; span = place; word
 abbrev pub none_marked : Span → EduceError
 none_marked place = record { kind = NoDefaultVariant; span = place; words = [] }
 
--- why `Default` is refused: what the type says of it is; what a variant or a field says of it is, by the forms that are allowed there; or,
+-- why `Default` is rejected: what the type says of it is; what a variant or a field says of it is, by the forms that are allowed there; or,
 -- of an enum whose attributes say no value of the whole type, two variants are marked, or none is and there is not only one
 pub data IsDefaultCause (definition : DeriveInput) : EduceError → Type 0 where
   by_type : {e : EduceError} → IsSaidCause Default (type_row Default definition) definition.attrs e → IsDefaultCause definition e

@@ -1,4 +1,4 @@
--- Why the handlers of the listed traits refuse a definition.
+-- Why the handlers of the listed traits reject a definition.
 use Rattle.std.specs.Prelude.{◌≡◌, ◌⊎◌, ℤ, true, IsTrue, List, [], ◌∷◌, ◌++◌}
 use Rattle.educe_tokens.specs.declared.error.EduceError.{EduceError}
 use Rattle.educe_tokens.specs.declared.error.Kind.TheVariants.{ReuseARank}
@@ -34,7 +34,7 @@ reuse_of rank place = record { kind = ReuseARank rank; span = place; words = [] 
 abbrev pub places : DeriveInput → List (List Attribute)
 places definition = definition.attrs ∷ variant_attributes definition ++ field_attributes definition
 
--- the `educe` lists of a place are refused, whatever the trait
+-- the `educe` lists of a place are rejected, whatever the trait
 pub record IsListsCause (definition : DeriveInput) (e : EduceError) : Type 0 where
   pub attributes : List Attribute
   pub stand : IsAmong attributes (places definition)
@@ -53,7 +53,7 @@ pub record IsRankCause (which : Trait) (definition : DeriveInput) (fields : List
   pub read : HaveNoCauses which (field_row which) (listed definition) fields
   pub reuse : IsReuse (kept_fields which definition fields) e
 
--- why a trait is refused whose attributes are read field by field: what the type says of it is; what a variant says of it is; what a
+-- why a trait is rejected whose attributes are read field by field: what the type says of it is; what a variant says of it is; what a
 -- field says of it is; where it is an order, two fields of one case that take part have one rank; or where it is `Clone`, what the
 -- type says of `Copy` is, if that is listed
 pub data IsFieldwiseCause (which : Trait) (definition : DeriveInput) : EduceError → Type 0 where
@@ -67,21 +67,21 @@ pub data IsFieldwiseCause (which : Trait) (definition : DeriveInput) : EduceErro
   by_copy : {e : EduceError} → which ≡ trait.Clone → is_listed (listed definition) trait.Copy ≡ true
       → IsSaidCause trait.Copy (type_row trait.Copy definition) definition.attrs e → IsFieldwiseCause which definition e
 
--- why the fields of a case are refused: one of them is, or a rank
+-- why the fields of a case are rejected: one of them is, or a rank
 abbrev pub OfCase : Trait → DeriveInput → List Field → Cause
 OfCase which definition fields = λ e. OfFields which (field_row which) (listed definition) fields e ⊎ IsRankCause which definition fields e
 
--- why a variant is refused: its own attributes are, or its fields
+-- why a variant is rejected: its own attributes are, or its fields
 abbrev pub OfVariant : Trait → DeriveInput → Variant → Cause
 OfVariant which definition variant =
     λ e. OfPlace which (variant_row which) (listed definition) variant.attrs e ⊎ OfCase which definition (fields_in variant) e
 
--- why what stands behind the name of a definition is refused: the fields of a struct are, or one of the variants of an enum
+-- why what stands behind the name of a definition is rejected: the fields of a struct are, or one of the variants of an enum
 abbrev pub OfShape : Trait → DeriveInput → Shape → Cause
 OfShape which definition (Struct shape) = OfCase which definition shape.fields
 OfShape which definition (Enum variants) = λ e. (variant : Variant) × IsAmong variant variants × OfVariant which definition variant e
 
--- why a trait is refused
+-- why a trait is rejected
 abbrev pub IsTraitCause : DeriveInput → Trait → Cause
 IsTraitCause definition trait.Clone = IsFieldwiseCause trait.Clone definition
 IsTraitCause definition trait.Copy = IsFieldwiseCause trait.Copy definition
@@ -97,6 +97,6 @@ IsTraitCause definition trait.Default = IsDefaultCause definition
 abbrev pub handling : DeriveInput → Handling
 handling definition = record { InLists = IsListsCause definition; Own = IsTraitCause definition }
 
--- why a listed trait is refused: the `educe` lists of a place are, whatever the trait; or the trait is
+-- why a listed trait is rejected: the `educe` lists of a place are, whatever the trait; or the trait is
 abbrev pub IsListedCause : DeriveInput → Cause
 IsListedCause definition = OfLast (handling definition) (listed definition)

@@ -32,7 +32,7 @@ pub mod ShownBodies
 pub mod Checks
 pub mod Markers
 pub mod Blocks
--- Why a trait is refused.
+-- Why a trait is rejected.
 pub mod Handled
 -- What a handler is asked for, and what it adds.
 pub mod Handlers

@@ -16,6 +16,6 @@ listed definition = listed_traits definition.attrs
 abbrev pub listed_in_order : DeriveInput → List Trait
 listed_in_order definition = filter (is_listed (listed definition)) variants
 
--- why what a definition lists is refused
+-- why what a definition lists is rejected
 abbrev pub IsListingCause : DeriveInput → Cause
 IsListingCause definition = OfListing definition.attrs (end_of definition.tokens)

@@ -61,7 +61,7 @@ pub record AreSaid (which : Trait) (definition : DeriveInput) : Type 0 where
   pub variants_said : AllByRecursion (λ (variant : Variant). IsSaid which (variant_row which) variant.attrs (variant_settings which definition variant)) (variants_of definition)
   pub fields_said : AllByRecursion (λ field. IsFieldSaid which (field_row which) (listed definition) field.attrs (settings_of which definition field)) (all_fields definition)
 
--- the attributes of a place have no cause of a refusal by the forms of this row, and they say this
+-- the attributes of a place have no cause of a rejection by the forms of this row, and they say this
 pub record AreSettings (which : Trait) (row : Row) (definition : DeriveInput) (attributes : List Attribute) (values : Values) : Type 0 where
   pub read : NoCause (OfPlace which row (listed definition) attributes)
   pub said : IsSaid which row attributes values

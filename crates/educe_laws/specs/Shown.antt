@@ -1,4 +1,4 @@
--- What the attributes of a definition say of `Debug`: which names and which fields are shown, and why it is refused (documentation of
+-- What the attributes of a definition say of `Debug`: which names and which fields are shown, and why it is rejected (documentation of
 -- `educe`, Debug).
 use Rattle.std.specs.Prelude.{ℕ, ◌≡◌, Bool, true, false, List, [], ◌∷◌, ◌++◌, map, Option, Some, None, unwrap_or, codes}
 use Rattle.std.specs.List.{AllByRecursion, flat_map}
@@ -179,9 +179,9 @@ IsCaseRead definition case = HaveNoCauses Debug (entry_row case.named) (listed d
 abbrev pub AreCasesRead : DeriveInput → Type 0
 AreCasesRead definition = AllByRecursion (IsCaseRead definition) (shown_cases definition)
 
--- ---- why it is refused
+-- ---- why it is rejected
 
--- the attributes of the type have no cause of a refusal, and they say this
+-- the attributes of the type have no cause of a rejection, and they say this
 abbrev pub AreTypeSettings : DeriveInput → Values → Type 0
 AreTypeSettings definition own = AreSettings Debug (type_row Debug definition) definition definition.attrs own
 
@@ -239,7 +239,7 @@ pub record IsNamelessEnum (definition : DeriveInput) : Type 0 where
 abbrev pub name_needed : Kind → Span → EduceError
 name_needed kind place = record { kind = kind; span = place; words = [] }
 
--- why `Debug` is refused: what the type says of it is; what a variant or a field says of it is, by the forms that are allowed there;
+-- why `Debug` is rejected: what the type says of it is; what a variant or a field says of it is, by the forms that are allowed there;
 -- neither a name nor a field is shown of a struct, or of a variant that has brackets; or no name is shown of a unit variant, or of an
 -- enum without variants
 pub data IsShownCause (definition : DeriveInput) : EduceError → Type 0 where

@@ -1,5 +1,5 @@
 //! What the handlers of traits promise: which definitions they take, what the items of a trait are,
-//! what its functions mean and evaluate to, and why a definition is refused. The definitions stand in
+//! what its functions mean and evaluate to, and why a definition is rejected. The definitions stand in
 //! `specs/`; the code has the laws that layers above use.
 #![tactic(auto)]
 

@@ -74,7 +74,7 @@ fn is_whole(ast: &DeriveInput, bound: &Bound, has_custom_method: bool) -> bool
     !has_custom_method && is_closed_shape(ast) && is_unbounded(ast, bound)
 }
 
-/// Whether `clone` copies the value as a whole, by whether a field has a method of `Clone`. It is refused
+/// Whether `clone` copies the value as a whole, by whether a field has a method of `Clone`. It is rejected
 /// exactly where `Copy` is listed and an attribute of the type is wrong, or memory fails.
 pub fn can_use_bitwise_copy(
     alloc: Global,

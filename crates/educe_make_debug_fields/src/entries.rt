@@ -28,7 +28,7 @@ fn entry_row(named: bool) -> Row
 }
 
 /// What the attributes of these fields say of `Debug`, in their order, where the names of fields are
-/// shown or not. They are refused exactly where an attribute of one of them is wrong, or memory fails.
+/// shown or not. They are rejected exactly where an attribute of one of them is wrong, or memory fails.
 pub fn entry_settings(
     alloc: Global,
     task: Task<'_, '_>,

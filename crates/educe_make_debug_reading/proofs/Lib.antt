@@ -2,6 +2,6 @@
 pub mod Cases
 -- Names that are needed.
 pub mod Needs
--- Why the handler does not refuse.
+-- Why the handler does not reject.
 pub mod Enough
 pub mod Uncaused

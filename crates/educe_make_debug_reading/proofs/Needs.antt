@@ -1,4 +1,4 @@
--- Why a case is refused of which nothing is shown.
+-- Why a case is rejected of which nothing is shown.
 use Rattle.std.proofs.Common.{◌≡◌, ◌∙◌, ℕ, zero, suc, ◌<◌, Bool, true, false, ◌||◌, List, [], ◌∷◌, map, length, get_or, inl, inr, refl, ap, sym, subst, arith}
 use Rattle.std.specs.List.{AllByRecursion, AllZip, list_any}
 use Rattle.std.proofs.lemmas.Bool.{true≢false}
@@ -96,7 +96,7 @@ module _ (d : DeriveInput) where
       by_shape (Enum (v ∷ vs)) is zip = absurd zip
 
   module _ (traits : List Trait) (typed : IsTyped d traits) where
-    -- such a case is refused
+    -- such a case is rejected
     own_refused : AllByRecursion (IsNamingRead d) (variants_of d) → (shown : ShownCase) (kind : Kind) (place : Span) → IsOwnCase d shown kind place → IsNameless d shown
         → IsShownCause d (name_needed kind place)
     own_refused namings _ _ _ (IsOwnCase.of_struct shape is) none = IsShownCause.by_struct (struct_shown d shape) (struct_is d shape is typed.own) none

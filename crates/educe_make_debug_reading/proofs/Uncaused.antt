@@ -1,4 +1,4 @@
--- Why the handler of `Debug` does not refuse a definition.
+-- Why the handler of `Debug` does not reject a definition.
 use Rattle.std.proofs.Common.{◌≡◌, ◌∙◌, Bool, true, false, ◌||◌, List, [], ◌∷◌, map, inl, inr, refl, ap, sym, subst}
 use Rattle.std.specs.List.{AllByRecursion, list_any}
 use Rattle.std.proofs.lemmas.Bool.{true≢false}

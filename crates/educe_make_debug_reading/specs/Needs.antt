@@ -11,7 +11,7 @@ use Rattle.educe_make_debug_shown.specs.declared.debug_shown.Shown.{Shown}
 abbrev pub shows : Case → Bool
 shows case = is_shown case.name.text || list_any keeps case.settings
 
--- nothing is shown, and that is refused so
+-- nothing is shown, and that is rejected so
 pub record IsNeeded (shows : Bool) (own e : EduceError) : Type 0 where
   pub nothing : shows ≡ false
   pub is : e ≡ own

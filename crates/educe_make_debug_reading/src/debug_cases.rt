@@ -23,7 +23,7 @@ use educe_syntax::{FieldShape, Ident, Shape, Variant};
 use educe_tokens::{Kind, Seq, Span};
 use std::alloc::Global;
 
-/// The case of a struct whose attributes say this, of which this name is shown. It is refused exactly where
+/// The case of a struct whose attributes say this, of which this name is shown. It is rejected exactly where
 /// an attribute of a field is wrong, or memory fails.
 fn struct_case<'d>(
     alloc: Global,
@@ -61,7 +61,7 @@ fn is_unit(variant: &Variant) -> bool
     !has_brackets(variant.fields.form) && variant.fields.fields.len() == 0
 }
 
-/// Why a variant is refused of which nothing is shown.
+/// Why a variant is rejected of which nothing is shown.
 fn variant_need(unit: bool) -> Kind
     ensures { result ≡ variant_kind unit }
 {
@@ -83,7 +83,7 @@ fn need_place(variant: &Variant, unit: bool) -> Span
     }
 }
 
-/// The case of a variant of a type of which this name is shown. It is refused exactly where an attribute of
+/// The case of a variant of a type of which this name is shown. It is rejected exactly where an attribute of
 /// the variant or of a field is wrong, or memory fails.
 fn variant_case<'d>(
     alloc: Global,
@@ -166,7 +166,7 @@ fn all_cases<'d>(
     }
 }
 
-/// How the values of a definition are shown, where the attributes of its type say this. It is refused
+/// How the values of a definition are shown, where the attributes of its type say this. It is rejected
 /// exactly where an attribute of a variant or of a field is wrong, or memory fails.
 pub fn read_shown<'d>(alloc: Global, task: Task<'d, '_>, own: &Values) -> Result<Shown<'d>, Stop>
     requires typed { IsTyped task.ast.now task.listed.now }

@@ -1,4 +1,4 @@
-//! The names that are needed: where neither a name nor a field of a case is shown, it is refused.
+//! The names that are needed: where neither a name nor a field of a case is shown, it is rejected.
 ghost use Rattle.std.specs.Prelude.{◌≡◌, true, IfOk, IfErr};
 ghost use Rattle.std.specs.List.{list_any};
 ghost use Rattle.educe_attrs.specs.Causes.{OfStop};
@@ -31,7 +31,7 @@ fn shows(case: &Case<'_>) -> bool
     is_shown(&case.name) || shows_field(case)
 }
 
-/// Refuses for this kind at this place, where nothing is shown.
+/// Rejects for this kind at this place, where nothing is shown.
 fn check(alloc: Global, shows: bool, kind: Kind, place: Span) -> Result<(), Stop>
     ensures ok { IfOk result (λ _. shows ≡ true) }
     ensures err { IfErr result (λ s. OfStop (spec.IsNeeded shows (name_needed kind place)) s) }
@@ -43,7 +43,7 @@ fn check(alloc: Global, shows: bool, kind: Kind, place: Span) -> Result<(), Stop
     }
 }
 
-/// Refuses the cases of which nothing is shown, and an enum without variants of which no name is.
+/// Rejects the cases of which nothing is shown, and an enum without variants of which no name is.
 pub fn check_names(alloc: Global, task: Task<'_, '_>, shown: &Shown<'_>) -> Result<(), Stop>
     requires typed { IsTyped task.ast.now task.listed.now }
     requires ast { shown.now.ast.now ≡ task.ast.now }

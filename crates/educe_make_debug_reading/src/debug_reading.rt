@@ -19,7 +19,7 @@ use educe_make_debug_shown::Shown;
 use educe_syntax::DeriveInput;
 use std::alloc::Global;
 
-/// What the type says. It is refused exactly where an attribute of the type is wrong, or memory fails.
+/// What the type says. It is rejected exactly where an attribute of the type is wrong, or memory fails.
 fn read_type(alloc: Global, ast: &DeriveInput, listed: &[Trait]) -> Result<Values, Stop>
     requires { listed.now ≡ listing.listed ast.now }
     ensures are { IfOk result (λ own. own ≡ type_settings Debug ast.now) }
@@ -30,7 +30,7 @@ fn read_type(alloc: Global, ast: &DeriveInput, listed: &[Trait]) -> Result<Value
     type_values(alloc, Task { which, ast, listed })
 }
 
-/// How the values are shown where the type says this. It is refused exactly where an attribute of a variant
+/// How the values are shown where the type says this. It is rejected exactly where an attribute of a variant
 /// or a field is wrong, a name is needed, or memory fails.
 fn read_cases<'d>(
     alloc: Global,
@@ -53,7 +53,7 @@ fn read_cases<'d>(
     Ok(shown)
 }
 
-/// How the values of a definition are shown, and the bound that its type says. It is refused exactly where
+/// How the values of a definition are shown, and the bound that its type says. It is rejected exactly where
 /// an attribute of `Debug` is wrong, a name is needed, or memory fails.
 pub fn read<'d>(
     alloc: Global,

@@ -17,7 +17,7 @@ use educe_handlers::Task;
 use educe_syntax::Variant;
 use std::alloc::Global;
 
-/// What the attributes of a variant say of `Debug`. It is refused exactly where they have a cause, or
+/// What the attributes of a variant say of `Debug`. It is rejected exactly where they have a cause, or
 /// memory fails.
 pub fn naming_values(alloc: Global, task: Task<'_, '_>, variant: &Variant) -> Result<Values, Stop>
     requires listed { task.listed.now ≡ listing.listed task.ast.now }

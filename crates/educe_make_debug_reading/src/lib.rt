@@ -1,4 +1,4 @@
-//! What the attributes of a definition say of `Debug`, and why they are refused.
+//! What the attributes of a definition say of `Debug`, and why they are rejected.
 #![tactic(auto)]
 
 mod debug_cases;

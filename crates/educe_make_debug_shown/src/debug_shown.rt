@@ -18,7 +18,7 @@ pub struct Case<'d> {
     pub fields: &'d [Field],
     /// What the attributes of each field say.
     pub settings: Seq<FieldSettings>,
-    /// Why it is refused, where neither a name nor a field is shown.
+    /// Why it is rejected, where neither a name nor a field is shown.
     pub need: Kind,
     /// The place of that.
     pub place: Span,

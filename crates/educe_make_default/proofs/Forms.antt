@@ -47,7 +47,7 @@ pub struct_chosen : (d : DeriveInput) (shape : FieldShape) → d.shape ≡ Struc
 struct_chosen d shape is none = λ i. choice_by d (none i) (is i)
 
 module _ (d : DeriveInput) (lists : is_listed (listed d) Default ≡ true) (own : AreTypeSettings d (type_values d)) where
-  -- a struct whose fields have no cause is not refused
+  -- a struct whose fields have no cause is not rejected
   pub struct_uncaused : (shape : FieldShape) → d.shape ≡ Struct shape → AreFieldsRead (is_open d) d shape.fields → NoCause (OfHandler (handling d) Default)
   struct_uncaused shape is read = by_value_said (type_values d).expression refl
     where

@@ -232,7 +232,7 @@ module _ (d : DeriveInput) (own : AreTypeSettings d (type_values d)) (variants :
       pair_marked twice.first twice.later place read (pair_of (mark_values d) variants twice.front twice.between twice.back twice.first twice.later (sym are ∙ twice.are))
       twice.first_flag twice.later_flag twice.span_is
 
-  -- where the marks select none, `Default` is refused
+  -- where the marks select none, `Default` is rejected
   pub none_refused : (marks : List Values) (e : EduceError) → marks ≡ map (mark_values d) variants → AreMarksRead d variants → IsNone marks (type_values d).span e → IsDefaultCause d e
   none_refused marks e are read (IsNone.twice place twice) = marked_twice marks place are read twice
   none_refused marks e are read (IsNone.never many places) =

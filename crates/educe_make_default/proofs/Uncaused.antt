@@ -1,4 +1,4 @@
--- Why the handler of `Default` does not refuse a definition.
+-- Why the handler of `Default` does not reject a definition.
 use Rattle.std.proofs.Common.{◌≡◌, ◌∙◌, Bool, true, false, ◌&&◌, ◌||◌, List, ◌∷◌, ◌++◌, Some, None, inl, inr, refl, ap, sym, subst}
 use Rattle.std.specs.Prelude.{is_none}
 use Rattle.educe_tokens.specs.declared.error.EduceError.{EduceError}

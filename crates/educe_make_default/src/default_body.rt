@@ -119,7 +119,7 @@ fn whole<'d>(alloc: Global, value: Expr) -> Result<Made<'d>, AllocError>
     })
 }
 
-/// The form of `default` of a struct. It is refused exactly where the attributes of a field have a cause,
+/// The form of `default` of a struct. It is rejected exactly where the attributes of a field have a cause,
 /// or memory fails.
 pub fn struct_form<'d>(
     alloc: Global,
@@ -143,7 +143,7 @@ pub fn struct_form<'d>(
     }
 }
 
-/// The variant that is chosen by what the attributes of all say. It is refused exactly where none is.
+/// The variant that is chosen by what the attributes of all say. It is rejected exactly where none is.
 fn chosen_case<'d>(
     alloc: Global,
     task: Task<'d, '_>,
@@ -171,7 +171,7 @@ fn chosen_case<'d>(
     Ok(case(alloc, Some(&variant.ident), &variant.fields, settings)?)
 }
 
-/// The form of `default` of an enum of these variants, whose type has its attribute there. It is refused
+/// The form of `default` of an enum of these variants, whose type has its attribute there. It is rejected
 /// exactly where the attributes of a variant or a field have a cause, two variants are marked, or none is
 /// and there is not only one, or memory fails.
 pub fn enum_form<'d>(

@@ -59,7 +59,7 @@ pub fn own_of(values: Values) -> Own
     }
 }
 
-/// The form of `default`, and the types of which it takes the default values. It is refused exactly where
+/// The form of `default`, and the types of which it takes the default values. It is rejected exactly where
 /// the attributes of a variant or a field have a cause, or which variant is made is not determined, or
 /// memory fails.
 pub fn made<'d>(

@@ -17,7 +17,7 @@ use educe_tokens::{EduceError, Kind, Seq, Span};
 use std::alloc::Global;
 
 /// What the attributes of each variant say of `Default`, in their order, by whether the type has no
-/// value of its own. It is refused exactly where the attributes of one have a cause, or memory fails.
+/// value of its own. It is rejected exactly where the attributes of one have a cause, or memory fails.
 pub fn marks_of(
     alloc: Global,
     task: Task<'_, '_>,
@@ -44,7 +44,7 @@ pub fn marks_of(
     Ok(marks)
 }
 
-/// The place of the only mark so far, where this one is next; a second mark is refused where it stands.
+/// The place of the only mark so far, where this one is next; a second mark is rejected where it stands.
 fn next_mark(found: Option<usize>, place: usize, mark: &Values) -> Result<Option<usize>, Span>
     ensures next { IfOk result (λ next. next ≡ (if mark.now.flag then Some place else found)) }
     ensures only { IfOk result (λ _. mark.now.flag ≡ true → found ≡ None) }
@@ -61,7 +61,7 @@ fn next_mark(found: Option<usize>, place: usize, mark: &Values) -> Result<Option
     }
 }
 
-/// The place of the only one that is a mark, if one is; a second mark is refused where it stands.
+/// The place of the only one that is a mark, if one is; a second mark is rejected where it stands.
 fn only_mark(marks: &[Values]) -> Result<Option<usize>, Span>
     ensures ok { IfOk result (λ found. places_from 0 marks.now ≡ found_only found) }
     ensures err { IfErr result (AreTwice marks.now) }
@@ -73,7 +73,7 @@ fn only_mark(marks: &[Values]) -> Result<Option<usize>, Span>
     Ok(found)
 }
 
-/// The refusal for this, at this place.
+/// The rejection for this, at this place.
 fn refused(alloc: Global, kind: Kind, span: Span) -> Stop
     ensures { result ≡ Stop.Refused (record { kind = kind; span = span; words = [] }) }
 {
@@ -81,7 +81,7 @@ fn refused(alloc: Global, kind: Kind, span: Span) -> Stop
 }
 
 /// The place of the only variant, or of the one that is marked, by what their attributes say. It is
-/// refused exactly where there is none, at a second mark or at the attribute of the type.
+/// rejected exactly where there is none, at a second mark or at the attribute of the type.
 pub fn chosen_place(alloc: Global, marks: &[Values], own: Span) -> Result<usize, Stop>
     ensures ok { IfOk result (IsOnly marks.now) }
     ensures within { IfOk result (λ place. place < length marks.now) }

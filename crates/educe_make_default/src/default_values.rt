@@ -19,7 +19,7 @@ use educe_tokens::Seq;
 use std::alloc::Global;
 
 /// What the attributes of each field of a case say of `Default`, in their order, where `default` writes
-/// them or does not. It is refused exactly where the attributes of one have a cause, or memory fails.
+/// them or does not. It is rejected exactly where the attributes of one have a cause, or memory fails.
 pub fn values_of(
     alloc: Global,
     task: Task<'_, '_>,

@@ -20,7 +20,7 @@ use educe_tokens::{Seq, Word};
 use std::alloc::Global;
 
 /// The block of `hash`. Fields are read by copies where they have to be, and the types that bounds speak
-/// of are seen. It is refused exactly where an attribute of a variant or a field is wrong, or memory fails.
+/// of are seen. It is rejected exactly where an attribute of a variant or a field is wrong, or memory fails.
 fn forms<'d>(
     alloc: Global,
     task: Task<'d, '_>,

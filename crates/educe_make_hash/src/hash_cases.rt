@@ -30,7 +30,7 @@ use educe_syntax::{ExprPath, Field, Ident, Variant};
 use educe_tokens::Seq;
 use std::alloc::{AllocError, Global};
 
-/// The block for a struct of these fields, which are read by copies where they have to be. It is refused
+/// The block for a struct of these fields, which are read by copies where they have to be. It is rejected
 /// exactly where an attribute of a field is wrong, or memory fails.
 pub fn struct_block<'d>(
     alloc: Global,
@@ -87,7 +87,7 @@ fn arm(
     })
 }
 
-/// The arm of the variant at a place. It is refused exactly where an attribute of the variant or of a
+/// The arm of the variant at a place. It is rejected exactly where an attribute of the variant or of a
 /// field is wrong, or memory fails.
 fn variant_arm<'d>(
     alloc: Global,
@@ -153,7 +153,7 @@ fn match_block(alloc: Global, arms: Arms) -> Result<Forms, AllocError>
     Ok(block)
 }
 
-/// The block for an enum of these variants. It is refused exactly where an attribute of a variant or of a
+/// The block for an enum of these variants. It is rejected exactly where an attribute of a variant or of a
 /// field is wrong, or memory fails.
 pub fn enum_block<'d>(
     alloc: Global,

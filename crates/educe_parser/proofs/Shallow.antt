@@ -22,7 +22,7 @@ name_shallow : (tokens : Tokens) (left : ℕ) → read depth_limit name tokens �
 unfolding name run
 name_shallow tokens left h = expect_fails (accepts Name) tokens left (made_fails (expect (accepts Name) tokens) (λ found _. name_of found) left h)
 
--- so the refusal where it stops is another one
+-- so the rejection where it stops is another one
 stop_shallow : (tokens : Tokens) (error : ParseError) → stop_of (read depth_limit name tokens) ≡ Some error → (refusal_of tokens error).kind ≢ kind.TooDeep
 stop_shallow tokens Memory stop = λ deep. cc
 stop_shallow tokens (Syntax left) stop = λ deep. cc

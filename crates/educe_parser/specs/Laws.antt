@@ -92,11 +92,11 @@ lawful_definition = lawful definition again.definition_again ready.definition_re
 
 -- What holds of definitions whose names are apart, and each list of tokens, within the limits.
 pub record DefinitionLaws : Type 0 where
-  -- the list is such a definition, or there is a cause why it is refused
+  -- the list is such a definition, or there is a cause why it is rejected
   pub decided : (tokens : Tokens) → ((found : DeriveInput) × IsDefinition tokens found) ⊎ HasCause (IsRefusalOf tokens)
   -- where it is one, no cause stands but out of memory
   pub uncaused : (tokens : Tokens) (found : DeriveInput) → IsDefinition tokens found → IsUncaused (IsRefusalOf tokens)
-  -- it is refused for one cause only
+  -- it is rejected for one cause only
   pub one_cause : (tokens : Tokens) → IsSingle (IsRefusalOf tokens)
   -- a cause has the words of its message, and its place
   pub reported : (tokens : Tokens) (e : EduceError) → IsRefusalOf tokens e → IsReported tokens e

@@ -17,7 +17,7 @@ pub fn rule_laws()
     ensures definition { RuleLaws definitions.definition }
 {}
 
-/// The same of definitions whose names are apart, and why tokens are refused that are none. Each part of
+/// The same of definitions whose names are apart, and why tokens are rejected that are none. Each part of
 /// a definition that is read is the reading of its tokens.
 pub fn definition_laws()
     ensures { DefinitionLaws }

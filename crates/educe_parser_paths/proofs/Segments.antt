@@ -27,7 +27,7 @@ ending_of_last [] = refl
 ending_of_last (s ∷ []) = refl
 ending_of_last (s ∷ t ∷ more) = ending_of_last (t ∷ more) ∙ ap ending_of (last_behind s t more)
 
--- a path that is `self`, `super` or `crate` alone is refused
+-- a path that is `self`, `super` or `crate` alone is rejected
 pub scope_refused : (budget : ℕ) (s t u : ParseStream) (leading : Bool) (found : List SegmentRead) → read budget (flag at_colons colons) s ≡ Ok (leading, t) → read budget type_segments t ≡ Ok (found, u)
     → (path : Path × Ending) → path ≡ path_read (leading, found) → not (is_path path.0) ≡ true → read budget type_path s ≡ Err (Syntax (length u.cursor))
 unfolding type_path run

@@ -1,4 +1,4 @@
--- What the calls answer, and why one refuses.
+-- What the calls answer, and why one rejects.
 pub use Rattle.educe_grammar.specs.Parsed
 pub use Rattle.educe_grammar.specs.Refusal
 pub use Rattle.educe_grammar.specs.Naming

@@ -1,4 +1,4 @@
--- A text has one lexical cause to be refused, out of memory aside.
+-- A text has one lexical cause to be rejected, out of memory aside.
 use Rattle.std.proofs.Common.{◌≡◌, ◌≢◌, ℕ, ◌+◌, ◌≤◌, true, Option, Some, None, List, [], ◌∷◌, ◌++◌, length, refl, sym, ap, ◌∙◌, subst, arith, nat_le, encode_utf8_all}
 use Rattle.std.proofs.lemmas.Bool.{and_parts, false≢true}
 use Rattle.educe_tokens_pieces.specs.declared.kind.Bracket.{Bracket}
@@ -195,7 +195,7 @@ bad_not_open text tokens before token behind inner own at lexes opened shallow =
 
 -- ---- causes
 
--- why tokens of a text are refused, by what stops first: `not_carried`, `no_piece`, or brackets
+-- why tokens of a text are rejected, by what stops first: `not_carried`, `no_piece`, or brackets
 module _ (text : List ℕ) where
   -- tokens, and a token that is bad
   bad_alone : (before other : List Token) (t u : Token) (behind after : List Token) → Lexes text (before ++ t ∷ behind) → Lexes text (other ++ u ∷ after) → BadAt [] before t → BadAt [] other u → t ≡ u

@@ -1,4 +1,4 @@
--- Why the brackets of tokens are refused, token by token.
+-- Why the brackets of tokens are rejected, token by token.
 use Rattle.std.proofs.Common.{◌≡◌, ℕ, suc, ◌+◌, ◌<◌, ◌≤◌, true, Some, List, [], ◌∷◌, ◌++◌, length, take, drop, get_or, refl, sym, ap, ◌∙◌, subst, arith, encode_utf8_all, append-nil}
 use Rattle.std.proofs.Math.Seq.{split_at, take-suc}
 use Rattle.std.proofs.lemmas.List.{take_all}
@@ -37,18 +37,18 @@ pub shallow_item : (ts : List Token) (i : ℕ) (t : Token) (outer : List Bracket
 shallow_item ts i t outer h e opened shallow within =
     subst (λ ks. nests 128 0 ks ≡ true) (sym (kinds_item ts i t h e)) (nests-push 128 [] outer (kinds (lexemes (take i ts))) t.kind opened shallow within)
 
--- the token that is refused meets those brackets
+-- the token that is rejected meets those brackets
 meets : (text : List ℕ) (ts : List Token) (i : ℕ) (t : Token) (outer : List Bracket) → Lexes text ts → i < length ts → t ≡ get_or ts i t → open_behind [] (kinds (lexemes (take i ts))) ≡ Some outer
     → IsShallow (lexemes (take i ts)) → Meets text (take i ts) t (drop (suc i) ts) outer
 meets text ts i t outer lexes h e opened shallow = record { lexes = subst (Lexes text) (token_split ts i t h e) lexes; opened = opened; shallow = shallow }
 
--- why a token that a loop has is refused
+-- why a token that a loop has is rejected
 pub refused_token : (text : List ℕ) (before behind : List Token) (t : Token) (outer : List Bracket) (cause : BracketError) → Meets text before t behind outer → IsCauseOfKind outer t.kind cause → IsLexicalCause text (refusal_of cause t.span)
 refused_token text before behind t outer WrongClose met is = IsLexicalCause.wrong_close before t behind outer met is
 refused_token text before behind t outer TooDeep met is = IsLexicalCause.too_deep before t behind outer is.0 met is.1 is.2
 refused_token text before behind t outer Alloc met is = IsLexicalCause.memory
 
--- the same of the refusal
+-- the same of the rejection
 pub token_cause : (text : List ℕ) (ts : List Token) (i : ℕ) (t : Token) (outer : List Bracket) (cause : BracketError) (e : EduceError) → i < length ts → t ≡ get_or ts i t
     → open_behind [] (kinds (lexemes (take i ts))) ≡ Some outer → IsShallow (lexemes (take i ts)) → IsCauseOfKind outer t.kind cause → e ≡ refusal_of cause t.span → Lexes text ts → IsLexicalCause text e
 token_cause text ts i t outer cause e h at opened shallow is refused lexes =
@@ -63,7 +63,7 @@ at_least_one text ts (o ∷ outer) some opened shallow lexes = IsLexicalCause.un
 pub all_shallow : (ts : List Token) (i : ℕ) → length ts ≤ i → IsShallow (lexemes (take i ts)) → IsShallow (lexemes ts)
 all_shallow ts i all shallow = subst (λ (us : List Token). IsShallow (lexemes us)) (take_all i ts all) shallow
 
--- brackets that are open at the end are refused there
+-- brackets that are open at the end are rejected there
 pub unclosed_cause : (text : List ℕ) (ts : List Token) (i end : ℕ) (outer : List Bracket) (e : EduceError) → length ts ≤ i → 0 < length outer
     → open_behind [] (kinds (lexemes (take i ts))) ≡ Some outer → IsShallow (lexemes (take i ts)) → e ≡ syntax_at (empty_at end) → Lexes text ts → length (encode_utf8_all text) ≡ end → IsLexicalCause text e
 unclosed_cause text ts i end outer e all some opened shallow is lexes bytes =

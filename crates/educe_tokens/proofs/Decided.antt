@@ -1,4 +1,4 @@
--- Each text has tokens whose brackets close in order, not too deep, or a cause of a refusal.
+-- Each text has tokens whose brackets close in order, not too deep, or a cause of a rejection.
 use Rattle.std.proofs.Common.{◌≡◌, ◌≢◌, ℕ, zero, suc, ◌+◌, ◌<◌, ◌≤◌, ◌⊎◌, inl, inr, Bool, true, false, cond, Option, Some, None, List, [], ◌∷◌, ◌++◌, length, map, take, drop, refl, sym, ap, ◌∙◌, subst, arith, append-nil, append_assoc, encode_utf8_all}
 use Rattle.std.proofs.Math.Nat.{eq-or-lt_of_le}
 use Rattle.std.proofs.lemmas.Bool.{and_parts}
@@ -35,7 +35,7 @@ record GoesOn (outer : List Bracket) (kind : TokenKind) : Type 0 where
   pub opened : open_after outer kind ≡ Some inner
   pub within : length inner ≤ 128
 
--- the token is refused for another cause than out of memory
+-- the token is rejected for another cause than out of memory
 record IsRefused (outer : List Bracket) (kind : TokenKind) : Type 0 where
   pub cause : BracketError
   pub is_cause : IsCauseOfKind outer kind cause
@@ -46,7 +46,7 @@ closing : (o b : Bracket) (outer : List Bracket) (same : Bool) → length (o ∷
 closing o b outer true within is = inl (record { inner = outer; opened = ap (λ s. cond s (Some outer) None) is; within = omega (arith, within) })
 closing o b outer false within is = inr (record { cause = bracket.WrongClose; is_cause = ap (λ s. cond s (Some outer) None) is; is_told = λ same. cc })
 
--- each token goes on or is refused
+-- each token goes on or is rejected
 one_more : (outer : List Bracket) (kind : TokenKind) → length outer ≤ 128 → GoesOn outer kind ⊎ IsRefused outer kind
 one_more outer (Start b) within =
     elim (eq-or-lt_of_le within) [
@@ -61,7 +61,7 @@ one_more outer (Literal l) within = inl (record { inner = outer; opened = refl; 
 one_more outer (Punct c joint) within = inl (record { inner = outer; opened = refl; within = within })
 one_more outer Doc within = inl (record { inner = outer; opened = refl; within = within })
 
--- the refusal of such a token is not out of memory
+-- the rejection of such a token is not out of memory
 told : (cause : BracketError) (place : Span) → cause ≢ bracket.Alloc → (refusal_of cause place).kind ≢ Alloc
 told bracket.WrongClose place other = λ same. cc
 told bracket.TooDeep place other = λ same. cc

@@ -248,7 +248,7 @@ last_token (t ∷ ts) last other some is =
     let index : length (t ∷ ts) - 1 ≡ length ts = omega arith in
     last_at t last ts other (is ∙ ap (λ k. get_or (t ∷ ts) k last) index)
 
--- where no piece is found, and the text doesn't end, it is refused at the last token
+-- where no piece is found, and the text doesn't end, it is rejected at the last token
 pub stuck_cause : (text rest : List ℕ) (old : List Token) (start bytes : ℕ) (e : EduceError) → Before text rest old start → 0 < length rest → piece_at rest ≡ None → length (encode_utf8_all text) ≡ bytes
     → e ≡ syntax_at (last_of (map span_of old) (empty_at bytes)) → IsLexicalCause text e
 stuck_cause text rest old start bytes e b more none long is =

@@ -1,4 +1,4 @@
--- Where tokens and refusals lie in their source.
+-- Where tokens and rejections lie in their source.
 use Rattle.std.proofs.Common.{◌≡◌, ℕ, ◌+◌, ◌-◌, Bool, true, false, cond, List, [], ◌∷◌, ◌++◌, length, take, drop, map, filter, refl, sym, ap, ◌∙◌, subst, arith, rules, append_assoc, chars, IsUtf8, encode_utf8_all, Result, Ok, Err, IfOk}
 use Rattle.std.specs.Prelude.{slice_range}
 use Rattle.std.specs.List.{AllByRecursion}
@@ -138,7 +138,7 @@ span_cut source span spelling utf8 lies =
 pub tokens_sliced : (source : List ℕ) (tokens : List Token) → IsUtf8 source → Lexes (chars source) tokens → AllByRecursion (IsSlice source) tokens
 tokens_sliced source tokens utf8 lexes = each_weaker (TokenLiesAt (chars source)) (IsSlice source) tokens (λ t. span_cut source t.span t.spelling utf8) (tokens_lie (chars source) tokens lexes)
 
--- the same where the answer may be a refusal
+-- the same where the answer may be a rejection
 pub answer_sliced : (source : List ℕ) (r : Result (List Token) EduceError) → IsUtf8 source → IfOk r (IsReading (chars source)) → IfOk r (λ tokens. AllByRecursion (IsSlice source) tokens)
 answer_sliced source (Ok tokens) utf8 reading = tokens_sliced source tokens utf8 reading.lexes
 answer_sliced source (Err e) utf8 reading = tt
@@ -150,7 +150,7 @@ tokens_placed : (source : List ℕ) (tokens : List Token) → IsUtf8 source → 
 tokens_placed source tokens utf8 lexes =
     each_weaker (TokenLiesAt (chars source)) (λ (t : Token). IsCharBoundary source t.span.start) tokens (λ t lies. (lies_placed source t.span t.spelling utf8 lies).0) (tokens_lie (chars source) tokens lexes)
 
--- ---- refusals
+-- ---- rejections
 
 -- the characters of pieces, and how many bytes they have
 pub record HasFront (text rest : List ℕ) (start end : ℕ) : Type 0 where
@@ -209,7 +209,7 @@ met_placed : (source : List ℕ) (before : List Token) (token : Token) (behind :
 met_placed source before token behind utf8 lexes =
     each_at (λ (t : Token). IsCharBoundary source t.span.start) before behind token (tokens_placed source (before ++ token ∷ behind) utf8 lexes)
 
--- each refusal lies where a character begins, or at the end
+-- each rejection lies where a character begins, or at the end
 pub cause_placed : (source : List ℕ) (e : EduceError) → IsUtf8 source → IsLexicalCause (chars source) e → IsCharBoundary source e.span.start
 cause_placed source e utf8 (IsLexicalCause.not_carried before literal kind rest reads carried is) =
     let first = reads_first (chars source) rest before (literal ∷ []) reads in
@@ -221,7 +221,7 @@ cause_placed source e utf8 (IsLexicalCause.unclosed tokens innermost outer lexes
 cause_placed source e utf8 (IsLexicalCause.too_deep before token behind outer b meets opens full) = met_placed source before token behind utf8 meets.lexes
 cause_placed source e utf8 IsLexicalCause.memory = IsCharBoundary-start source utf8
 
--- each refusal has the words of its kind
+-- each rejection has the words of its kind
 pub cause_words : (text : List ℕ) (e : EduceError) → IsLexicalCause text e → HasWords e.kind e.words
 cause_words text e (IsLexicalCause.not_carried before literal kind rest reads carried is) = refl
 cause_words text e (IsLexicalCause.no_piece before rest reads carried some none) = refl

@@ -1,4 +1,4 @@
--- A text with tokens whose brackets close in order, not too deep, has no cause to be refused.
+-- A text with tokens whose brackets close in order, not too deep, has no cause to be rejected.
 use Rattle.std.proofs.Common.{◌≡◌, ◌≢◌, ℕ, ◌+◌, ◌⊎◌, inl, inr, true, false, Some, None, List, [], ◌∷◌, ◌++◌, length, refl, sym, ap, ◌∙◌, subst, arith, append-nil, Result, Ok, Err, IfOk, IfErr}
 use Rattle.std.proofs.lemmas.Bool.{and_parts, false≢true}
 use Rattle.educe_tokens_pieces.specs.declared.kind.Bracket.{Bracket}
@@ -109,7 +109,7 @@ pub gives_aside : (text : List ℕ) (r : Result (List Token) EduceError) → IfO
 gives_aside text (Ok own) ok err found lexes balanced shallow = (lexes_aside_one text (lexemes own) found (lexes_aside text own ok.lexes) lexes, tt)
 gives_aside text (Err e) ok err found lexes balanced shallow = (tt, no_cause_aside text found lexes balanced shallow e err)
 
--- tokens that close in order and nest deeper are refused for that, unless memory is short
+-- tokens that close in order and nest deeper are rejected for that, unless memory is short
 pub refuses_deep : (text : List ℕ) (r : Result (List Token) EduceError) → IfOk r (IsReading text) → IfErr r (IsLexicalCause text) → (found : List Lexeme) → LexesAside text found → IsBalanced found → (IsShallow found → ⊥)
     → IfOk r (λ _. ⊥) × IfErr r (λ e. (e.kind ≡ TooDeep) ⊎ (e.kind ≡ Alloc))
 refuses_deep text (Ok own) ok err found lexes balanced deeper = (deeper (subst IsShallow (lexes_aside_one text (lexemes own) found (lexes_aside text own ok.lexes) lexes) ok.shallow), tt)

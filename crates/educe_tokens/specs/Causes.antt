@@ -1,4 +1,4 @@
--- Why a text has no tokens whose brackets close in order, not too deep: for each refusal its place and its words. Of
+-- Why a text has no tokens whose brackets close in order, not too deep: for each rejection its place and its words. Of
 -- several causes the first is meant: an unsupported literal, or a place where no piece fits, counts only where each
 -- piece before is carried; brackets count only where the whole text is pieces that are carried, and of these a later one
 -- only where those before close in order and nest no deeper.

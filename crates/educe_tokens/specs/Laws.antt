@@ -24,7 +24,7 @@ use Rattle.educe_tokens.specs.Text.{IsWellFormed, is_written, text_of}
 
 -- ---- lexing
 
--- What holds of each text, its tokens and its causes of a refusal.
+-- What holds of each text, its tokens and its causes of a rejection.
 pub record LexingLaws : Type 0 where
   -- the text is tokens whose brackets close in order, at most 128 deep, or has a cause
   pub decided : (text : List ℕ) → ((tokens : List Token) × IsReading text tokens) ⊎ HasCause (IsLexicalCause text)

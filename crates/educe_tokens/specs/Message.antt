@@ -1,4 +1,4 @@
--- The messages of refusals.
+-- The messages of rejections.
 use Rattle.std.specs.Prelude.{◌≡◌, ◌<◌, ℕ, List, [], ◌∷◌, ◌++◌, length, map, codes, encode_utf8_all}
 use Rattle.std.specs.Fmt.{signed_decimal}
 use Rattle.educe_tokens.specs.declared.error.Kind.{Kind}

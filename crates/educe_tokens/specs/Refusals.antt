@@ -1,4 +1,4 @@
--- The refusals of texts, with their places and words.
+-- The rejections of texts, with their places and words.
 use Rattle.std.specs.Prelude.{◌≡◌, ◌⊎◌, ℕ, List, [], ◌∷◌}
 use Rattle.educe_tokens.specs.declared.span.Span.{Span}
 use Rattle.educe_tokens.specs.declared.error.EduceError.{EduceError}
@@ -23,6 +23,6 @@ citing_at kind place spelling = record { kind = kind; span = place; words = spel
 abbrev pub not_carried_at : Span → List ℕ → EduceError
 not_carried_at place literal = citing_at NotCarried place literal
 
--- the refusal with this word, or that for out of memory
+-- the rejection with this word, or that for out of memory
 abbrev pub Cites : Kind → Span → List ℕ → EduceError → Type 0
 Cites kind place spelling e = (e ≡ placeless Alloc) ⊎ (e ≡ citing_at kind place spelling)

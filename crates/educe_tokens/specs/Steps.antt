@@ -29,13 +29,13 @@ pub data IsCauseOfPiece (spelling : List ℕ) (span : Span) : PieceKind → Educ
   not_carried : (kind : UncarriedKind) → IsCauseOfPiece spelling span (Uncarried kind) (not_carried_at span spelling)
   memory : (kind : PieceKind) → IsCauseOfPiece spelling span kind (placeless Alloc)
 
--- why one more token is refused behind these open brackets, the innermost first
+-- why one more token is rejected behind these open brackets, the innermost first
 abbrev pub IsCauseOfKind : List Bracket → TokenKind → BracketError → Type 0
 IsCauseOfKind outer kind bracket.WrongClose = open_after outer kind ≡ None
 IsCauseOfKind outer kind bracket.TooDeep = (b : Bracket) × (kind ≡ Start b) × (length outer ≡ NESTING)
 IsCauseOfKind outer kind bracket.Alloc = Unit {0}
 
--- the refusal for it, of a token that lies there
+-- the rejection for it, of a token that lies there
 abbrev pub refusal_of : BracketError → Span → EduceError
 refusal_of bracket.WrongClose place = syntax_at place
 refusal_of bracket.TooDeep place = too_deep_at place

@@ -14,7 +14,7 @@ use std::alloc::Global;
 /// How many brackets may be open at once.
 pub const NESTING: usize = 128;
 
-/// Why a token is refused behind others.
+/// Why a token is rejected behind others.
 #[derive(Clone, Copy, Debug, PartialEq, Eq)]
 pub enum BracketError {
     /// It closes another bracket than the innermost one, or none.
@@ -51,7 +51,7 @@ fn take_kind(outer: &mut Vec<Bracket>, kind: TokenKind) -> Result<(), BracketErr
     }
 }
 
-/// The refusal for a token that lies there.
+/// The rejection for a token that lies there.
 fn refusal(alloc: Global, cause: BracketError, place: Span) -> EduceError
     ensures { result ≡ refusal_of cause place }
 {
@@ -63,7 +63,7 @@ fn refusal(alloc: Global, cause: BracketError, place: Span) -> EduceError
 }
 
 /// Whether the brackets of a text of so many bytes close in order, at most `NESTING` open at
-/// once (Rust Reference, Delimiters). It is refused at the first bracket that closes another than
+/// once (Rust Reference, Delimiters). It is rejected at the first bracket that closes another than
 /// the innermost one or opens too deep, or else empty at the end, where brackets are open there.
 pub fn check_brackets(alloc: Global, tokens: &TokenStream, end: u32) -> Result<(), EduceError>
     ensures balanced { OnOk result (IsBalanced (lexemes tokens.now)) }

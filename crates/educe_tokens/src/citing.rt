@@ -1,4 +1,4 @@
-//! Refusals that cite a spelling.
+//! Rejections that cite a spelling.
 ghost use Rattle.educe_tokens.specs.Refusals.{Cites};
 
 use crate::error::{EduceError, Kind};
@@ -7,7 +7,7 @@ use crate::spelling::Spelling;
 use std::alloc::Global;
 
 impl EduceError {
-    /// A refusal whose one word is a spelling. Where memory for it fails, the refusal is that.
+    /// A rejection whose one word is a spelling. Where memory for it fails, the rejection is that.
     pub fn citing(alloc: Global, kind: Kind, span: Span, spelling: &Spelling) -> EduceError
         ensures { Cites kind span spelling.now result }
     {

@@ -1,4 +1,4 @@
-//! Why a text is refused.
+//! Why a text is rejected.
 ghost use Rattle.std.specs.Prelude.{◌≡◌, ◌≢◌, [], ◌∷◌, ◌++◌, map, encode_utf8_all, IfOk, OnOk};
 ghost use Rattle.std.specs.String.{string_bytes};
 ghost use Rattle.educe_tokens.specs.Message.{HasWords, incorrect_format, lines_below, message_of};
@@ -11,7 +11,7 @@ use std::alloc::{AllocError, Global};
 /// Texts in their order.
 pub type Texts = Seq<Spelling>;
 
-/// The kinds of refusals.
+/// The kinds of rejections.
 #[derive(Clone, Copy, Debug, PartialEq, Eq)]
 pub enum Kind {
     /// The text is no list of tokens whose brackets close in order, or has no reading by the
@@ -60,7 +60,7 @@ pub enum Kind {
     Alloc,
 }
 
-/// A refusal: its kind, its place, and the words that its message cites.
+/// A rejection: its kind, its place, and the words that its message cites.
 #[derive(Drop)]
 pub struct EduceError {
     pub kind: Kind,
@@ -69,7 +69,7 @@ pub struct EduceError {
 }
 
 impl EduceError {
-    /// A refusal without words. It takes no memory.
+    /// A rejection without words. It takes no memory.
     pub fn new(alloc: Global, kind: Kind, span: Span) -> EduceError
         ensures { result ≡ record { kind = kind; span = span; words = [] } }
     {
@@ -80,7 +80,7 @@ impl EduceError {
         }
     }
 
-    /// A refusal with one word.
+    /// A rejection with one word.
     pub fn with_word(
         alloc: Global,
         kind: Kind,

@@ -14,7 +14,7 @@ pub fn limits()
 {}
 
 /// Each text is tokens whose brackets close in order, at most 128 deep, or has a cause of a
-/// refusal, and never both; there is one such list, and one such cause.
+/// rejection, and never both; there is one such list, and one such cause.
 pub fn lexing_laws()
     ensures { LexingLaws }
 {}

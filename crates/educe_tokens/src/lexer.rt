@@ -41,7 +41,7 @@ fn push_token(
     })
 }
 
-/// The refusal of the unsupported literal that lies there.
+/// The rejection of the unsupported literal that lies there.
 fn not_carried(alloc: Global, kind: UncarriedKind, source: &Spelling, span: Span) -> EduceError
     requires { IsPlace source.now span }
     ensures { IsCauseOfPiece (cut_out source.now span) span (PieceKind.Uncarried kind) result }
@@ -90,7 +90,7 @@ fn last_place(tokens: &[Token], end: u32) -> Span
 }
 
 /// The tokens among the pieces of a source, each a part of the shared text, which is the same. It is
-/// refused where no piece fits, at the last token before, or at an unsupported literal, whichever
+/// rejected where no piece fits, at the last token before, or at an unsupported literal, whichever
 /// comes first. Blanks are skipped in one step.
 fn token_pieces(alloc: Global, source: &str, shared: &Spelling) -> Result<TokenStream, EduceError>
     requires limit { length source.now ≤ SOURCE_LIMIT }
@@ -133,7 +133,7 @@ fn checked_tokens(alloc: Global, source: &str) -> Result<TokenStream, EduceError
 
 /// The tokens of a text (Rust Reference, Lexical structure), whose brackets close in order, at most
 /// 128 of them open at once. Blanks and comments that are no documentation are left out. A text is
-/// refused for the first of these, with its place:
+/// rejected for the first of these, with its place:
 /// - no piece fits (`Syntax`, at the last token before, or, where no token stands before, empty at
 ///   the end of the text), or a literal is unsupported (`NotCarried`, at the literal, with its
 ///   spelling as the word), whichever comes first in the text;
@@ -155,17 +155,17 @@ pub fn lex(alloc: Global, source: &str) -> Result<TokenStream, EduceError>
     // The words are those that the message needs, and the place begins at a character or at the end.
     ensures words { IfErr result (λ e. HasWords e.kind e.words) }
     ensures place { IfErr result (λ e. IsCharBoundary source.now e.span.start) }
-    // Nothing in a text that is answered is a cause of a refusal.
+    // Nothing in a text that is answered is a cause of a rejection.
     ensures uncaused { IfOk result (λ _. (e : EduceError) → IsLexicalCause (chars source.now) e → e.kind ≡ Kind.Alloc) }
     // Where the text has such tokens they are answered, unless memory fails: there is no other
-    // reading, and no other refusal.
+    // reading, and no other rejection.
     ensures only { (tokens : List Token) → Lexes (chars source.now) tokens →
         IsBalanced (lexemes tokens) → IsShallow (lexemes tokens) → Gives result tokens }
     // So a printed text is read back.
     ensures back { (found : List Lexeme) → LexesAside (chars source.now) found →
         IsBalanced found → IsShallow found →
         IfOk result (λ tokens. lexemes tokens ≡ found) × IfErr result (λ e. e.kind ≡ Kind.Alloc) }
-    // A text whose brackets close in order and nest deeper is refused for that, unless memory fails.
+    // A text whose brackets close in order and nest deeper is rejected for that, unless memory fails.
     ensures deep { (found : List Lexeme) → LexesAside (chars source.now) found →
         IsBalanced found → (IsShallow found → ⊥) →
         IfOk result (λ _. ⊥) ×

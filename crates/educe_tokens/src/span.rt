@@ -14,7 +14,7 @@ pub struct Span {
 }
 
 impl Span {
-    /// The span of no place: of what the program makes, and of a refusal that has none.
+    /// The span of no place: of what the program makes, and of a rejection that has none.
     pub const NONE: Span = Span { start: 0, end: 0 };
 
     /// The line and the column of the start, both counted from 1: a line ends at a line feed, a

@@ -6,7 +6,7 @@ use Rattle.educe_tokens.specs.Laws.{LexingLaws, PrintingLaws, KindLaws, CopyingL
 use Rattle.educe_tokens.proofs.Ascii.{chars-ascii}
 use Rattle.educe_tokens.proofs.Lawful as lawful
 
--- texts have one list of tokens or one cause of a refusal
+-- texts have one list of tokens or one cause of a rejection
 pub lawful_lexing : LexingLaws
 lawful_lexing = lawful.lawful_lexing
 

@@ -50,7 +50,7 @@ fn cites_lines(kind: Kind) -> bool
     matches!(kind, Kind::AttributeIncorrectFormat)
 }
 
-/// Whether the words of a refusal are those that its message cites.
+/// Whether the words of a rejection are those that its message cites.
 fn is_worded(error: &EduceError) -> bool
     ensures some { IsTrue result → error.now.kind ≢ Kind.Alloc }
     ensures words { IsTrue result → HasWords error.now.kind error.now.words }
@@ -62,7 +62,7 @@ fn is_worded(error: &EduceError) -> bool
     }
 }
 
-/// The message of a refusal.
+/// The message of a rejection.
 fn message(alloc: Global, error: &EduceError) -> Result<String, Fail> {
     if is_worded(error) {
         Ok(error.message(alloc)?)
@@ -71,7 +71,7 @@ fn message(alloc: Global, error: &EduceError) -> Result<String, Fail> {
     }
 }
 
-/// The line and the column of a refusal.
+/// The line and the column of a rejection.
 fn place(source: &str, error: &EduceError) -> Result<(u32, u32), Fail> {
     if source.len() <= SOURCE_LIMIT && source.is_char_boundary(error.span.start as usize) {
         Ok(error.span.line_column(source))
@@ -80,14 +80,14 @@ fn place(source: &str, error: &EduceError) -> Result<(u32, u32), Fail> {
     }
 }
 
-/// The place and the message of a refusal, as a line.
+/// The place and the message of a rejection, as a line.
 pub(crate) fn line(alloc: Global, source: &str, error: &EduceError) -> Result<String, Fail> {
     let (line, column) = place(source, error)?;
     let message = message(alloc, error)?;
     Ok(format!(in alloc; "{line}:{column}: {message}")?)
 }
 
-/// What an attribute says in words, or the line of its refusal.
+/// What an attribute says in words, or the line of its rejection.
 pub(crate) fn answer<A: Worded + Drop>(
     alloc: Global,
     source: &str,

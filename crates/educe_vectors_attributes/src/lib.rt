@@ -1,5 +1,5 @@
 //! Tests of the attributes: for each row of the attribute table each form that is allowed, each kind
-//! of refusal with its whole line, and the switches of the builders (documentation of `educe`, each
+//! of rejection with its whole line, and the switches of the builders (documentation of `educe`, each
 //! trait's section).
 #![tactic(auto)]
 

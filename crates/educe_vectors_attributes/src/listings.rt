@@ -21,7 +21,7 @@ fn names(alloc: Global, traits: &[Trait]) -> Result<String, AllocError> {
     Ok(names)
 }
 
-/// The refusal; that of an `educe` attribute that is no list has the message of an attribute of
+/// The rejection; that of an `educe` attribute that is no list has the message of an attribute of
 /// another form than its place allows.
 fn with_format(error: EduceError) -> EduceError {
     match error.kind {
@@ -44,7 +44,7 @@ fn end_of(source: &str) -> Result<u32, Fail> {
     }
 }
 
-/// The names of the traits that a type with these attributes lists, or the line of the refusal.
+/// The names of the traits that a type with these attributes lists, or the line of the rejection.
 pub(crate) fn listing(alloc: Global, text: &str) -> Result<String, Fail> {
     let source = with_struct(alloc, text)?;
     let end = end_of(&source)?;
@@ -57,7 +57,7 @@ pub(crate) fn listing(alloc: Global, text: &str) -> Result<String, Fail> {
     }
 }
 
-/// The place at which a text that lists no trait is refused.
+/// The place at which a text that lists no trait is rejected.
 fn refused_place(alloc: Global, source: &str) -> Result<Span, Fail> {
     let end = end_of(source)?;
     let attributes = attributes(alloc, source)?;
@@ -69,7 +69,7 @@ fn refused_place(alloc: Global, source: &str) -> Result<Span, Fail> {
     }
 }
 
-/// The text is refused from its start to its end.
+/// The text is rejected from its start to its end.
 pub(crate) fn check_whole(alloc: Global, source: &str) -> Result<(), Fail> {
     let place = refused_place(alloc, source)?;
     check_at(source, (place.start, place.end), (0, end_of(source)?))

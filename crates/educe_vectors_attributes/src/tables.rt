@@ -1,4 +1,4 @@
-//! The tables (`educe_vectors_checks`, `rows.rt`): a text, and the place and the message of its refusal, or what it says.
+//! The tables (`educe_vectors_checks`, `rows.rt`): a text, and the place and the message of its rejection, or what it says.
 
 mod alike;
 mod bounds;

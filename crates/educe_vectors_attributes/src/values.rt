@@ -90,7 +90,7 @@ pub(crate) fn read_place(alloc: Global, source: &str) -> Result<String, Fail> {
     span_words(alloc, read?.span)
 }
 
-/// The refusal that is answered.
+/// The rejection that is answered.
 fn refusal<T: Drop>(answered: Result<T, EduceError>) -> Result<EduceError, Fail> {
     match answered {
         Ok(_) => Err(Fail::from("it is read")),

@@ -31,7 +31,7 @@ fn string(alloc: Global, source: &str) -> Result<String, Fail> {
     Ok(string_value(alloc, &token(alloc, source)?)?.ok_or(source)?)
 }
 
-/// Whether a refusal cites this word first, or none where it is empty.
+/// Whether a rejection cites this word first, or none where it is empty.
 pub fn cites(error: &EduceError, word: &str) -> bool {
     match error.words.get(0) {
         Some(cited) => cited.as_str() == word,
@@ -39,7 +39,7 @@ pub fn cites(error: &EduceError, word: &str) -> bool {
     }
 }
 
-/// The kind of a refusal, and behind it the first word that it cites.
+/// The kind of a rejection, and behind it the first word that it cites.
 fn shown(alloc: Global, error: &EduceError) -> Result<String, AllocError> {
     let kind = error.kind;
     match error.words.get(0) {

@@ -11,7 +11,7 @@
 //! - `: holds TEXT`: it is expanded, to a text that has this in it
 //! - `: items N`: it is expanded, to this many items, each of which is a line of the text
 //! - `: expands`: it is expanded
-//! - `: refused TEXT`: it is refused with these notes; where several answers begin so, with one of them
+//! - `: refused TEXT`: it is rejected with these notes; where several answers begin so, with one of them
 //!
 //! **What the functions of its impls evaluate to**, over values `V(N, ..)` of the variant at the place `V`, whose fields
 //! have the numbers `N`:
@@ -76,7 +76,7 @@ fn text_of(found: &Outcome) -> Result<&str, Fail> {
     )
 }
 
-/// The notes of a run, without the end of their last line, where it refuses its input.
+/// The notes of a run, without the end of their last line, where it rejects its input.
 fn notes_of(found: &Outcome) -> Result<&str, Fail> {
     let text = shown(found.text.bytes());
     check_at(text, found.code, 1)?;

@@ -11,13 +11,13 @@ use std::test::Fail;
 pub(crate) enum Asked {
     /// Which answer it gets as a definition.
     Definition,
-    /// Where a call refuses it, behind a text that the call reads.
+    /// Where a call rejects it, behind a text that the call reads.
     Pair(Call),
     /// Which answers it gets at a limit, and past it.
     Limit,
-    /// Where a call refuses it past a limit.
+    /// Where a call rejects it past a limit.
     LimitOfCall,
-    /// Where it is refused as a definition, and the words.
+    /// Where it is rejected as a definition, and the words.
     Refusal,
     /// The form of the type of its first field, and the text of this, by a copy.
     FormOfCopy,

@@ -30,10 +30,10 @@ pub(crate) enum Call {
     Predicates,
 }
 
-/// The kind and the place of a refusal, where there is one.
+/// The kind and the place of a rejection, where there is one.
 type Refusal = Option<(Kind, (u32, u32))>;
 
-/// What the refusal is called.
+/// What the rejection is called.
 fn kind_name(kind: Kind) -> &'static str {
     match kind {
         Kind::Syntax => "Syntax",
@@ -44,7 +44,7 @@ fn kind_name(kind: Kind) -> &'static str {
     }
 }
 
-/// What an answer is called: `Ok`, or what the refusal is called.
+/// What an answer is called: `Ok`, or what the rejection is called.
 fn answer_name<T: Drop>(answer: Result<T, EduceError>) -> &'static str {
     match answer {
         Ok(_) => "Ok",
@@ -52,7 +52,7 @@ fn answer_name<T: Drop>(answer: Result<T, EduceError>) -> &'static str {
     }
 }
 
-/// The kind and the place of the refusal that is answered, if one is.
+/// The kind and the place of the rejection that is answered, if one is.
 fn refusal<T: Drop>(answer: Result<T, EduceError>) -> Refusal {
     match answer {
         Ok(_) => None,
@@ -60,7 +60,7 @@ fn refusal<T: Drop>(answer: Result<T, EduceError>) -> Refusal {
     }
 }
 
-/// How a call refuses the tokens, if it does.
+/// How a call rejects the tokens, if it does.
 fn refusal_of(alloc: Global, call: Call, tokens: &TokenSlice) -> Refusal {
     match call {
         Call::Derive => refusal(parse_derive_input(alloc, tokens)),

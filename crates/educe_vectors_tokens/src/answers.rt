@@ -24,7 +24,7 @@ pub(crate) enum OfCharacters {
     PieceAt,
 }
 
-/// What is asked of the tokens of a text, or of the refusal.
+/// What is asked of the tokens of a text, or of the rejection.
 #[derive(Clone, Copy)]
 pub(crate) enum OfTokens {
     /// The kinds; or the kind and the place.
@@ -82,7 +82,7 @@ fn of_tokens(alloc: Global, asked: OfTokens, tokens: &[Token]) -> Result<String,
     }
 }
 
-/// What is found of the tokens of a text, or of the refusal.
+/// What is found of the tokens of a text, or of the rejection.
 fn tokens_answer(alloc: Global, asked: OfTokens, text: &str) -> Result<String, Fail> {
     match lex_answer(alloc, text)? {
         Ok(tokens) => Ok(of_tokens(alloc, asked, tokens.as_slice())?),

@@ -1,4 +1,4 @@
-//! Of `educe_tokens`: tokens of texts and of templates, their printed text, values and refusals.
+//! Of `educe_tokens`: tokens of texts and of templates, their printed text, values and rejections.
 
 pub(crate) mod described;
 pub(crate) mod kinds;

@@ -20,7 +20,7 @@ fn first_attributes(ast: &DeriveInput) -> Option<&Attributes> {
     }
 }
 
-/// Why what the attributes of a variant say of `Clone` is refused.
+/// Why what the attributes of a variant say of `Clone` is rejected.
 fn clone_refused(alloc: Global, attributes: &Attributes) -> Option<EduceError> {
     let builder = clone::TypeAttributeBuilder {
         enable_flag: false,

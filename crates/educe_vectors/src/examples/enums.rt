@@ -1,4 +1,4 @@
-//! Worked examples of enums: the text of their comparisons, and where and why they are refused
+//! Worked examples of enums: the text of their comparisons, and where and why they are rejected
 //! (documentation of `educe`, PartialEq; PartialOrd; Ord; Rust Reference, Enumerations).
 
 use educe_vectors_runs::check_table;

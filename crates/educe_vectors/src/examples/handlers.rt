@@ -23,7 +23,7 @@ use educe_vectors_checks::{check_at, check_equal, check_rows};
 use std::alloc::Global;
 use std::test::Fail;
 
-/// What is answered, where nothing is refused.
+/// What is answered, where nothing is rejected.
 fn unstopped<T: Drop>(alloc: Global, answer: Result<T, Stop>) -> Result<T, Fail>
     ensures { IfOk result (λ x. answer ≡ Ok x) }
 {

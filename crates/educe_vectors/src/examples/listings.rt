@@ -1,4 +1,4 @@
-//! Worked examples of what a type lists: the traits, and why a listing is refused (documentation of
+//! Worked examples of what a type lists: the traits, and why a listing is rejected (documentation of
 //! `educe`, Traits).
 
 use educe_vectors_runs::check_table;

@@ -1,4 +1,4 @@
-//! Worked examples of texts with several causes of a refusal. A cause of an earlier phase is reported
+//! Worked examples of texts with several causes of a rejection. A cause of an earlier phase is reported
 //! before one of a later phase: the text, the names, what the type lists, the attributes.
 
 use educe_vectors_runs::check_table;

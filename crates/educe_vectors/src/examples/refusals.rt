@@ -1,4 +1,4 @@
-//! Worked examples of the line that says where and why a definition is refused.
+//! Worked examples of the line that says where and why a definition is rejected.
 
 use educe_vectors_runs::check_table;
 use std::test::Fail;

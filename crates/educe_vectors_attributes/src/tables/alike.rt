@@ -1,4 +1,4 @@
-//! What each row of the attribute table refuses in the same way: a trait once more, a trait that is not listed, and
+//! What each row of the attribute table rejects in the same way: a trait once more, a trait that is not listed, and
 //! one that is not supported (documentation of `educe`, Traits).
 
 use crate::answers::{check_fields, check_types};

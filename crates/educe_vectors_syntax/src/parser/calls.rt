@@ -1,4 +1,4 @@
-//! What the calls answer: trees by their text and their parts, refusals by their place and words.
+//! What the calls answer: trees by their text and their parts, rejections by their place and words.
 
 use super::{Call, kind_name};
 use crate::answers::{Asked, check};
@@ -180,7 +180,7 @@ fn definitions_and_their_copies_are_trees(rt: HostRuntime) -> Result<(), Fail> {
     told(copy, checked)
 }
 
-/// The refusal that is answered.
+/// The rejection that is answered.
 fn refused<T: Drop>(answer: Result<T, EduceError>) -> Result<EduceError, Fail> {
     match answer {
         Ok(_) => Err(Fail::from("read")),
@@ -188,7 +188,7 @@ fn refused<T: Drop>(answer: Result<T, EduceError>) -> Result<EduceError, Fail> {
     }
 }
 
-/// The kind and the place of a refusal, and the words that it cites.
+/// The kind and the place of a rejection, and the words that it cites.
 fn refusal_text(alloc: Global, error: &EduceError) -> Result<String, AllocError> {
     let Span { start, end } = error.span;
     let mut text = format!(in alloc; "{} {start}..{end}", kind_name(error.kind))?;
@@ -198,7 +198,7 @@ fn refusal_text(alloc: Global, error: &EduceError) -> Result<String, AllocError>
     Ok(text)
 }
 
-/// How a definition is refused.
+/// How a definition is rejected.
 pub(crate) fn definition_refused(alloc: Global, source: &str) -> Result<String, Fail> {
     let tokens = lexed_slice(alloc, source)?;
     let error = refused(parse_derive_input(alloc, &tokens))?;

@@ -120,7 +120,7 @@ fn placed(alloc: Global, outer: &str, inner: &TokenStream) -> Result<TokenSlice,
     Ok(TokenSlice::new(alloc, tokens)?)
 }
 
-/// How a call refuses the text with the part so often, if it does. The lexer, which refuses as many
+/// How a call rejects the text with the part so often, if it does. The lexer, which rejects as many
 /// brackets as the parser, reads the text and the parts apart.
 fn refusal_with(
     alloc: Global,
@@ -132,13 +132,13 @@ fn refusal_with(
     Ok(refusal_of(alloc, call, &placed(alloc, nesting.outer, &inner)?))
 }
 
-/// How far a refusal is behind a place.
+/// How far a rejection is behind a place.
 fn behind(refusal: Refusal, place: usize) -> Option<(&'static str, usize)> {
     let (kind, (start, _)) = refusal?;
     Some((kind_name(kind), (start as usize).checked_sub(place)?))
 }
 
-/// How a call refuses the text with the part once too often: so far behind the start of the last part.
+/// How a call rejects the text with the part once too often: so far behind the start of the last part.
 fn refused_past(alloc: Global, call: Call, nesting: &Nesting) -> Result<String, Fail> {
     let times = nesting.times.saturating_add(1);
     let last = nesting.times.saturating_mul(nesting.start.len());
@@ -147,7 +147,7 @@ fn refused_past(alloc: Global, call: Call, nesting: &Nesting) -> Result<String, 
     Ok(format!(in alloc; "{name} at {behind}")?)
 }
 
-/// A call reads the text with the part so often, and refuses it with the part once more.
+/// A call reads the text with the part so often, and rejects it with the part once more.
 pub(crate) fn refused_at(alloc: Global, row: &str) -> Result<String, Fail> {
     let (call, nesting) = read_call(row).ok_or(row)?;
     check_at(

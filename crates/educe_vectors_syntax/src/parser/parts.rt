@@ -1,5 +1,5 @@
 //! Names, metas, paths, expressions and predicates by themselves: beside each text that is read one
-//! that differs by a token and is refused.
+//! that differs by a token and is rejected.
 
 use super::{Call, Refusal, kind_name, refusal_of};
 use crate::answers::{Asked, check};
@@ -7,12 +7,12 @@ use educe_vectors_checks::{check_at, lexed_slice};
 use std::alloc::Global;
 use std::test::Fail;
 
-/// How a call refuses a text, if it does.
+/// How a call rejects a text, if it does.
 fn refused(alloc: Global, call: Call, text: &str) -> Result<Refusal, Fail> {
     Ok(refusal_of(alloc, call, &lexed_slice(alloc, text)?))
 }
 
-/// The kind and the place of a refusal, or `read`.
+/// The kind and the place of a rejection, or `read`.
 fn refusal_text(alloc: Global, call: Call, text: &str) -> Result<String, Fail> {
     match refused(alloc, call, text)? {
         Some((kind, (start, end))) => {
@@ -22,7 +22,7 @@ fn refusal_text(alloc: Global, call: Call, text: &str) -> Result<String, Fail> {
     }
 }
 
-/// How a call refuses the text behind `|`. It reads the one in front of it.
+/// How a call rejects the text behind `|`. It reads the one in front of it.
 pub(crate) fn refused_beside(alloc: Global, call: Call, texts: &str) -> Result<String, Fail> {
     let (front, behind) = texts.split_once('|').ok_or(texts)?;
     check_at(texts, refused(alloc, call, front.trim())?, None)?;

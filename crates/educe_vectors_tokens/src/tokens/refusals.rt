@@ -1,4 +1,4 @@
-//! Where and why a text is refused, and what is said of it.
+//! Where and why a text is rejected, and what is said of it.
 ghost use Rattle.std.specs.Prelude.{◌≢◌, ℕ, List, [], ◌∷◌};
 ghost use Rattle.educe_tokens.specs.Message.{HasWords};
 
@@ -7,7 +7,7 @@ use educe_tokens::{EduceError, Kind, Span, Spelling};
 use std::alloc::{AllocError, Global};
 use std::test::Fail;
 
-/// Why and where a text is refused.
+/// Why and where a text is rejected.
 fn reason(alloc: Global, error: &EduceError) -> Result<String, AllocError> {
     let Span { start, end } = error.span;
     format!(in alloc; "{:?} {start}..{end}", error.kind)
@@ -22,7 +22,7 @@ fn reason_with_words(alloc: Global, error: &EduceError) -> Result<String, AllocE
     Ok(reason)
 }
 
-/// What is asked of a refusal.
+/// What is asked of a rejection.
 pub(crate) fn refusal(
     alloc: Global,
     asked: OfTokens,
@@ -34,7 +34,7 @@ pub(crate) fn refusal(
     }
 }
 
-/// The message of a refusal that cites no word.
+/// The message of a rejection that cites no word.
 fn plain(alloc: Global, kind: Kind) -> Result<String, Fail>
     requires kind { kind ≢ Kind.Alloc }
     requires words { HasWords kind [] }
@@ -42,7 +42,7 @@ fn plain(alloc: Global, kind: Kind) -> Result<String, Fail>
     Ok(EduceError::new(alloc, kind, Span::NONE).message(alloc)?)
 }
 
-/// The message of a refusal that cites this word.
+/// The message of a rejection that cites this word.
 fn citing(alloc: Global, kind: Kind, word: &str) -> Result<String, Fail>
     requires kind { kind ≢ Kind.Alloc }
     requires words { (word : List ℕ) → HasWords kind (word ∷ []) }
@@ -51,13 +51,13 @@ fn citing(alloc: Global, kind: Kind, word: &str) -> Result<String, Fail>
     Ok(EduceError::with_word(alloc, kind, Span::NONE, word)?.message(alloc)?)
 }
 
-/// The message of a refusal of a rank.
+/// The message of a rejection of a rank.
 fn ranked(alloc: Global, rank: &str) -> Result<String, Fail> {
     let rank = rank.parse::<i64>().ok().ok_or(rank)?;
     plain(alloc, Kind::ReuseARank { rank })
 }
 
-/// The message of a refusal: the name of its kind, and its word or rank, if it has one.
+/// The message of a rejection: the name of its kind, and its word or rank, if it has one.
 pub(crate) fn message(alloc: Global, refusal: &str) -> Result<String, Fail> {
     let (kind, word) = refusal.split_once(' ').unwrap_or((refusal, ""));
     match kind {

@@ -7,7 +7,7 @@ use Rattle.educe_core.proofs.Causes.{cause_words}
 use Rattle.educe_core.proofs.Places.{cause_placed}
 use Rattle.educe_core.proofs.expansion.expand.Goals as goal
 
--- what follows from a cause holds of a refusal that has one
+-- what follows from a cause holds of a rejection that has one
 from_cause : {A : Type 0} (source : List ℕ) (P : EduceError → Type 0) (result : Result A EduceError) → ((e : EduceError) → IsCause source e → P e) → IfErr result (IsCause source) → IfErr result P
 from_cause source P (Ok found) follows caused = tt
 from_cause source P (Err error) follows caused = follows error caused

@@ -13,7 +13,7 @@ use Rattle.educe_grammar.specs.Rules.{path}
 use Rattle.educe_grammar.specs.Types.{is_path, path_of}
 use Rattle.educe_parser_expressions.proofs.expr_paths.local_expr_path.Goals as goal
 
--- a path that is `self`, `super` or `crate` alone is refused
+-- a path that is `self`, `super` or `crate` alone is rejected
 scope_refused : (budget : ℕ) (s t u : ParseStream) (leading : Bool) (found : List Segment) → read budget (flag at_colons colons) s ≡ Ok (leading, t) → read budget (path expr_segment) t ≡ Ok (found, u)
     → not (is_path (path_of leading found)) ≡ true → read budget local_expr_path s ≡ Err (Syntax (length u.cursor))
 unfolding local_expr_path run
