@@ -9,16 +9,16 @@ use Rattle.educe_attrs_rows.specs.declared.row.TheConstants.Row.{EMPTY}
 use Rattle.educe_attrs_places.specs.declared.place.FieldSettings.{FieldSettings}
 use Rattle.educe_attrs.specs.declared.bound_only.TypeAttribute.{TypeAttribute}
 
--- the trait alone, and `bound`
+-- The trait alone, and `bound`.
 abbrev pub bound_row : Bool → Bool → Row
 bound_row flag bound = record EMPTY { flag = flag; bound = bound }
 
--- the bound that is said; without one, the bounds that the trait needs
+-- The bound that is said; without one, the bounds that the trait needs.
 abbrev pub bound_of : Option WherePredicatesOrBool → Bound
 bound_of None = Auto
 bound_of (Some said) = value.bound_of said
 
--- the attribute of a type of which only the bound is said
+-- The attribute of a type of which only the bound is said.
 abbrev pub bound_attribute : FieldSettings → TypeAttribute
 bound_attribute settings = record { bound = bound_of settings.values.bound }
 

@@ -11,15 +11,15 @@ use Rattle.educe_attrs_places.specs.declared.place.FieldSettings.{FieldSettings}
 use Rattle.educe_attrs_places.specs.Causes.{Cause}
 use Rattle.educe_attrs_places.specs.Places.{own_settings}
 
--- the attribute is of what the meta says, by the row of its place
+-- The attribute is of what the meta says, by the row of its place.
 abbrev pub SaysAs : {A : Type 0} → Row → (FieldSettings → A → Type 0) → Meta → A → Type 0
 SaysAs row IsOf meta attribute = (values : Values) × Says row meta values × IsOf (own_settings values) attribute
 
--- what a call that reads a meta answers: an attribute of what the meta says, and then no cause stands; or a cause
+-- What a call that reads a meta answers: an attribute of what the meta says, and then no cause stands; or a cause.
 abbrev pub Reads : {A : Type 0} → Row → (FieldSettings → A → Type 0) → Meta → Result A EduceError → Type 0
 Reads row IsOf meta result = MatchResult result (λ attribute. SaysAs row IsOf meta attribute × HasNoCause row meta) (λ e. IsCause row meta e)
 
--- the rejection has the cause, or is for out of memory
+-- The rejection has the cause, or is for out of memory.
 pub data OfError (P : Cause) : EduceError → Type 0 where
   caused : {e : EduceError} → P e → OfError P e
   memory : OfError P (placeless Alloc)

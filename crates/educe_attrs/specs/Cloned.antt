@@ -5,11 +5,11 @@ use Rattle.educe_attrs_rows.specs.declared.row.TheConstants.Row.{EMPTY}
 use Rattle.educe_attrs_places.specs.declared.place.FieldSettings.{FieldSettings}
 use Rattle.educe_attrs.specs.declared.clone.FieldAttribute.{FieldAttribute}
 
--- `method`
+-- `method`.
 abbrev pub clone_row : Bool → Row
 clone_row method = record EMPTY { method = method }
 
--- the attribute of a field
+-- The attribute of a field.
 abbrev pub clone_attribute : FieldSettings → FieldAttribute
 clone_attribute settings = record { method = settings.values.method }
 

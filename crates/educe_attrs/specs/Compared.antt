@@ -8,7 +8,7 @@ use Rattle.educe_attrs_rows.specs.declared.values.Rank.{Rank}
 use Rattle.educe_attrs_places.specs.declared.place.FieldSettings.{FieldSettings}
 use Rattle.educe_attrs.specs.declared.compared.FieldAttribute.{FieldAttribute}
 
--- `ignore`, also as a truth value behind `=`, `method` and `rank`
+-- `ignore`, also as a truth value behind `=`, `method` and `rank`.
 abbrev pub compared_row : Bool → Bool → Bool → Row
 compared_row ignore method rank = record EMPTY {
   equals = if ignore then Truth else Nothing;
@@ -17,19 +17,19 @@ compared_row ignore method rank = record EMPTY {
   rank = rank;
 }
 
--- the attribute of a field without a rank
+-- The attribute of a field without a rank.
 abbrev pub compared_attribute : FieldSettings → FieldAttribute
 compared_attribute settings = record { ignore = unwrap_or settings.values.ignore false; method = settings.values.method }
 
 abbrev pub IsCompared : FieldSettings → FieldAttribute → Type 0
 IsCompared settings attribute = attribute ≡ compared_attribute settings
 
--- the rank that is given, or else the builder's
+-- The rank that is given, or else the builder's.
 abbrev pub number_of : Option Rank → ℤ → ℤ
 number_of None own = own
 number_of (Some rank) own = rank.number
 
--- the place of the rank that is given
+-- The place of the rank that is given.
 abbrev pub place_of : Option Rank → Option Span
 place_of None = None
 place_of (Some rank) = Some rank.span

@@ -14,7 +14,7 @@ use Rattle.educe_attrs.specs.declared.default.FieldAttribute.{FieldAttribute}
 use Rattle.educe_attrs.specs.declared.default.FieldAttributeBuilder.{FieldAttributeBuilder}
 use Rattle.educe_attrs.specs.Bounds.{bound_of}
 
--- the default value as it is written for a field of the type, if there is one; where none is said there is none
+-- The default value as it is written for a field of the type, if there is one; where none is said there is none.
 abbrev pub IsAdjusted : Option Expr → Option Ty → Option Expr → Type 0
 IsAdjusted None ty None = Unit {0}
 IsAdjusted None ty (Some x) = ⊥
@@ -23,7 +23,7 @@ IsAdjusted (Some said) ty (Some x) = value.IsAdjusted said ty x
 
 -- ---- types and variants
 
--- the trait alone, `new`, `expression` and `bound`
+-- The trait alone, `new`, `expression` and `bound`.
 abbrev pub type_row : TypeAttributeBuilder → Row
 type_row builder = record EMPTY {
   flag = builder.enable_flag;
@@ -32,7 +32,7 @@ type_row builder = record EMPTY {
   bound = builder.enable_bound;
 }
 
--- the attribute of a type or a variant
+-- The attribute of a type or a variant.
 pub record IsTyped (settings : FieldSettings) (attribute : TypeAttribute) : Type 0 where
   pub flag : attribute.flag ≡ settings.values.flag
   pub new : attribute.new ≡ unwrap_or settings.values.new false
@@ -42,7 +42,7 @@ pub record IsTyped (settings : FieldSettings) (attribute : TypeAttribute) : Type
 
 -- ---- fields
 
--- the trait alone, and the value, also behind `=`
+-- The trait alone, and the value, also behind `=`.
 abbrev pub field_row : FieldAttributeBuilder → Row
 field_row builder = record EMPTY {
   flag = builder.enable_flag;
@@ -50,7 +50,7 @@ field_row builder = record EMPTY {
   expression = builder.enable_expression;
 }
 
--- the attribute of a field of the type
+-- The attribute of a field of the type.
 pub record IsField (ty : Ty) (values : Values) (attribute : FieldAttribute) : Type 0 where
   pub flag : attribute.flag ≡ values.flag
   pub expression : IsAdjusted values.expression (Some ty) attribute.expression

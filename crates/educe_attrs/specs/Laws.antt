@@ -10,19 +10,20 @@ use Rattle.educe_attrs_places.proofs.Phased as phased
 use Rattle.educe_attrs_places.proofs.Reported as reported
 use Rattle.educe_attrs_places.proofs.Settled as settled
 
--- errors of attributes have messages, and start at boundaries of tokens
+-- Errors of attributes have messages, and start at boundaries of tokens.
 pub lawful_reports : ReportLaws
 lawful_reports = reported.lawful_reports
 
--- where attributes have no cause, the settings are what they say; the text of a method is among their tokens, or it is that of a string among these
+-- Where attributes have no cause, the settings are what they say; the text of a method is among their tokens, or it is
+-- that of a string among these.
 pub lawful_settings : SettingLaws
 lawful_settings = settled.lawful_settings
 
--- where no handler of a listed trait has a cause, and there is one, the last phase has none
+-- Where no handler of a listed trait has a cause, and there is one, the last phase has none.
 pub all_handled : (h : Handling) (listed : List Trait) (some : Trait) → Contains listed some
     → ((which : Trait) → Contains listed which → NoCause (OfHandler h which)) → NoCause (OfLast h listed)
 all_handled = phased.all_handled
 
--- a cause of a listed trait's handler is one of the last phase
+-- A cause of a listed trait's handler is one of the last phase.
 pub one_refused : (h : Handling) (listed : List Trait) (which : Trait) → Contains listed which → (e : EduceError) → OfHandler h which e → OfLast h listed e
 one_refused = phased.one_refused

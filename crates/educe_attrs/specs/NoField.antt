@@ -12,14 +12,14 @@ use Rattle.educe_attrs_rows.specs.declared.row.TheConstants.Row.{EMPTY}
 use Rattle.educe_attrs_places.specs.declared.place.FieldSettings.{FieldSettings}
 use Rattle.educe_attrs.specs.declared.no_field.FieldAttribute.{FieldAttribute}
 
--- no form at all
+-- No form at all.
 abbrev pub no_row : Row
 no_row = EMPTY
 
--- there is one attribute only
+-- There is one attribute only.
 abbrev pub IsOfNothing : FieldSettings → FieldAttribute → Type 0
 IsOfNothing settings attribute = Unit {0}
 
--- the rejection is for the place of the meta, or for out of memory
+-- The rejection is for the place of the meta, or for out of memory.
 abbrev pub IsOutOfPlace : Meta → EduceError → Type 0
 IsOutOfPlace meta e = (e ≡ placeless Alloc) ⊎ ((name : MetaPath) × (path_of meta ≡ Some name) × (e ≡ incorrect_place name))

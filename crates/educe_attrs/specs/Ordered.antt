@@ -4,7 +4,7 @@ use Rattle.educe_attrs_places.specs.declared.place.FieldSettings.{FieldSettings}
 use Rattle.educe_attrs.specs.declared.ord.FieldAttribute.{FieldAttribute}
 use Rattle.educe_attrs.specs.Compared.{number_of, place_of}
 
--- the attribute of a field, whose rank is this one where none is given
+-- The attribute of a field, whose rank is this one where none is given.
 abbrev pub ordered_attribute : ℤ → FieldSettings → FieldAttribute
 ordered_attribute rank settings = record {
   ignore = unwrap_or settings.values.ignore false;

@@ -17,7 +17,7 @@ use Rattle.educe_bound_traits.specs.OneWord.{is_word}
 
 -- ---- one literal or truth value
 
--- a literal
+-- A literal.
 abbrev pub is_literal : TokenKind → Bool
 is_literal (Literal l) = true
 is_literal Ident = false
@@ -27,12 +27,12 @@ is_literal (Start b) = false
 is_literal (Stop b) = false
 is_literal Doc = false
 
--- `true` or `false`
+-- `true` or `false`.
 abbrev pub is_truth : Token → Bool
 is_truth t = is_word (codes "true") t || is_word (codes "false") t
 
--- the type is that of literals of this kind: for integers any integer type, for strings a reference to `str`, for byte
--- strings a reference to an array of `u8`
+-- The type is that of literals of this kind: for integers any integer type, for strings a reference to `str`, for byte
+-- strings a reference to an array of `u8`.
 abbrev pub fits_literal : LiteralKind → List Token → Bool
 fits_literal Int ty = is_integer ty
 fits_literal Str ty = is_text ty
@@ -40,7 +40,7 @@ fits_literal ByteStr ty = is_bytes ty
 fits_literal Char ty = is_primitive (codes "char") ty
 fits_literal Byte ty = is_primitive (codes "u8") ty
 
--- the type is that of a literal, or of a truth value, which is an identifier
+-- The type is that of a literal, or of a truth value, which is an identifier.
 abbrev pub fits_kind : TokenKind → List Token → Bool
 fits_kind (Literal l) ty = fits_literal l ty
 fits_kind Ident ty = is_primitive (codes "bool") ty
@@ -50,24 +50,24 @@ fits_kind (Start b) ty = false
 fits_kind (Stop b) ty = false
 fits_kind Doc ty = false
 
--- there is a type, and it is that
+-- There is a type, and it is that.
 abbrev pub fits : TokenKind → Option Ty → Bool
 fits kind None = false
 fits kind (Some ty) = fits_kind kind ty.written.tokens
 
 -- ---- default values
 
--- the value is one literal or truth value, and there is no type that it fits
+-- The value is one literal or truth value, and there is no type that it fits.
 abbrev pub is_converted : List Token → Option Ty → Bool
 is_converted [] ty = false
 is_converted (t ∷ []) ty = (is_literal t.kind || is_truth t) && not (fits t.kind ty)
 is_converted (t ∷ u ∷ ts) ty = false
 
--- `:: core :: convert :: Into :: into ( value )`
+-- `:: core :: convert :: Into :: into ( value )`.
 abbrev pub into : List Lexeme → List Lexeme
 into value = quoted (codes ":: core :: convert :: Into :: into (") ++ (value ++ quoted (codes ")"))
 
--- the tokens of the value as it is written for a field of the type, if there is one
+-- The tokens of the value as it is written for a field of the type, if there is one.
 abbrev pub adjusted : Written → Option Ty → List Lexeme
 adjusted value ty = if is_converted value.tokens ty then into (written_lexemes value) else written_lexemes value
 

@@ -16,34 +16,34 @@ use Rattle.educe_bound_traits.specs.OneWord.{is_one_word}
 
 -- ---- one attribute
 
--- the path is `allow`, `warn` or `deny`
+-- The path is `allow`, `warn` or `deny`.
 abbrev pub sets_level : MetaPath → Bool
 sets_level path = is_one_word (codes "allow") path.written.tokens || is_one_word (codes "warn") path.written.tokens || is_one_word (codes "deny") path.written.tokens
 
--- the path is `expect`
+-- The path is `expect`.
 abbrev pub expects : MetaPath → Bool
 expects path = is_one_word (codes "expect") path.written.tokens
 
--- the attribute of the path and what stands behind it
+-- The attribute of the path and what stands behind it.
 abbrev pub attribute : MetaPath → List Lexeme → List Lexeme
 attribute path behind = quoted (codes "# [") ++ (written_lexemes path.written ++ (behind ++ quoted (codes "]")))
 
--- `#[allow(..)]` of these lints
+-- `#[allow(..)]` of these lints.
 abbrev pub allowing : List Lexeme → List Lexeme
 allowing lints = quoted (codes "# [ allow (") ++ (copied lints ++ quoted (codes ") ]"))
 
--- the same of what stands in a bracket pair, whose own brackets close in order
+-- The same of what stands in a bracket pair, whose own brackets close in order.
 abbrev pub allowed : List Token → List Lexeme
 allowed tokens = if may_be_copied (lexemes (inside tokens)) then allowing (lexemes (inside tokens)) else []
 
--- the lint attribute for a list of the type
+-- The lint attribute for a list of the type.
 abbrev pub lint_of_list : MetaPath → Written → List Lexeme
 lint_of_list path list =
     if sets_level path then attribute path (written_lexemes list) else
     if expects path then allowed list.tokens else []
 
--- the lint attribute of generated items for an attribute of the type: one that sets a level, as it was written; for an
--- `expect` list one that allows the same, since generated code need not cause the warning that is expected
+-- The lint attribute of generated items for an attribute of the type: one that sets a level, as it was written; for an
+-- `expect` list one that allows the same, since generated code need not cause the warning that is expected.
 abbrev pub lint_of : Meta → List Lexeme
 lint_of (said.Word path) = if sets_level path then attribute path [] else []
 lint_of (said.List path list place) = lint_of_list path list
@@ -53,10 +53,10 @@ lint_of (said.Unread path behind place) = if sets_level path then attribute path
 
 -- ---- all of them
 
--- the lint attributes of the type, in order
+-- The lint attributes of the type, in order.
 abbrev pub lints : List Attribute → List Lexeme
 lints attributes = flat_map (λ (a : Attribute). lint_of a.meta) attributes
 
--- the attributes of an impl
+-- The attributes of an impl.
 abbrev pub impl_attributes : List Attribute → List Lexeme
 impl_attributes attributes = quoted (codes "# [ automatically_derived ]") ++ lints attributes

@@ -8,11 +8,11 @@ use Rattle.educe_syntax.specs.MetaPath.{MetaPath}
 use Rattle.educe_bound_traits.specs.OneWord.{is_one_word}
 use Rattle.educe_attrs_generated.specs.Represented.{AreHeld}
 
--- the path is `packed`
+-- The path is `packed`.
 abbrev pub is_packed_path : MetaPath → Bool
 is_packed_path path = is_one_word (codes "packed") path.written.tokens
 
--- the meta has the path `packed`, as `packed` and `packed(2)` have
+-- The meta has the path `packed`, as `packed` and `packed(2)` have.
 abbrev pub says_packed : Meta → Bool
 says_packed (said.Word path) = is_packed_path path
 says_packed (said.List path tokens place) = is_packed_path path
@@ -20,7 +20,7 @@ says_packed (said.NameValue path value place) = is_packed_path path
 says_packed (said.Doc t) = false
 says_packed (said.Unread path tokens place) = is_packed_path path
 
--- one of the metas in the `repr` lists says it
+-- One of the metas in the `repr` lists says it.
 pub record IsPacked (attributes : List Attribute) : Type 0 where
   pub held : List Meta
   pub are_held : AreHeld attributes held

@@ -9,54 +9,54 @@ use Rattle.educe_tokens.specs.declared.token.Token.{Token}
 
 -- ---- the beginnings of tokens
 
--- what stands behind this token, if it is the first
+-- What stands behind this token, if it is the first.
 abbrev pub behind : List ℕ → List Token → Option (List Token)
 behind text [] = None
 behind text (t ∷ ts) = if bytes_eq text t.spelling then Some ts else None
 
--- what there is, or else the tokens themselves
+-- What there is, or else the tokens themselves.
 abbrev pub or_all : List Token → Option (List Token) → List Token
 or_all tokens None = tokens
 or_all tokens (Some rest) = rest
 
--- what stands behind `::`
+-- What stands behind `::`.
 abbrev pub behind_colons : List Token → Option (List Token)
 behind_colons tokens = option_and_then (behind (codes ":")) (behind (codes ":") tokens)
 
--- the token is `core` or `std`
+-- The token is `core` or `std`.
 abbrev pub is_root : Token → Bool
 is_root t = bytes_eq (codes "core") t.spelling || bytes_eq (codes "std") t.spelling
 
--- what stands behind one of these
+-- What stands behind one of these.
 abbrev pub behind_root : List Token → Option (List Token)
 behind_root [] = None
 behind_root (t ∷ ts) = if is_root t then Some ts else None
 
--- what stands behind `core::` or `std::`, with a leading `::` or without
+-- What stands behind `core::` or `std::`, with a leading `::` or without.
 abbrev pub behind_crate : List Token → Option (List Token)
 behind_crate tokens = option_and_then behind_colons (behind_root (or_all tokens (behind_colons tokens)))
 
--- what stands behind `core::primitive::` or `std::primitive::`, with a leading `::` or without
+-- What stands behind `core::primitive::` or `std::primitive::`, with a leading `::` or without.
 abbrev pub behind_module : List Token → Option (List Token)
 behind_module tokens = option_and_then behind_colons (option_and_then (behind (codes "primitive")) (behind_crate tokens))
 
--- the tokens of a type without this module
+-- The tokens of a type without this module.
 abbrev pub without_module : List Token → List Token
 without_module tokens = or_all tokens (behind_module tokens)
 
 -- ---- primitive types
 
--- the tokens are one of this spelling
+-- The tokens are one of this spelling.
 abbrev pub is_alone : List ℕ → List Token → Bool
 is_alone text [] = false
 is_alone text (t ∷ []) = bytes_eq text t.spelling
 is_alone text (t ∷ u ∷ ts) = false
 
--- the type is the primitive one of this name: by the word, or as one of the module
+-- The type is the primitive one of this name: by the word, or as one of the module.
 abbrev pub is_primitive : List ℕ → List Token → Bool
 is_primitive name ty = is_alone name (without_module ty)
 
--- the type is an integer type
+-- The type is an integer type.
 abbrev pub is_integer : List Token → Bool
 is_integer ty =
     is_primitive (codes "u8") ty || is_primitive (codes "u16") ty || is_primitive (codes "u32") ty || is_primitive (codes "u64") ty
@@ -74,35 +74,35 @@ is_lifetime (Start b) = false
 is_lifetime (Stop b) = false
 is_lifetime Doc = false
 
--- the tokens without a lifetime in front
+-- The tokens without a lifetime in front.
 abbrev pub without_lifetime : List Token → List Token
 without_lifetime [] = []
 without_lifetime (t ∷ ts) = if is_lifetime t.kind then ts else t ∷ ts
 
--- the tokens without `mut` in front
+-- The tokens without `mut` in front.
 abbrev pub without_mut : List Token → List Token
 without_mut tokens = or_all tokens (behind (codes "mut") tokens)
 
--- the type behind a reference, with a lifetime and `mut` or without
+-- The type behind a reference, with a lifetime and `mut` or without.
 abbrev pub referred : List Token → Option (List Token)
 referred ty = option_map (λ inner. without_mut (without_lifetime inner)) (behind (codes "&") ty)
 
--- the type is a reference to `str`
+-- The type is a reference to `str`.
 abbrev pub is_text : List Token → Bool
 is_text ty = elim (referred ty) [ None ↦ false | Some inner ↦ is_primitive (codes "str") inner ]
 
--- the type of the elements of an array or a slice, and what stands behind it
+-- The type of the elements of an array or a slice, and what stands behind it.
 abbrev pub elements : List Token → Option (List Token)
 elements ty = option_map without_module (behind (codes "[") ty)
 
--- what stands behind `u8` and `;`
+-- What stands behind `u8` and `;`.
 abbrev pub behind_bytes : List Token → Option (List Token)
 behind_bytes tokens = option_and_then (behind (codes ";")) (behind (codes "u8") tokens)
 
--- the type is an array of `u8`: its elements and `;` begin it
+-- The type is an array of `u8`: its elements and `;` begin it.
 abbrev pub is_byte_array : List Token → Bool
 is_byte_array ty = is_some (option_and_then behind_bytes (elements ty))
 
--- the type is a reference to one
+-- The type is a reference to one.
 abbrev pub is_bytes : List Token → Bool
 is_bytes ty = elim (referred ty) [ None ↦ false | Some inner ↦ is_byte_array inner ]

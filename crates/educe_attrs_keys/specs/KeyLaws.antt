@@ -13,14 +13,14 @@ use Rattle.educe_attrs_keys.specs.declared.ident_or_index.IdentOrIndex.{IdentOrI
 use Rattle.educe_attrs_keys.specs.declared.ident_or_index.IdentOrIndex.TheVariants.{Ident, Index}
 use Rattle.educe_attrs_keys.specs.Keys.{key_lexeme, key_lexemes}
 
--- the decimal digits of an index
+-- The decimal digits of an index.
 digits_printable : (index : ℕ) → index < 2 ^ 64 → IsPrintable (key_lexeme (Index index) ∷ [])
 digits_printable index small =
     let word : Word = record { text = decimal index; spelled = decimal_is_index index small } in
     let P : TokenKind → Type 0 = λ kind. IsPrintable (record { kind = kind; spelling = decimal index } ∷ []) in
     subst P (lawful_kinds.index (decimal index) (decimal_begins index small)) (printable-word word)
 
--- the token of a key
+-- The token of a key.
 pub key_printable : (key : IdentOrIndex) → IsPrintable (key_lexemes key)
 key_printable (Ident name) = printable-ident name.text name.spelled
 key_printable (Index index) =

@@ -3,15 +3,15 @@ use Rattle.educe_tokens.specs.declared.error.EduceError.{EduceError}
 use Rattle.educe_attrs_values.specs.declared.stop.Stop.{Stop}
 use Rattle.educe_attrs_values.specs.declared.stop.Stop.TheVariants.{Memory, Refused}
 
--- why something is rejected
+-- Why something is rejected.
 abbrev pub Cause : Type 1
 Cause = EduceError → Type 0
 
--- no cause stands
+-- No cause stands.
 pub record NoCause (P : Cause) : Type 0 where
   pub none_stands : (e : EduceError) → P e → ⊥
 
--- a rejection has the cause; out of memory has none
+-- A rejection has the cause; out of memory has none.
 abbrev pub OfStop : Cause → Stop → Type 0
 OfStop P Memory = Unit {0}
 OfStop P (Refused e) = P e

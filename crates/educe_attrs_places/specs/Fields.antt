@@ -9,18 +9,18 @@ use Rattle.educe_attrs_places.specs.declared.place.FieldSettings.{FieldSettings}
 use Rattle.educe_attrs_places.specs.Causes.{Cause, NoCause}
 use Rattle.educe_attrs_places.specs.Places.{field_settings, IsFieldSaid, OfField}
 
--- those of one field
+-- Those of one field.
 abbrev pub settings_at : Trait → Row → List Trait → Field → FieldSettings
 settings_at which row listed field = field_settings which row listed field.attrs
 
--- each is what the attributes of its field say
+-- Each is what the attributes of its field say.
 abbrev pub AreFieldsSaid : Trait → Row → List Trait → List Field → List FieldSettings → Type 0
 AreFieldsSaid which row listed fields all = AllZip (λ (field : Field) settings. IsFieldSaid which row listed field.attrs settings) fields all
 
--- one of the fields is rejected for this
+-- One of the fields is rejected for this.
 abbrev pub OfFields : Trait → Row → List Trait → List Field → Cause
 OfFields which row listed fields = λ e. (field : Field) × IsAmong field fields × OfField which row listed field.attrs e
 
--- none is rejected for any cause
+-- None is rejected for any cause.
 abbrev pub HaveNoCauses : Trait → Row → List Trait → List Field → Type 0
 HaveNoCauses which row listed fields = AllByRecursion (λ (field : Field). NoCause (OfField which row listed field.attrs)) fields

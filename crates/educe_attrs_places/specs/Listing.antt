@@ -26,7 +26,7 @@ use Rattle.educe_attrs_places.specs.Named.{trait_of, IsReused}
 
 -- ---- rejections
 
--- an `educe` attribute of a type is no list: the words are `educe` and the form that it has to have
+-- An `educe` attribute of a type is no list: the words are `educe` and the form that it has to have.
 abbrev pub format_incorrect : MetaPath → EduceError
 format_incorrect path = record {
   kind = EduceFormatIncorrect;
@@ -34,17 +34,17 @@ format_incorrect path = record {
   words = chars (codes "educe") ∷ chars (codes "#[educe(Trait1, Trait2, ..., TraitN)]") ∷ [];
 }
 
--- a source that ends there lists no trait
+-- A source that ends there lists no trait.
 abbrev pub not_set_up : ℕ → EduceError
 not_set_up end = record { kind = DeriveAttributeNotSetUpYet; span = record { start = 0; end = end }; words = [] }
 
 -- ---- the program
 
--- the path of an attribute without a list is not `educe`
+-- The path of an attribute without a list is not `educe`.
 abbrev pub checked_other : MetaPath → Result (Unit {0}) Stop
 checked_other path = if is_educe path then Err (Refused (format_incorrect path)) else Ok tt
 
--- an attribute that is `educe` is a list
+-- An attribute that is `educe` is a list.
 abbrev pub checked_list : Meta → Result (Unit {0}) Stop
 checked_list (said.Word path) = checked_other path
 checked_list (said.List path tokens place) = Ok tt
@@ -56,7 +56,7 @@ abbrev pub checked_lists : List Attribute → Result (Unit {0}) Stop
 checked_lists [] = Ok tt
 checked_lists (a ∷ more) = and_then (λ _. checked_lists more) (checked_list a.meta)
 
--- the traits with one more, if it is one and does not stand there yet
+-- The traits with one more, if it is one and does not stand there yet.
 abbrev pub with_trait : List Trait → MetaPath → Option Trait → Result (List Trait) Stop
 with_trait before path None = Err (Refused (at_name UnsupportedTrait path))
 with_trait before path (Some which) = if is_listed before which then Err (Refused (at_name ReuseATrait path)) else Ok (before ++ which ∷ [])
@@ -71,28 +71,28 @@ with_listed before (said.NameValue path value place) = with_named before path
 with_listed before (said.Doc t) = Ok before
 with_listed before (said.Unread path tokens place) = Ok before
 
--- the traits with those of more metas
+-- The traits with those of more metas.
 abbrev pub traits_of : List Trait → List Meta → Result (List Trait) Stop
 traits_of before [] = Ok before
 traits_of before (m ∷ ms) = and_then (λ found. traits_of found ms) (with_listed before m)
 
--- there is one
+-- There is one.
 abbrev pub if_set_up : ℕ → List Trait → Result (List Trait) Stop
 if_set_up end [] = Err (Refused (not_set_up end))
 if_set_up end (t ∷ ts) = Ok (t ∷ ts)
 
--- what the attributes of a type list, in a source that ends there
+-- What the attributes of a type list, in a source that ends there.
 unfoldable pub read_listing : List Attribute → ℕ → Result (List Trait) Stop
 read_listing attributes end =
     and_then (λ _. and_then (λ metas. and_then (if_set_up end) (traits_of [] metas)) (all_metas [] attributes)) (checked_lists attributes)
 
 -- ---- what they list
 
--- the traits of the metas of a type, in their order; none where a list is no list of metas
+-- The traits of the metas of a type, in their order; none where a list is no list of metas.
 unfoldable pub listed_traits : List Attribute → List Trait
 listed_traits attributes = filter_map trait_of (result_unwrap_or (all_metas [] attributes) [])
 
--- the type lists these traits: those that its metas name, in their order, each once and at least one
+-- The type lists these traits: those that its metas name, in their order, each once and at least one.
 pub record IsListing (attributes : List Attribute) (traits : List Trait) : Type 0 where
   pub found : List Meta
   pub are : AreMetas attributes found
@@ -102,14 +102,14 @@ pub record IsListing (attributes : List Attribute) (traits : List Trait) : Type 
 
 -- ---- why they are rejected
 
--- the attribute is `educe` with this path, and no list
+-- The attribute is `educe` with this path, and no list.
 pub data IsBareEduce (path : MetaPath) : Meta → Type 0 where
   word : is_educe path ≡ true → IsBareEduce path (said.Word path)
   name_value : (value : Expr) (place : Span) → is_educe path ≡ true → IsBareEduce path (said.NameValue path value place)
   unread : (tokens : Written) (place : Span) → is_educe path ≡ true → IsBareEduce path (said.Unread path tokens place)
 
--- why what a type lists is rejected: an `educe` attribute is no list, or no list of metas; a meta is of no trait; or a trait is
--- listed twice
+-- Why what a type lists is rejected: an `educe` attribute is no list, or no list of metas; a meta is of no trait; or a trait is
+-- listed twice.
 pub data IsListingCause (attributes : List Attribute) : EduceError → Type 0 where
   format : (a : Attribute) (path : MetaPath) → IsAmong a attributes → IsBareEduce path a.meta → IsListingCause attributes (format_incorrect path)
   list : {e : EduceError} → IsListCause attributes e → IsListingCause attributes e
@@ -117,13 +117,13 @@ pub data IsListingCause (attributes : List Attribute) : EduceError → Type 0 wh
   reuse : (which : Trait) (found : List Meta) (later : Meta) (path : MetaPath) → AreMetas attributes found → IsReused which found later → path_of later ≡ Some path
       → IsListingCause attributes (at_name ReuseATrait path)
 
--- no trait is listed, and there is no other cause
+-- No trait is listed, and there is no other cause.
 pub record IsNotSetUp (attributes : List Attribute) : Type 0 where
   pub found : List Meta
   pub are : AreMetas attributes found
   pub none_listed : filter_map trait_of found ≡ []
   pub no_other : NoCause (IsListingCause attributes)
 
--- why the attributes of a type are rejected in a source that ends there
+-- Why the attributes of a type are rejected in a source that ends there.
 abbrev pub OfListing : List Attribute → ℕ → Cause
 OfListing attributes end = λ e. IsListingCause attributes e ⊎ (IsNotSetUp attributes × (e ≡ not_set_up end))

@@ -22,11 +22,11 @@ use Rattle.educe_attrs_values.specs.Words.{path_of}
 
 -- ---- the program
 
--- the path is `educe`
+-- The path is `educe`.
 abbrev pub is_educe : MetaPath → Bool
 is_educe path = is_one_word (codes "educe") path.written.tokens
 
--- the metas of an `educe` list; any other attribute of a place has none
+-- The metas of an `educe` list; any other attribute of a place has none.
 abbrev pub metas_of : Meta → Result (List Meta) Stop
 metas_of (said.Word path) = Ok []
 metas_of (said.List path tokens place) = if is_educe path then metas_in tokens.tokens else Ok []
@@ -34,14 +34,14 @@ metas_of (said.NameValue path value place) = Ok []
 metas_of (said.Doc t) = Ok []
 metas_of (said.Unread path tokens place) = Ok []
 
--- those of several attributes count as one list: these, and then those of the attributes
+-- Those of several attributes count as one list: these, and then those of the attributes.
 abbrev pub all_metas : List Meta → List Attribute → Result (List Meta) Stop
 all_metas found [] = Ok found
 all_metas found (a ∷ more) = and_then (λ front. all_metas (found ++ front) more) (metas_of a.meta)
 
 -- ---- what they are
 
--- the tokens of an `educe` list
+-- The tokens of an `educe` list.
 pub record IsEduce (a : Attribute) (tokens : List Token) : Type 0 where
   pub path : MetaPath
   pub written : Written
@@ -50,17 +50,17 @@ pub record IsEduce (a : Attribute) (tokens : List Token) : Type 0 where
   pub tokens_are : tokens ≡ written.tokens
   pub named : is_educe path ≡ true
 
--- the metas of an attribute: those of an `educe` list, and of any other none
+-- The metas of an attribute: those of an `educe` list, and of any other none.
 pub data AreOwn (a : Attribute) : List Meta → Type 0 where
   educe : (tokens : List Token) (found : List Meta) → IsEduce a tokens → IsWhole metas (inside tokens) found → AreOwn a found
   other : ((tokens : List Token) → IsEduce a tokens → ⊥) → AreOwn a []
 
--- the metas of a place, of all its `educe` lists together
+-- The metas of a place, of all its `educe` lists together.
 pub data AreMetas : List Attribute → List Meta → Type 0 where
   none_left : AreMetas [] []
   one_more : (a : Attribute) (more : List Attribute) (front found : List Meta) → AreOwn a front → AreMetas more found → AreMetas (a ∷ more) (front ++ found)
 
--- a meta of one of the lists has this name
+-- A meta of one of the lists has this name.
 pub record IsNameIn (attributes : List Attribute) (path : MetaPath) : Type 0 where
   pub attribute : Attribute
   pub found : List Meta
@@ -71,7 +71,7 @@ pub record IsNameIn (attributes : List Attribute) (path : MetaPath) : Type 0 whe
   pub named : IsNamed meta
   pub path_is : path_of meta ≡ Some path
 
--- one of the lists is rejected for this, since it is no list of metas
+-- One of the lists is rejected for this, since it is no list of metas.
 pub record IsListCause (attributes : List Attribute) (e : EduceError) : Type 0 where
   pub attribute : Attribute
   pub tokens : List Token

@@ -15,12 +15,12 @@ use Rattle.educe_attrs_places.specs.Said.{IsPlaceCause, IsSaidCause}
 
 -- What holds of the attributes of a place, and of each error that has one of their causes.
 pub record ReportLaws : Type 0 where
-  -- the error has a message
+  -- The error has a message.
   pub listing_message : (attributes : List Attribute) (end : ℕ) (e : EduceError) → OfListing attributes end e → HasMessage e
   pub place_message : (listed : List Trait) (attributes : List Attribute) (e : EduceError) → IsPlaceCause listed attributes e → HasMessage e
   pub said_message : (which : Trait) (row : Row) (attributes : List Attribute) (e : EduceError) → IsSaidCause which row attributes e → HasMessage e
   pub field_message : (which : Trait) (row : Row) (listed : List Trait) (attributes : List Attribute) (e : EduceError) → IsFieldCause which row listed attributes e → HasMessage e
-  -- where the attributes stand among tokens, it starts where one of them starts or ends, or at the beginning of the source
+  -- Where the attributes stand among tokens, it starts where one of them starts or ends, or at the beginning of the source.
   pub listing_placed : (tokens : List Token) (attributes : List Attribute) → AreAttributesPlaced tokens attributes
       → (end : ℕ) (e : EduceError) → OfListing attributes end e → IsBoundary tokens e.span.start
   pub place_placed : (tokens : List Token) (attributes : List Attribute) → AreAttributesPlaced tokens attributes
@@ -29,9 +29,9 @@ pub record ReportLaws : Type 0 where
       → (which : Trait) (row : Row) (e : EduceError) → IsSaidCause which row attributes e → IsBoundary tokens e.span.start
   pub field_placed : (tokens : List Token) (attributes : List Attribute) → AreAttributesPlaced tokens attributes
       → (which : Trait) (row : Row) (listed : List Trait) (e : EduceError) → IsFieldCause which row listed attributes e → IsBoundary tokens e.span.start
-  -- so does the rank that a field's attributes give
+  -- So does the rank that a field's attributes give.
   pub rank_placed : (tokens : List Token) (attributes : List Attribute) → AreAttributesPlaced tokens attributes
       → (which : Trait) (row : Row) (listed : List Trait) → IfSome (field_settings which row listed attributes).values.rank (λ (r : Rank). IsBoundary tokens r.span.start)
-  -- and the place of what is said at a type or a variant
+  -- And the place of what is said at a type or a variant.
   pub span_placed : (tokens : List Token) (attributes : List Attribute) → AreAttributesPlaced tokens attributes
       → (which : Trait) (row : Row) (values : Values) → IsSaid which row attributes values → IsBoundary tokens values.span.start

@@ -23,20 +23,20 @@ use Rattle.educe_attrs_places.specs.Named.{is_of, all_checked, IsReused}
 
 -- ---- the program
 
--- metas, where each is of a listed trait
+-- Metas, where each is of a listed trait.
 abbrev pub if_listed : List Trait → List Meta → Result (List Meta) Stop
 if_listed listed found = map_ok (λ _. found) (all_checked listed found)
 
--- the metas of a place, each of which is of a listed trait
+-- The metas of a place, each of which is of a listed trait.
 abbrev pub listed_metas : List Trait → List Attribute → Result (List Meta) Stop
 listed_metas listed attributes = and_then (if_listed listed) (all_metas [] attributes)
 
--- a second meta of a trait is rejected at its name
+-- A second meta of a trait is rejected at its name.
 abbrev pub refused_again : Option MetaPath → Result (Option Values) Stop
 refused_again None = Err Memory
 refused_again (Some path) = Err (Refused (at_name ReuseATrait path))
 
--- a meta of the trait is read, where none was before it
+-- A meta of the trait is read, where none was before it.
 abbrev pub said_once : Row → Meta → Option Values → Result (Option Values) Stop
 said_once row m None = map_ok Some (read_meta row m)
 said_once row m (Some values) = refused_again (path_of m)
@@ -44,18 +44,18 @@ said_once row m (Some values) = refused_again (path_of m)
 abbrev pub next_said : Trait → Row → Meta → Option Values → Result (Option Values) Stop
 next_said which row m before = if is_of which m then said_once row m before else Ok before
 
--- what the only meta of the trait says; none where there is none
+-- What the only meta of the trait says; none where there is none.
 abbrev pub read_one : Trait → Row → List Meta → Option Values → Result (Option Values) Stop
 read_one which row [] before = Ok before
 read_one which row (m ∷ ms) before = and_then (read_one which row ms) (next_said which row m before)
 
 -- ---- what they say
 
--- the trait is not said there
+-- The trait is not said there.
 abbrev pub IsUnsaid : Trait → List Attribute → Type 0
 IsUnsaid which attributes = (found : List Meta) → AreMetas attributes found → (m : Meta) → IsAmong m found → is_of which m ≡ true → ⊥
 
--- a meta of the trait says this there
+-- A meta of the trait says this there.
 pub record SaysThere (which : Trait) (row : Row) (attributes : List Attribute) (values : Values) : Type 0 where
   pub found : List Meta
   pub meta : Meta
@@ -66,15 +66,15 @@ pub record SaysThere (which : Trait) (row : Row) (attributes : List Attribute) (
 
 -- ---- why they are rejected
 
--- why the `educe` lists of a place are rejected, whatever the trait: one is no list of metas; one has a meta that is of no
--- trait, or of one that is not listed
+-- Why the `educe` lists of a place are rejected, whatever the trait: one is no list of metas; one has a meta that is of no
+-- trait, or of one that is not listed.
 pub data IsPlaceCause (listed : List Trait) (attributes : List Attribute) : EduceError → Type 0 where
   list : {e : EduceError} → IsListCause attributes e → IsPlaceCause listed attributes e
   unsupported : (path : MetaPath) → IsNameIn attributes path → trait_named path ≡ None → IsPlaceCause listed attributes (at_name UnsupportedTrait path)
   not_used : (path : MetaPath) (which : Trait) → IsNameIn attributes path → trait_named path ≡ Some which → is_listed listed which ≡ false
       → IsPlaceCause listed attributes (at_name TraitNotUsed path)
 
--- why what they say of a trait is rejected: it is said twice; or a meta of it is rejected
+-- Why what they say of a trait is rejected: it is said twice; or a meta of it is rejected.
 pub data IsSaidCause (which : Trait) (row : Row) (attributes : List Attribute) : EduceError → Type 0 where
   reuse : (found : List Meta) (later : Meta) (path : MetaPath) → AreMetas attributes found → IsReused which found later → path_of later ≡ Some path
       → IsSaidCause which row attributes (at_name ReuseATrait path)

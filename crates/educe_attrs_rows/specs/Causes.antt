@@ -26,24 +26,24 @@ use Rattle.educe_attrs_rows.specs.Settings.{values_at, bare_values, Given, given
 
 -- ---- parameters
 
--- the parameter of the row that a meta is
+-- The parameter of the row that a meta is.
 abbrev pub param_in : Row → Meta → Option Param
 param_in row m = option_and_then (param_of row) (path_of m)
 
--- the meta gives this as the parameter, since it has a value of the parameter's kind
+-- The meta gives this as the parameter, since it has a value of the parameter's kind.
 pub record Gives (row : Row) (p : Param) (m : Meta) (x : Given p) : Type 0 where
   pub value : ValueOf (kind_of row p)
   pub holds : Holds (kind_of row p) m value
   pub is : x ≡ given_as row p m value
 
--- it is what one of the metas gives that is the parameter, and none where none is
+-- It is what one of the metas gives that is the parameter, and none where none is.
 abbrev pub IsGiven : Row → (p : Param) → List Meta → Option (Given p) → Type 0
 IsGiven row p params None = (m : Meta) → IsAmong m params → param_in row m ≡ Some p → ⊥
 IsGiven row p params (Some x) = (m : Meta) × IsAmong m params × (param_in row m ≡ Some p) × Gives row p m x
 
 -- ---- what a meta says
 
--- the metas in its bracket pair
+-- The metas in its bracket pair.
 abbrev pub Lists : Meta → List Meta → Type 0
 Lists (said.Word path) params = ⊥
 Lists (said.List path tokens place) params = IsWhole metas (inside tokens.tokens) params
@@ -51,7 +51,7 @@ Lists (said.NameValue path value place) params = ⊥
 Lists (said.Doc t) params = ⊥
 Lists (said.Unread path tokens place) params = ⊥
 
--- another meta before it in the list is the same parameter
+-- Another meta before it in the list is the same parameter.
 pub record IsReset (row : Row) (params : List Meta) (later : Meta) (p : Param) : Type 0 where
   pub front : List Meta
   pub earlier : Meta
@@ -61,7 +61,7 @@ pub record IsReset (row : Row) (params : List Meta) (later : Meta) (p : Param) :
   pub earlier_is : param_in row earlier ≡ Some p
   pub later_is : param_in row later ≡ Some p
 
--- no meta stands in the list
+-- No meta stands in the list.
 abbrev pub is_bare : List Meta → Bool
 is_bare [] = true
 is_bare (m ∷ ms) = false
@@ -86,13 +86,13 @@ pub data Says (row : Row) : Meta → Values → Type 0 where
 
 -- ---- why it is rejected
 
--- the form is none of the row: the trait alone, or an empty list; or a parameter
+-- The form is none of the row: the trait alone, or an empty list; or a parameter.
 pub data HasWrongForm (row : Row) : Meta → Type 0 where
   bare : (path : MetaPath) → row.flag ≡ false → HasWrongForm row (said.Word path)
   empty : (meta : Meta) → Lists meta [] → row.flag ≡ false → HasWrongForm row meta
   param : (meta m : Meta) (params : List Meta) → Lists meta params → IsAmong m params → param_in row m ≡ None → HasWrongForm row meta
 
--- it has a value behind `=`
+-- It has a value behind `=`.
 abbrev pub HasValue : Meta → Type 0
 HasValue (said.Word path) = ⊥
 HasValue (said.List path tokens place) = ⊥
@@ -100,7 +100,7 @@ HasValue (said.NameValue path value place) = Unit {0}
 HasValue (said.Doc t) = ⊥
 HasValue (said.Unread path tokens place) = ⊥
 
--- the parser rejects what stands in its brackets so
+-- The parser rejects what stands in its brackets so.
 abbrev pub IsListCause : Meta → EduceError → Type 0
 IsListCause (said.Word path) e = ⊥
 IsListCause (said.List path tokens place) e = IsParseCause metas (inside tokens.tokens) e × (e.kind ≢ Alloc)
@@ -120,7 +120,7 @@ pub data IsMetaCause (row : Row) (name : MetaPath) (meta : Meta) : EduceError �
   equals : {e : EduceError} (b : Behind) → is_empty row ≡ false → HasValue meta → behind row.equals ≡ Some b → IsValueCause b.kind name meta e → IsMetaCause row name meta e
   list : {e : EduceError} → is_empty row ≡ false → IsListCause meta e → IsMetaCause row name meta e
 
--- the same of the meta's own name
+-- The same of the meta's own name.
 abbrev pub IsOwnCause : Row → Meta → EduceError → Type 0
 IsOwnCause row meta e = (name : MetaPath) × (path_of meta ≡ Some name) × IsMetaCause row name meta e
 
@@ -129,6 +129,6 @@ pub data IsCause (row : Row) (meta : Meta) : EduceError → Type 0 where
   own : {e : EduceError} → IsOwnCause row meta e → IsCause row meta e
   memory : IsCause row meta (placeless Alloc)
 
--- no cause stands but out of memory
+-- No cause stands but out of memory.
 pub record HasNoCause (row : Row) (meta : Meta) : Type 0 where
   pub none_stands : (e : EduceError) → IsCause row meta e → e.kind ≡ Alloc

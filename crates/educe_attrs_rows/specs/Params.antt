@@ -3,11 +3,11 @@ use Rattle.std.specs.Prelude.{ℕ, List, [], ◌∷◌, codes}
 use Rattle.educe_attrs_rows.specs.declared.param.Param.{Param}
 use Rattle.educe_attrs_rows.specs.declared.param.Param.TheVariants.{Name, NamedField, New, Expression, Ignore, Method, Rank, Bound}
 
--- all parameters
+-- All parameters.
 abbrev pub all_params : List Param
 all_params = Name ∷ NamedField ∷ New ∷ Expression ∷ Ignore ∷ Method ∷ Rank ∷ Bound ∷ []
 
--- the word that names a parameter
+-- The word that names a parameter.
 abbrev pub word_of : Param → List ℕ
 word_of Name = codes "name"
 word_of NamedField = codes "named_field"
@@ -18,7 +18,7 @@ word_of Method = codes "method"
 word_of Rank = codes "rank"
 word_of Bound = codes "bound"
 
--- the other word that names it; the same one where it has no other
+-- The other word that names it; the same one where it has no other.
 abbrev pub alias_of : Param → List ℕ
 alias_of Name = codes "rename"
 alias_of NamedField = codes "named_field"

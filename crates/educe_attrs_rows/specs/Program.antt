@@ -19,36 +19,36 @@ use Rattle.educe_attrs_rows.specs.Settings.{values_at, bare_values, has, with_pa
 
 -- ---- the list
 
--- what a parameter adds, if it is one of the row and does not stand there yet
+-- What a parameter adds, if it is one of the row and does not stand there yet.
 abbrev pub add_param : Row → MetaPath → MetaPath → Meta → Values → Option Param → Result Values Stop
 add_param row name path meta values None = Err (Refused (incorrect_format row name))
 add_param row name path meta values (Some p) = if has p values then Err (Refused (parameter_reset path)) else with_param row p path meta values
 
--- the same of the meta of a path, if it has one
+-- The same of the meta of a path, if it has one.
 abbrev pub add_named : Row → MetaPath → Meta → Values → Option MetaPath → Result Values Stop
 add_named row name meta values None = Err (Refused (incorrect_format row name))
 add_named row name meta values (Some path) = add_param row name path meta values (param_of row path)
 
--- the values with what one more meta of the list says
+-- The values with what one more meta of the list says.
 abbrev pub next_param : Row → MetaPath → Meta → Values → Result Values Stop
 next_param row name meta values = add_named row name meta values (path_of meta)
 
--- the same of more metas
+-- The same of more metas.
 abbrev pub read_params : Row → MetaPath → List Meta → Values → Result Values Stop
 read_params row name [] values = Ok values
 read_params row name (m ∷ ms) values = and_then (read_params row name ms) (next_param row name m values)
 
 -- ---- the meta
 
--- what the trait alone says, or an empty list
+-- What the trait alone says, or an empty list.
 abbrev pub read_bare : Row → MetaPath → Span → Result Values Stop
 read_bare row name place = if row.flag then Ok (bare_values place) else Err (Refused (incorrect_format row name))
 
--- the same of the path of a word
+-- The same of the path of a word.
 abbrev pub read_word : Row → MetaPath → Result Values Stop
 read_word row path = read_bare row path (place_of path.written.tokens)
 
--- what a value behind `=` says, if one may stand there
+-- What a value behind `=` says, if one may stand there.
 abbrev pub equals_as : Row → MetaPath → Meta → Option Behind → Result Values Stop
 equals_as row name meta None = Err (Refused (incorrect_format row name))
 equals_as row name meta (Some b) = said_behind b name meta
@@ -56,20 +56,20 @@ equals_as row name meta (Some b) = said_behind b name meta
 abbrev pub read_equals : Row → MetaPath → Meta → Result Values Stop
 read_equals row name meta = equals_as row name meta (behind row.equals)
 
--- what the metas of a list say
+-- What the metas of a list say.
 abbrev pub read_metas : Row → MetaPath → Span → List Meta → Result Values Stop
 read_metas row name place [] = read_bare row name place
 read_metas row name place (m ∷ ms) = read_params row name (m ∷ ms) (values_at place)
 
--- what a list says
+-- What a list says.
 abbrev pub read_list : Row → MetaPath → List Token → Span → Result Values Stop
 read_list row name tokens place = and_then (read_metas row name place) (metas_in tokens)
 
--- a form, where one may stand there
+-- A form, where one may stand there.
 abbrev pub placed : Row → MetaPath → Result Values Stop → Result Values Stop
 placed row name form = if is_empty row then Err (Refused (incorrect_place name)) else form
 
--- what an attribute says, by the row of its place
+-- What an attribute says, by the row of its place.
 abbrev pub read_meta : Row → Meta → Result Values Stop
 read_meta row (said.Word path) = placed row path (read_word row path)
 read_meta row (said.List path tokens place) = placed row path (read_list row path tokens.tokens place)

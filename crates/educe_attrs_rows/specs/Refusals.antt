@@ -8,15 +8,15 @@ use Rattle.educe_attrs_values.specs.Words.{place_of, text_of}
 use Rattle.educe_attrs_rows.specs.declared.row.Row.{Row}
 use Rattle.educe_attrs_rows.specs.Usage.{with_usage}
 
--- no form of the trait may stand there
+-- No form of the trait may stand there.
 abbrev pub incorrect_place : MetaPath → EduceError
 incorrect_place path = at_name AttributeIncorrectPlace path
 
--- the parameter stands there twice
+-- The parameter stands there twice.
 abbrev pub parameter_reset : MetaPath → EduceError
 parameter_reset path = at_name ParameterReset path
 
--- a form is none of the row; the forms of the row are further words
+-- A form is none of the row; the forms of the row are further words.
 abbrev pub incorrect_format : Row → MetaPath → EduceError
 incorrect_format row path =
     refusal AttributeIncorrectFormat (place_of path.written.tokens) (with_usage (text_of path ∷ []) (encode_utf8_all (text_of path)) row)

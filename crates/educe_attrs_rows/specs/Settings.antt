@@ -27,7 +27,7 @@ use Rattle.educe_attrs_rows.specs.declared.values.Values.{Values}
 
 -- ---- values
 
--- nothing yet, of an attribute at this place
+-- Nothing yet, of an attribute at this place.
 abbrev pub values_at : Span → Values
 values_at place = record {
   name = None;
@@ -42,15 +42,15 @@ values_at place = record {
   span = place;
 }
 
--- nothing, where no attribute stands
+-- Nothing, where no attribute stands.
 abbrev pub no_values : Values
 no_values = values_at (record { start = 0; end = 0 })
 
--- the trait alone, or an empty list
+-- The trait alone, or an empty list.
 abbrev pub bare_values : Span → Values
 bare_values place = record (values_at place) { flag = true }
 
--- what a parameter gives
+-- What a parameter gives.
 abbrev pub Given : Param → Type 0
 Given Name = IdentOrBool
 Given NamedField = Bool
@@ -71,7 +71,7 @@ given Method values = values.method
 given Rank values = values.rank
 given Bound values = values.bound
 
--- the values, where the parameter gives this
+-- The values, where the parameter gives this.
 abbrev pub set : (p : Param) → Given p → Values → Values
 set Name x values = record values { name = Some x }
 set NamedField b values = record values { named_field = Some b }
@@ -82,25 +82,25 @@ set Method x values = record values { method = Some x }
 set Rank rank values = record values { rank = Some rank }
 set Bound x values = record values { bound = Some x }
 
--- the parameter has a value
+-- The parameter has a value.
 abbrev pub has : Param → Values → Bool
 has p values = is_some (given p values)
 
 -- ---- the value of a parameter
 
--- the kind of the value of `name`
+-- The kind of the value of `name`.
 abbrev pub name_kind : Option NameKind → ValueKind
 name_kind None = value.Name
 name_kind (Some named.Ident) = value.Ident
 name_kind (Some (named.Name b)) = value.Name
 
--- the name, of its value
+-- The name, of its value.
 abbrev pub name_as : (kind : Option NameKind) → ValueOf (name_kind kind) → IdentOrBool
 name_as None x = x
 name_as (Some named.Ident) ident = shown.Ident ident
 name_as (Some (named.Name b)) x = x
 
--- the kind of a parameter's value
+-- The kind of a parameter's value.
 abbrev pub kind_of : Row → Param → ValueKind
 kind_of row Name = name_kind row.name
 kind_of row NamedField = value.Truth
@@ -111,11 +111,11 @@ kind_of row Method = value.Path
 kind_of row Rank = value.Integer
 kind_of row Bound = value.Bound
 
--- an integer, and the place of the parameter that gives it
+-- An integer, and the place of the parameter that gives it.
 abbrev pub ranked : Meta → ℤ → Ranked
 ranked meta n = record { number = n; span = meta_place meta }
 
--- what a parameter gives, of its value
+-- What a parameter gives, of its value.
 abbrev pub given_as : (row : Row) (p : Param) → Meta → ValueOf (kind_of row p) → Given p
 given_as row Name meta x = name_as row.name x
 given_as row NamedField meta b = b
@@ -126,17 +126,17 @@ given_as row Method meta x = x
 given_as row Rank meta n = ranked meta n
 given_as row Bound meta x = x
 
--- what a meta gives as this parameter
+-- What a meta gives as this parameter.
 abbrev pub give : (row : Row) (p : Param) → MetaPath → Meta → Result (Given p) Stop
 give row p path meta = map_ok (given_as row p meta) (value_of (kind_of row p) path meta)
 
--- `name`
+-- `name`.
 abbrev pub name_by : Option NameKind → MetaPath → Meta → Result IdentOrBool Stop
 name_by None path meta = value_of value.Name path meta
 name_by (Some named.Ident) path meta = map_ok shown.Ident (value_of value.Ident path meta)
 name_by (Some (named.Name b)) path meta = value_of value.Name path meta
 
--- `rank`
+-- `rank`.
 abbrev pub rank_of : MetaPath → Meta → Result Ranked Stop
 rank_of path meta = map_ok (ranked meta) (value_of value.Integer path meta)
 
@@ -178,37 +178,37 @@ with_param row Bound path meta values = with_bound path meta values
 
 -- ---- the value behind `=`
 
--- a value that may stand there: its kind, and what it says
+-- A value that may stand there: its kind, and what it says.
 pub record Behind : Type 0 where
   pub kind : ValueKind
   pub says : ValueOf kind → Values → Values
 
--- the field is kept, or it is ignored
+-- The field is kept, or it is ignored.
 abbrev pub with_kept : Bool → Values → Values
 with_kept kept values = record values { ignore = Some (not kept) }
 
--- the name that is shown, or whether the field is kept
+-- The name that is shown, or whether the field is kept.
 abbrev pub with_shown_or_kept : IdentOrBool → Values → Values
 with_shown_or_kept (shown.Ident ident) values = record values { name = Some (shown.Ident ident) }
 with_shown_or_kept (shown.Bool kept) values = with_kept kept values
 
--- whether the field is kept
+-- Whether the field is kept.
 abbrev pub kept : Behind
 kept = record { kind = value.Truth; says = with_kept }
 
--- the name that is shown
+-- The name that is shown.
 abbrev pub shown_name : Behind
 shown_name = record { kind = value.Ident; says = λ ident values. record values { name = Some (shown.Ident ident) } }
 
--- the one or the other
+-- The one or the other.
 abbrev pub shown_or_kept : Behind
 shown_or_kept = record { kind = value.Name; says = with_shown_or_kept }
 
--- the default value
+-- The default value.
 abbrev pub default_value : Behind
 default_value = record { kind = value.Expr; says = λ x values. record values { expression = Some x } }
 
--- the value that may stand there, if one may
+-- The value that may stand there, if one may.
 abbrev pub behind : Equals → Option Behind
 behind equals.Nothing = None
 behind equals.Truth = Some kept
@@ -216,6 +216,6 @@ behind equals.Ident = Some shown_name
 behind equals.Name = Some shown_or_kept
 behind equals.Expr = Some default_value
 
--- what it says
+-- What it says.
 abbrev pub said_behind : Behind → MetaPath → Meta → Result Values Stop
 said_behind b name meta = map_ok (λ x. b.says x (values_at (meta_place meta))) (value_of b.kind name meta)

@@ -6,17 +6,17 @@ use Rattle.educe_attrs_rows.specs.declared.row.Equals.TheVariants as equals
 use Rattle.educe_attrs_rows.specs.declared.row.NameKind.{NameKind}
 use Rattle.educe_attrs_rows.specs.declared.row.NameKind.TheVariants as kind
 
--- a form, as it stands in an attribute
+-- A form, as it stands in an attribute.
 abbrev pub line : List ℕ → List ℕ → List ℕ
 line name rest = chars (codes "#[educe(" ++ (name ++ (rest ++ codes ")]")))
 
--- the lines with this one behind them, if the row allows the form
+-- The lines with this one behind them, if the row allows the form.
 abbrev pub with_line : List (List ℕ) → Bool → List ℕ → List ℕ → List (List ℕ)
 with_line lines allowed name rest = if allowed then lines ++ line name rest ∷ [] else lines
 
 -- ---- what stands behind `=`
 
--- an identifier may
+-- An identifier may.
 abbrev pub takes_name : Equals → Bool
 takes_name equals.Nothing = false
 takes_name equals.Truth = false
@@ -24,7 +24,7 @@ takes_name equals.Ident = true
 takes_name equals.Name = true
 takes_name equals.Expr = false
 
--- an expression may
+-- An expression may.
 abbrev pub takes_expression : Equals → Bool
 takes_expression equals.Nothing = false
 takes_expression equals.Truth = false
@@ -32,7 +32,7 @@ takes_expression equals.Ident = false
 takes_expression equals.Name = false
 takes_expression equals.Expr = true
 
--- whether the field is not ignored may
+-- Whether the field is not ignored may.
 abbrev pub takes_truth : Equals → Bool
 takes_truth equals.Nothing = false
 takes_truth equals.Truth = true
@@ -52,7 +52,7 @@ shows_true None = false
 shows_true (Some true) = true
 shows_true (Some false) = false
 
--- the truth value that the line on `name` shows, if there is one
+-- The truth value that the line on `name` shows, if there is one.
 abbrev pub shown : Option NameKind → Option Bool
 shown None = None
 shown (Some kind.Ident) = None
@@ -60,14 +60,14 @@ shown (Some (kind.Name b)) = Some b
 
 -- ---- the lines of a row
 
--- the trait alone, a name and an expression behind `=`
+-- The trait alone, a name and an expression behind `=`.
 abbrev pub with_heads : List (List ℕ) → List ℕ → Row → List (List ℕ)
 with_heads lines name row =
     with_line (with_line (with_line lines row.flag name [])
     (takes_name row.equals) name (codes " = NewName"))
     (takes_expression row.equals) name (codes " = expr")
 
--- `name` and `named_field`
+-- `name` and `named_field`.
 abbrev pub with_names : List (List ℕ) → List ℕ → Row → List (List ℕ)
 with_names lines name row =
     with_line (with_line (with_line (with_line (with_line lines (is_some row.name) name (codes "(name(NewName))"))
@@ -76,7 +76,7 @@ with_names lines name row =
     (shows_false row.named_field) name (codes "(named_field = false)"))
     (shows_true row.named_field) name (codes "(named_field = true)")
 
--- a truth value behind `=`, and the other parameters
+-- A truth value behind `=`, and the other parameters.
 abbrev pub with_params : List (List ℕ) → List ℕ → Row → List (List ℕ)
 with_params lines name row =
     with_line (with_line (with_line (with_line (with_line (with_line (with_line lines row.new name (codes "(new)"))
@@ -87,6 +87,6 @@ with_params lines name row =
     row.rank name (codes "(rank = integer)"))
     row.bound name (codes "(bound(where_predicates))")
 
--- the words with a line for each form of the row behind them
+-- The words with a line for each form of the row behind them.
 abbrev pub with_usage : List (List ℕ) → List ℕ → Row → List (List ℕ)
 with_usage words name row = with_line (with_params (with_names (with_heads words name row) name row) name row) row.bound name (codes "(bound = false)")

@@ -21,30 +21,30 @@ use Rattle.educe_attrs_values.specs.Texts.{only_text}
 use Rattle.educe_attrs_values.specs.Values.{HasNoValue}
 use Rattle.educe_attrs_values.specs.Words.{path_of}
 
--- more openers count at a token than the limit allows
+-- More openers count at a token than the limit allows.
 pub record IsTooDeep (tokens : List Token) (t : Token) : Type 0 where
   pub front : List Token
   pub rest : List Token
   pub is : tokens ≡ front ++ t ∷ rest
   pub many : depth_limit < counted (front ++ t ∷ [])
 
--- the text that is read for a string, which is the whole value: it is no longer than a source
+-- The text that is read for a string, which is the whole value: it is no longer than a source.
 pub record IsOpened (k : ValueKind) (s : Source) (text : List ℕ) : Type 0 where
   pub opens : IsTrue (opens_strings k)
   pub is : only_text s.tokens ≡ Some text
   pub within : length (encode_utf8_all text) ≤ SOURCE_LIMIT
 
--- the text nests too deep: in its brackets; or at a token of it more openers count than the limit allows
+-- The text nests too deep: in its brackets; or at a token of it more openers count than the limit allows.
 pub data IsTextTooDeep (text : List ℕ) : Type 0 where
   brackets : (e : EduceError) → IsLexicalCause text e → e.kind ≡ TooDeep → IsTextTooDeep text
   openers : (inner : List Token) (t : Token) → IsReading text inner → IsTooDeep inner t → IsTextTooDeep text
 
--- the text has a literal that is not supported, by this cause
+-- The text has a literal that is not supported, by this cause.
 pub record IsUncarried (text : List ℕ) (e : EduceError) : Type 0 where
   pub cause : IsLexicalCause text e
   pub kind : e.kind ≡ NotCarried
 
--- no text that is read has such a literal
+-- No text that is read has such a literal.
 abbrev pub IsCarried : ValueKind → Source → Type 0
 IsCarried k s = (text : List ℕ) (e : EduceError) → IsOpened k s text → IsUncarried text e → ⊥
 
@@ -62,11 +62,11 @@ pub data IsValueCause (k : ValueKind) (path : MetaPath) (meta : Meta) : EduceErr
 
 -- ---- of a meta alone
 
--- why a call that reads a meta as a value of the kind rejects it
+-- Why a call that reads a meta as a value of the kind rejects it.
 pub data IsReaderCause (k : ValueKind) (meta : Meta) : EduceError → Type 0 where
   value : (path : MetaPath) (e : EduceError) → path_of meta ≡ Some path → IsValueCause k path meta e → IsReaderCause k meta e
   memory : IsReaderCause k meta (placeless Alloc)
 
--- no cause stands but out of memory
+-- No cause stands but out of memory.
 abbrev pub HasNoReaderCause : ValueKind → Meta → Type 0
 HasNoReaderCause k meta = (e : EduceError) → IsReaderCause k meta e → e.kind ≡ Alloc

@@ -23,7 +23,7 @@ abbrev pub answer_of : {A : Type 0} {Is : A → Type 0} {IsCause : EduceError �
 answer_of (inl found) = Ok found.0
 answer_of (inr cause) = Err cause.error
 
--- of a text: its tokens
+-- Of a text: its tokens.
 abbrev pub of_text : (text : List ℕ) → Decision (IsReading text) (IsLexicalCause text)
 of_text text = record {
   decided = lawful_lexing.decided text;
@@ -32,7 +32,7 @@ of_text text = record {
   single = lawful_lexing.one_cause text;
 }
 
--- of tokens by a rule: their value
+-- Of tokens by a rule: their value.
 abbrev pub by_rule : {A : Type 0} {g : Rule A} → RuleLaws g → (tokens : Tokens) → Decision (IsWhole g tokens) (IsParseCause g tokens)
 by_rule laws tokens = record {
   decided = laws.decided tokens;
@@ -41,10 +41,10 @@ by_rule laws tokens = record {
   single = laws.one_cause tokens;
 }
 
--- the tokens of a text, or the cause why it has none
+-- The tokens of a text, or the cause why it has none.
 unfoldable pub lexed : List ℕ → Result (List Token) EduceError
 lexed text = answer_of (of_text text).decided
 
--- the value of tokens by a rule, or the cause why they have none
+-- The value of tokens by a rule, or the cause why they have none.
 unfoldable pub parsed : {A : Type 0} {g : Rule A} → RuleLaws g → Tokens → Result A EduceError
 parsed laws tokens = answer_of (by_rule laws tokens).decided

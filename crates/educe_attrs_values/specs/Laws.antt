@@ -12,13 +12,13 @@ use Rattle.educe_attrs_values.specs.Values.{Holds}
 
 -- What holds of a kind, each path and each meta.
 pub record ValueLaws (k : ValueKind) : Type 0 where
-  -- what is read is what the parameter says
+  -- What is read is what the parameter says.
   pub holds : (path : MetaPath) (meta : Meta) (v : ValueOf k) → value_of k path meta ≡ Ok v → Holds k meta v
-  -- what it says is read
+  -- What it says is read.
   pub back : (path : MetaPath) (meta : Meta) (v : ValueOf k) → Holds k meta v → value_of k path meta ≡ Ok v
-  -- a rejection has a cause
+  -- A rejection has a cause.
   pub cause : (path : MetaPath) (meta : Meta) (e : EduceError) → value_of k path meta ≡ Err (Refused e) → IsValueCause k path meta e
-  -- with a cause the parameter says nothing
+  -- With a cause the parameter says nothing.
   pub excludes : (path : MetaPath) (meta : Meta) (e : EduceError) → IsValueCause k path meta e → (v : ValueOf k) → Holds k meta v → ⊥
-  -- reading needs memory, and what is read does not say when there is none
+  -- Reading needs memory, and what is read does not say when there is none.
   pub told : (path : MetaPath) (meta : Meta) → value_of k path meta ≡ Err Memory → ⊥

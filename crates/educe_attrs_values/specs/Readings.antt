@@ -35,7 +35,7 @@ use Rattle.educe_bound_traits.specs.OneWord.{is_one_word}
 
 -- ---- by a rule
 
--- why tokens are no value, by the kind of the error of what reads them; in the text of a string, or as they stand
+-- Why tokens are no value, by the kind of the error of what reads them; in the text of a string, or as they stand.
 abbrev pub fault_by : Bool → Span → List (List ℕ) → Kind → Fault
 fault_by quoted place words error.Alloc = fault.Memory
 fault_by true place words error.TooDeep = fault.TooDeepText
@@ -46,19 +46,19 @@ fault_by quoted place words _ = fault.Wrong
 abbrev pub fault_of : Bool → EduceError → Fault
 fault_of quoted e = fault_by quoted e.span e.words e.kind
 
--- the tokens as they stand
+-- The tokens as they stand.
 abbrev pub standing : Tokens → Opened
 standing tokens = record { tokens = tokens; quoted = false }
 
--- the tokens of the text of a string
+-- The tokens of the text of a string.
 abbrev pub of_string : Tokens → Opened
 of_string tokens = record { tokens = tokens; quoted = true }
 
--- what is read for a text: its tokens, within the limit
+-- What is read for a text: its tokens, within the limit.
 abbrev pub opened_text : List ℕ → Result Opened Fault
 opened_text text = if nat_le (length (encode_utf8_all text)) SOURCE_LIMIT then map_ok of_string (map_err (fault_of true) (lexed text)) else Err fault.Wrong
 
--- what is read for tokens: the text that is all of them, or the tokens as they stand
+-- What is read for tokens: the text that is all of them, or the tokens as they stand.
 abbrev pub opened_by : Option (List ℕ) → Tokens → Result Opened Fault
 opened_by None tokens = Ok (standing tokens)
 opened_by (Some text) tokens = opened_text text
@@ -66,36 +66,36 @@ opened_by (Some text) tokens = opened_text text
 abbrev pub opened : Tokens → Result Opened Fault
 opened tokens = opened_by (only_text tokens) tokens
 
--- their value by a rule, or the fault
+-- Their value by a rule, or the fault.
 abbrev pub found : {A : Type 0} {g : Rule A} → RuleLaws g → Opened → Result A Fault
 found laws o = map_err (fault_of o.quoted) (parsed laws o.tokens)
 
--- the value of tokens, or of the text that is all of them, by a rule
+-- The value of tokens, or of the text that is all of them, by a rule.
 abbrev pub plain : {A : Type 0} {g : Rule A} → RuleLaws g → Tokens → Result A Fault
 plain laws tokens = and_then (found laws) (opened tokens)
 
 -- ---- of each kind
 
--- the truth value that tokens are
+-- The truth value that tokens are.
 abbrev pub truth_in : Tokens → Option Bool
 truth_in tokens = if is_one_word (codes "true") tokens then Some true else if is_one_word (codes "false") tokens then Some false else None
 
--- the value, or that there is none
+-- The value, or that there is none.
 abbrev pub or_wrong : {A : Type 0} → Option A → Result A Fault
 or_wrong (Some x) = Ok x
 or_wrong None = Err fault.Wrong
 
--- the text has no character
+-- The text has no character.
 abbrev pub is_empty_text : Option (List ℕ) → Bool
 is_empty_text None = false
 is_empty_text (Some []) = true
 is_empty_text (Some (c ∷ cs)) = false
 
--- the name that tokens or the text of a string are, in a choice
+-- The name that tokens or the text of a string are, in a choice.
 abbrev pub named : Tokens → Result IdentOrBool Fault
 named tokens = map_ok choice.Ident (plain lawful_name tokens)
 
--- a truth value; `false` for a string without text; or else a name
+-- A truth value; `false` for a string without text; or else a name.
 abbrev pub name_or : Option Bool → Tokens → Result IdentOrBool Fault
 name_or (Some b) tokens = Ok (choice.Bool b)
 name_or None tokens = if is_empty_text (only_text tokens) then Ok (choice.Bool false) else named tokens
@@ -103,21 +103,21 @@ name_or None tokens = if is_empty_text (only_text tokens) then Ok (choice.Bool f
 abbrev pub name_in : Tokens → Result IdentOrBool Fault
 name_in tokens = name_or (truth_in tokens) tokens
 
--- the tokens are `*`
+-- The tokens are `*`.
 abbrev pub is_star : Tokens → Bool
 is_star [] = false
 is_star (t ∷ []) = accepts (Sign 42) t
 is_star (t ∷ u ∷ ts) = false
 
--- in brackets, or as the text of a string
+-- In brackets, or as the text of a string.
 abbrev pub may_be_predicates : Source → Bool
 may_be_predicates s = s.enclosed || is_some (only_text s.tokens)
 
--- the predicates that tokens or the text of a string are, in a choice
+-- The predicates that tokens or the text of a string are, in a choice.
 abbrev pub bounded : Tokens → Result WherePredicatesOrBool Fault
 bounded tokens = map_ok bound.WherePredicates (plain lawful_predicates tokens)
 
--- a truth value; in brackets `*`; or else predicates
+-- A truth value; in brackets `*`; or else predicates.
 abbrev pub bound_or : Option Bool → Source → Result WherePredicatesOrBool Fault
 bound_or (Some b) s = Ok (bound.Bool b)
 bound_or None s =
@@ -127,7 +127,7 @@ bound_or None s =
 abbrev pub bound_in : Source → Result WherePredicatesOrBool Fault
 bound_in s = bound_or (truth_in s.tokens) s
 
--- what tokens are as a value of the kind
+-- What tokens are as a value of the kind.
 abbrev pub reading : (k : ValueKind) → Source → Result (ValueOf k) Fault
 reading kind.Ident s = plain lawful_name s.tokens
 reading kind.Name s = name_in s.tokens
@@ -140,7 +140,7 @@ reading kind.Bound s = bound_in s
 
 -- ---- what a parameter says
 
--- what was read as a value of the kind at this place, or its rejection
+-- What was read as a value of the kind at this place, or its rejection.
 abbrev pub or_refused : {A : Type 0} → ValueKind → MetaPath → Span → Result A Fault → Result A Stop
 or_refused k path place (Ok x) = Ok x
 or_refused k path place (Err fault.Wrong) = Err (Refused (wrong k path place))
@@ -149,16 +149,16 @@ or_refused k path place (Err fault.TooDeepText) = Err (Refused (refusal error.To
 or_refused k path place (Err (fault.NotCarried words)) = Err (Refused (not_carried place words))
 or_refused k path place (Err fault.Memory) = Err Memory
 
--- what the parameter alone means, or that its value is missing
+-- What the parameter alone means, or that its value is missing.
 abbrev pub or_missing : {A : Type 0} → ValueKind → MetaPath → Option A → Result A Stop
 or_missing k path (Some x) = Ok x
 or_missing k path None = Err (Refused (missing k path))
 
--- the value among these tokens, if there are any
+-- The value among these tokens, if there are any.
 abbrev pub value_among : (k : ValueKind) → MetaPath → Span → Option Source → Result (ValueOf k) Stop
 value_among k path place None = or_missing k path (bare k)
 value_among k path place (Some s) = or_refused k path place (reading k s)
 
--- what the parameter of this path says, as a value of the kind
+-- What the parameter of this path says, as a value of the kind.
 abbrev pub value_of : (k : ValueKind) → MetaPath → Meta → Result (ValueOf k) Stop
 value_of k path meta = value_among k path (value_place meta) (value_source meta)

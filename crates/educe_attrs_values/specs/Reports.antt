@@ -9,18 +9,18 @@ use Rattle.educe_tokens.specs.Message.{HasWords}
 use Rattle.educe_syntax.specs.Laws.{place_has}
 use Rattle.educe_syntax.specs.Placed.{HasPlace}
 
--- the error has a message: it isn't out of memory, and has the words that its message cites
+-- The error has a message: it isn't out of memory, and has the words that its message cites.
 pub record HasMessage (e : EduceError) : Type 0 where
   pub kind : e.kind ≢ Alloc
   pub words : HasWords e.kind e.words
 
--- the place is the beginning of the source, or where a token of the list starts or ends
+-- The place is the beginning of the source, or where a token of the list starts or ends.
 pub data IsBoundary (tokens : List Token) : ℕ → Type 0 where
   beginning : IsBoundary tokens 0
   start : (place : Span) → HasPlace tokens place → IsBoundary tokens place.start
   end : (place : Span) → HasPlace tokens place → IsBoundary tokens place.end
 
--- what holds at the beginning, and where each token starts and ends, holds at each boundary
+-- What holds at the beginning, and where each token starts and ends, holds at each boundary.
 pub boundary_has : (P : ℕ → Type 0) (tokens : List Token) → P 0 → AllByRecursion (λ (t : Token). P t.span.start × P t.span.end) tokens → (n : ℕ) → IsBoundary tokens n → P n
 boundary_has P tokens first each _ IsBoundary.beginning = first
 boundary_has P tokens first each _ (IsBoundary.start place has) = (place_has (λ s. P s.start × P s.end) tokens place each has).0

@@ -7,11 +7,11 @@ use Rattle.educe_syntax.specs.Meta.TheVariants as said
 use Rattle.educe_attrs_values.specs.declared.source.Source.{Source}
 use Rattle.educe_attrs_values.specs.Words.{place_of}
 
--- the tokens between the first and the last
+-- The tokens between the first and the last.
 abbrev pub inside : List Token → List Token
 inside tokens = take (length tokens - 2) (drop 1 tokens)
 
--- the tokens of the value: those behind `=`, or in the brackets; none where neither stands there
+-- The tokens of the value: those behind `=`, or in the brackets; none where neither stands there.
 abbrev pub value_source : Meta → Option Source
 value_source (said.Word path) = None
 value_source (said.List path tokens place) = Some (record { tokens = inside tokens.tokens; enclosed = true })
@@ -19,16 +19,16 @@ value_source (said.NameValue path value place) = Some (record { tokens = value.w
 value_source (said.Doc t) = None
 value_source (said.Unread path tokens place) = None
 
--- the tokens, or these where there are none
+-- The tokens, or these where there are none.
 abbrev pub or_else : List Token → List Token → List Token
 or_else others [] = others
 or_else others (t ∷ ts) = t ∷ ts
 
--- the tokens at which a wrong value in brackets is rejected: its own, or the empty brackets
+-- The tokens at which a wrong value in brackets is rejected: its own, or the empty brackets.
 abbrev pub shown : List Token → List Token
 shown tokens = or_else tokens (inside tokens)
 
--- the place at which a wrong value is rejected
+-- The place at which a wrong value is rejected.
 abbrev pub value_place : Meta → Span
 value_place (said.Word path) = record { start = 0; end = 0 }
 value_place (said.List path tokens place) = place_of (shown tokens.tokens)

@@ -47,14 +47,14 @@ pub data IsInteger : List Token → ℤ → Type 0 where
 
 -- ---- by a rule
 
--- a text is this value by a rule: it is no longer than a source, and its tokens are the value
+-- A text is this value by a rule: it is no longer than a source, and its tokens are the value.
 pub record ReadsText {A : Type 0} (g : Rule A) (text : List ℕ) (x : A) : Type 0 where
   pub within : length (encode_utf8_all text) ≤ SOURCE_LIMIT
   pub inner : List Token
   pub reading : IsReading text inner
   pub whole : IsWhole g inner x
 
--- the text that is all of the tokens is the value by a rule, or without such a text the tokens are
+-- The text that is all of the tokens is the value by a rule, or without such a text the tokens are.
 abbrev pub ReadsBy : {A : Type 0} → Rule A → Option (List ℕ) → List Token → A → Type 0
 ReadsBy g None tokens x = IsWhole g tokens x
 ReadsBy g (Some text) tokens x = ReadsText g text x
@@ -64,21 +64,21 @@ ReadsPlain g tokens x = ReadsBy g (only_text tokens) tokens x
 
 -- ---- names and bounds
 
--- the tokens are `true` or `false`
+-- The tokens are `true` or `false`.
 abbrev pub IsTruth : List Token → Type 0
 IsTruth tokens = (b : Bool) × IsOneWord tokens (truth_word b)
 
--- a truth value; a string without text, which says `false`; or else a name or a string of one
+-- A truth value; a string without text, which says `false`; or else a name or a string of one.
 pub data IsName (tokens : List Token) : IdentOrBool → Type 0 where
   truth : (b : Bool) → IsOneWord tokens (truth_word b) → IsName tokens (named.Bool b)
   empty : only_text tokens ≡ Some [] → IsName tokens (named.Bool false)
   ident : (x : Ident) → ¬ IsTruth tokens → ¬ (only_text tokens ≡ Some []) → ReadsPlain name tokens x → IsName tokens (named.Ident x)
 
--- the tokens are `*`
+-- The tokens are `*`.
 abbrev pub IsStar : List Token → Type 0
 IsStar tokens = (star : Token) × (tokens ≡ star ∷ []) × IsTrue (accepts (Sign 42) star)
 
--- a truth value; in brackets `*`; or else a string of predicates, or in brackets predicates
+-- A truth value; in brackets `*`; or else a string of predicates, or in brackets predicates.
 pub data IsBound (s : Source) : WherePredicatesOrBool → Type 0 where
   truth : (b : Bool) → IsOneWord s.tokens (truth_word b) → IsBound s (bound.Bool b)
   all : IsTrue s.enclosed → IsStar s.tokens → IsBound s bound.All
@@ -88,7 +88,7 @@ pub data IsBound (s : Source) : WherePredicatesOrBool → Type 0 where
 
 -- ---- kinds
 
--- the tokens are this value of the kind
+-- The tokens are this value of the kind.
 abbrev pub Reads : (k : ValueKind) → Source → ValueOf k → Type 0
 Reads kind.Ident s x = ReadsPlain name s.tokens x
 Reads kind.Name s x = IsName s.tokens x
@@ -99,15 +99,15 @@ Reads kind.Integer s n = IsInteger s.tokens n
 Reads kind.Expr s x = IsWhole expression s.tokens x
 Reads kind.Bound s x = IsBound s x
 
--- the tokens are no value of the kind
+-- The tokens are no value of the kind.
 abbrev pub HasNoValue : ValueKind → Source → Type 0
 HasNoValue k s = (v : ValueOf k) → Reads k s v → ⊥
 
--- among these tokens, if there are any, stands this value; without any it is what the parameter alone means
+-- Among these tokens, if there are any, stands this value; without any it is what the parameter alone means.
 abbrev pub HoldsAmong : (k : ValueKind) → Option Source → ValueOf k → Type 0
 HoldsAmong k None v = bare k ≡ Some v
 HoldsAmong k (Some s) v = Reads k s v
 
--- the parameter says this, as a value of the kind
+-- The parameter says this, as a value of the kind.
 abbrev pub Holds : (k : ValueKind) → Meta → ValueOf k → Type 0
 Holds k meta v = HoldsAmong k (value_source meta) v

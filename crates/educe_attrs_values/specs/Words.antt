@@ -8,20 +8,20 @@ use Rattle.educe_syntax.specs.Meta.TheVariants as said
 use Rattle.educe_syntax.specs.MetaPath.{MetaPath}
 use Rattle.educe_syntax.specs.Attributes.{between}
 
--- the word of a truth value
+-- The word of a truth value.
 abbrev pub truth_word : Bool → List ℕ
 truth_word true = codes "true"
 truth_word false = codes "false"
 
--- from the first of the tokens to the last
+-- From the first of the tokens to the last.
 abbrev pub place_of : List Token → Span
 place_of tokens = between (slice_get tokens 0) (slice_get tokens (length tokens - 1))
 
--- the text of a path, without blanks
+-- The text of a path, without blanks.
 abbrev pub text_of : MetaPath → List ℕ
 text_of path = flat_map (λ (t : Token). t.spelling) path.written.tokens
 
--- the path that a meta begins with; documentation has none
+-- The path that a meta begins with; documentation has none.
 abbrev pub path_of : Meta → Option MetaPath
 path_of (said.Word path) = Some path
 path_of (said.List path tokens place) = Some path
@@ -29,7 +29,7 @@ path_of (said.NameValue path value place) = Some path
 path_of (said.Doc t) = None
 path_of (said.Unread path tokens place) = Some path
 
--- the place of a meta
+-- The place of a meta.
 abbrev pub meta_place : Meta → Span
 meta_place (said.Word path) = place_of path.written.tokens
 meta_place (said.List path tokens place) = place

@@ -5,10 +5,10 @@ use Rattle.educe_tokens.specs.Spells.{IsWord}
 use Rattle.educe_names.specs.Laws.{NameLaws}
 use Rattle.educe_names.proofs.Lawful as lawful
 
--- names that are chosen have them
+-- Names that are chosen have them.
 pub lawful_names : NameLaws
 lawful_names = lawful.lawful_names
 
--- an ASCII identifier is a word; at a literal the premise is `refl`
+-- An ASCII identifier is a word; at a literal the premise is `refl`.
 pub ascii_is_word : (name : List ℕ) → IsTrue (is_ascii_name name) → IsWord (chars name)
 ascii_is_word = lawful_names.ascii

@@ -12,22 +12,22 @@ use Rattle.educe_tokens.specs.Quote.{template_words, is_template, quoted}
 use Rattle.educe_tree.specs.declared.ident.Ident.{Ident}
 use Rattle.educe_body_forms.specs.Lifetimes.{is_ascii_lifetime}
 
--- the names behind references
+-- The names behind references.
 abbrev pub behind : List (Bor Ident) → List Ident
 behind names = map (λ (n : Bor Ident). n.now) names
 
--- `#` and one more character
+-- `#` and one more character.
 abbrev pub is_slot : List ℕ → Bool
 is_slot [] = false
 is_slot (c ∷ []) = false
 is_slot (c ∷ d ∷ []) = c == 35
 is_slot (c ∷ d ∷ e ∷ cs) = false
 
--- the number of the name that a digit says
+-- The number of the name that a digit says.
 abbrev pub slot : ℕ → ℕ
 slot digit = cond (digit == 48) 0 (cond (digit == 49) 1 (cond (digit == 50) 2 3))
 
--- the number behind `#`
+-- The number behind `#`.
 abbrev pub slot_of : List ℕ → ℕ
 slot_of [] = 0
 slot_of (c ∷ []) = 0
@@ -39,25 +39,25 @@ begins_lifetime word = begins (λ c. c == 39) word
 abbrev pub begins_number : List ℕ → Bool
 begins_number word = begins is_ascii_digit word
 
--- the token of a name, where there is one
+-- The token of a name, where there is one.
 abbrev pub name_lexemes : Option Ident → List Lexeme
 name_lexemes None = []
 name_lexemes (Some name) = record { kind = kind.Ident; spelling = name.text } ∷ []
 
--- the tokens of a word
+-- The tokens of a word.
 abbrev pub filled_word : List Ident → List ℕ → List Lexeme
 filled_word names word =
     cond (is_slot word) (name_lexemes (slice_get names (slot_of word)))
     (cond (begins_lifetime word) (record { kind = kind.Lifetime; spelling = word } ∷ [])
     (cond (begins_number word) (record { kind = kind.Literal Int; spelling = word } ∷ []) (quoted word)))
 
--- it is such a word
+-- It is such a word.
 abbrev pub fits : List ℕ → Bool
 fits word =
     cond (is_slot word) true
     (cond (begins_lifetime word) (list_all is_ascii word && is_ascii_lifetime word)
     (cond (begins_number word) (list_all is_ascii word && spells (kind.Literal Int) word) (is_template word)))
 
--- the tokens of the template
+-- The tokens of the template.
 abbrev pub filled : List Ident → List ℕ → List Lexeme
 filled names text = flat_map (filled_word names) (template_words text)

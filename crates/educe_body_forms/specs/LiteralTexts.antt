@@ -2,12 +2,12 @@
 use Rattle.std.specs.Prelude.{ℕ, List, [], ◌∷◌, ◌++◌, Option, None, Some, codes}
 use Rattle.educe_tree.specs.declared.ident.Ident.{Ident}
 
--- the text of a name, where there is one
+-- The text of a name, where there is one.
 abbrev pub optional_text : Option Ident → List ℕ
 optional_text None = []
 optional_text (Some name) = name.text
 
--- two texts, with `::` between where neither is empty
+-- Two texts, with `::` between where neither is empty.
 abbrev pub path_text : List ℕ → List ℕ → List ℕ
 path_text [] last = last
 path_text (c ∷ first) [] = c ∷ first

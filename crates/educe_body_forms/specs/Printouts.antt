@@ -24,107 +24,107 @@ use Rattle.educe_body_forms.specs.declared.key_function.Distance.{Distance}
 use Rattle.educe_body_forms.specs.declared.position.Position.{Position}
 use Rattle.educe_body_forms.specs.Suffixed.{steps_lexeme, steps_printable}
 
--- a list of tokens, and why they may stand anywhere
+-- A list of tokens, and why they may stand anywhere.
 pub record Printout : Type 0 where
   pub tokens : List Lexeme
   pub printable : IsPrintable tokens
 
--- the new list of tokens is the old one and then the printout
+-- The new list of tokens is the old one and then the printout.
 abbrev pub Prints : Printout → List Token → List Token → Type 0
 Prints printout old new = Appends printout.tokens old new
 
--- no tokens
+-- No tokens.
 abbrev pub nothing : Printout
 nothing = record { tokens = []; printable = printable-nil }
 
--- the tokens of a template; that they may stand anywhere is computed, and its proof is `refl`
+-- The tokens of a template; that they may stand anywhere is computed, and its proof is `refl`.
 abbrev pub says : (text : List ℕ) → is_printable_template text ≡ true → Printout
 says text h = record { tokens = quoted text; printable = printable-quoted text h }
 
--- an identifier
+-- An identifier.
 abbrev pub name : Ident → Printout
 name ident = record { tokens = record { kind = kind.Ident; spelling = ident.text } ∷ []; printable = printable-ident ident.text ident.spelled }
 
--- a lifetime
+-- A lifetime.
 abbrev pub lifetime : Lifetime → Printout
 lifetime l = record { tokens = record { kind = kind.Lifetime; spelling = l.text } ∷ []; printable = printable-lifetime l.text l.spelled }
 
--- an identifier or an integer
+-- An identifier or an integer.
 abbrev pub word : Word → Printout
 word w = record { tokens = word_lexeme w.text ∷ []; printable = printable-word w }
 
--- tokens as they were written
+-- Tokens as they were written.
 abbrev pub written : Written → Printout
 written w = record { tokens = written_lexemes w; printable = printable-written w }
 
--- the path of a primitive integer type
+-- The path of a primitive integer type.
 abbrev pub primitive : DiscriminantType → Printout
 primitive ty = record { tokens = primitive_lexemes ty; printable = primitive_printable ty }
 
--- a string literal, as it is spelled
+-- A string literal, as it is spelled.
 pub string_printable : (text : List ℕ) → IsTrue (spells (kind.Literal Str) text) → IsPrintable (record { kind = kind.Literal Str; spelling = text } ∷ [])
 string_printable text h = record { written = written-one (kind.Literal Str) text refl; spelled = and_from _ _ h refl }
 
--- the token of a string literal that is spelled so; that it is one is computed, and its proof is `refl`
+-- The token of a string literal that is spelled so; that it is one is computed, and its proof is `refl`.
 abbrev pub string : (text : List ℕ) → IsTrue (spells (kind.Literal Str) text) → Printout
 string text h = record { tokens = record { kind = kind.Literal Str; spelling = text } ∷ []; printable = string_printable text h }
 
--- an integer, as it is spelled
+-- An integer, as it is spelled.
 pub number_printable : (text : List ℕ) → IsTrue (spells (kind.Literal Int) text) → IsPrintable (record { kind = kind.Literal Int; spelling = text } ∷ [])
 number_printable text h = record { written = written-one (kind.Literal Int) text refl; spelled = and_from _ _ h refl }
 
--- the token of an integer that is spelled so; that it is one is computed, and its proof is `refl`
+-- The token of an integer that is spelled so; that it is one is computed, and its proof is `refl`.
 abbrev pub number : (text : List ℕ) → IsTrue (spells (kind.Literal Int) text) → Printout
 number text h = record { tokens = record { kind = kind.Literal Int; spelling = text } ∷ []; printable = number_printable text h }
 
--- a number, as an integer of the type `usize`
+-- A number, as an integer of the type `usize`.
 abbrev pub counted : (n : ℕ) → n < 2 ^ 64 → Printout
 counted n small = record { tokens = steps_lexeme n ∷ []; printable = steps_printable n small }
 
--- the steps of a distance
+-- The steps of a distance.
 abbrev pub steps : Distance → Printout
 steps distance = counted distance.steps distance.fits
 
--- the place of a variant
+-- The place of a variant.
 abbrev pub place : Position → Printout
 place position = counted position.place position.fits
 
--- one printout and then another
+-- One printout and then another.
 infixl 30 ◌beside◌
 abbrev pub ◌beside◌ : Printout → Printout → Printout
 x beside y = record { tokens = x.tokens ++ y.tokens; printable = printable-append x.tokens y.tokens x.printable y.printable }
 
--- the printouts of a list's items, in order
+-- The printouts of a list's items, in order.
 abbrev pub each : {X : Type 0} → (X → Printout) → List X → Printout
 each f xs = record { tokens = flat_map (λ x. (f x).tokens) xs; printable = printable-flat_map (λ x. (f x).tokens) (λ x. (f x).printable) xs }
 
--- a list in round brackets may stand anywhere
+-- A list in round brackets may stand anywhere.
 pub round_printable : (inside : List Lexeme) → IsPrintable inside → IsPrintable (quoted (codes "(") ++ inside ++ quoted (codes ")"))
 unfolding quoted
 round_printable inside h = printable-brackets Round inside h
 
--- so may one in square brackets
+-- So may one in square brackets.
 pub square_printable : (inside : List Lexeme) → IsPrintable inside → IsPrintable (quoted (codes "[") ++ inside ++ quoted (codes "]"))
 unfolding quoted
 square_printable inside h = printable-brackets Square inside h
 
--- and one in curly brackets
+-- And one in curly brackets.
 pub curly_printable : (inside : List Lexeme) → IsPrintable inside → IsPrintable (quoted (codes "{") ++ inside ++ quoted (codes "}"))
 unfolding quoted
 curly_printable inside h = printable-brackets Curly inside h
 
--- in round brackets
+-- In round brackets.
 abbrev pub in_round : Printout → Printout
 in_round x = record { tokens = quoted (codes "(") ++ x.tokens ++ quoted (codes ")"); printable = round_printable x.tokens x.printable }
 
--- in square brackets
+-- In square brackets.
 abbrev pub in_square : Printout → Printout
 in_square x = record { tokens = quoted (codes "[") ++ x.tokens ++ quoted (codes "]"); printable = square_printable x.tokens x.printable }
 
--- in curly brackets
+-- In curly brackets.
 abbrev pub in_curly : Printout → Printout
 in_curly x = record { tokens = quoted (codes "{") ++ x.tokens ++ quoted (codes "}"); printable = curly_printable x.tokens x.printable }
 
--- in angle brackets
+-- In angle brackets.
 abbrev pub in_angle : Printout → Printout
 in_angle inside = says (codes "<") refl beside inside beside says (codes ">") refl

@@ -23,48 +23,48 @@ use Rattle.educe_tokens.specs.Spells.{IsIntegerOf}
 use Rattle.educe_tokens.proofs.Printable.{IsPrintable, printable-word}
 use Rattle.educe_tree.specs.TokenLaws.{lawful_kinds}
 
--- the decimal digits of a number, and `usize`
+-- The decimal digits of a number, and `usize`.
 abbrev pub steps_text : ℕ → List ℕ
 steps_text n = decimal n ++ codes "usize"
 
--- the token that they are
+-- The token that they are.
 abbrev pub steps_lexeme : ℕ → Lexeme
 steps_lexeme n = word_lexeme (steps_text n)
 
 -- ---- digits with a suffix are an integer
 
--- a digit is one in its base, and no `_`
+-- A digit is one in its base, and no `_`.
 digit_is : (c : ℕ) → digit_value c < 10 → (is_digit c 10 ≡ true) × ((c == 95) ≡ false) × (is_ascii_digit c ≡ true)
 digit_is c h =
     let range : IsInRange 48 57 c = digit_from_value c h in
     (grind (arith, nat_tests), grind (arith, nat_tests), grind (arith, nat_tests))
 
--- each of them is a digit or mark of its base
+-- Each of them is a digit or mark of its base.
 digits_each : (ds : List ℕ) → AllDigits 10 ds → list_all (is_digit_or_mark Decimal) ds ≡ true
 digits_each [] h = refl
 digits_each (c ∷ cs) h = let d = (digit_is c h.0).0 in rw d (digits_each cs h.1)
 
--- none of them is a mark
+-- None of them is a mark.
 digits_kept : (ds : List ℕ) → AllDigits 10 ds → filter (λ c. not (c == 95)) ds ≡ ds
 digits_kept [] h = refl
 digits_kept (c ∷ cs) h = let d = (digit_is c h.0).1 in rw d (ap (λ rest. c ∷ rest) (digits_kept cs h.1))
 
--- there is one
+-- There is one.
 digits_some : (ds : List ℕ) → AllDigits 10 ds → 0 < length ds → has_digit Decimal ds ≡ true
 digits_some [] h some = absurd (omega arith)
 digits_some (c ∷ cs) h some = let d = (digit_is c h.0).0 in rw d refl
 
--- they begin with a digit
+-- They begin with a digit.
 pub digits_begin : (ds : List ℕ) → AllDigits 10 ds → 0 < length ds → begins is_ascii_digit ds ≡ true
 digits_begin [] h some = absurd (omega arith)
 digits_begin (c ∷ cs) h some = (digit_is c h.0).2
 
--- so do they with more behind them
+-- So do they with more behind them.
 digits_begin-append : (ds more : List ℕ) → AllDigits 10 ds → 0 < length ds → begins is_ascii_digit (ds ++ more) ≡ true
 digits_begin-append [] more h some = absurd (omega arith)
 digits_begin-append (c ∷ cs) more h some = digits_begin (c ∷ cs) h some
 
--- the decimal digits of a number, with no suffix or a type of integers, are an integer
+-- The decimal digits of a number, with no suffix or a type of integers, are an integer.
 pub decimal_suffixed : (n : ℕ) (suffix : List ℕ) → n < 2 ^ 64 → (suffix ≡ []) ⊎ IsTrue (is_integer_type suffix) → IsTrue (spells (Literal Int) (decimal n ++ suffix))
 decimal_suffixed n suffix small typed =
     let own = decimal_is_IsNumeral n small in
@@ -80,15 +80,15 @@ decimal_suffixed n suffix small typed =
     let value : digits_number Decimal ds ≡ n = ap (digits_value 10) (digits_kept ds own.0.1) ∙ own.1 in
     lawful_kinds.integer (ds ++ suffix) (Decimal, ds, int, omega arith)
 
--- `usize` is a type of integers
+-- `usize` is a type of integers.
 is_usize : IsTrue (is_integer_type (codes "usize"))
 unfolding is_integer_type
 is_usize = refl
 
--- a number of steps, as it is printed, spells an integer
+-- A number of steps, as it is printed, spells an integer.
 pub steps_spelled : (n : ℕ) → n < 2 ^ 64 → IsTrue (is_name_or_index (steps_text n))
 steps_spelled n small = or_right (spells Ident (steps_text n)) (spells (Literal Int) (steps_text n)) (decimal_suffixed n (codes "usize") small (inr is_usize))
 
--- it may stand anywhere
+-- It may stand anywhere.
 pub steps_printable : (n : ℕ) → n < 2 ^ 64 → IsPrintable (steps_lexeme n ∷ [])
 steps_printable n small = printable-word (record { text = steps_text n; spelled = steps_spelled n small })

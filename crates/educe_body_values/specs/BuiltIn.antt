@@ -16,7 +16,7 @@ use Rattle.educe_body_values.specs.declared.callee.BuiltIn.{BuiltIn}
 use Rattle.educe_body_values.specs.declared.callee.BuiltIn.TheVariants.{Ne, Cmp, PartialCmp, Hash, Clone, CloneFrom}
 use Rattle.educe_body_values.specs.Callees.{path_names}
 
--- the tokens of the path
+-- The tokens of the path.
 abbrev pub path_lexemes : BuiltIn → List Lexeme
 path_lexemes Ne = quoted (codes ":: core :: cmp :: PartialEq :: ne")
 path_lexemes Cmp = quoted (codes ":: core :: cmp :: Ord :: cmp")
@@ -25,15 +25,15 @@ path_lexemes Hash = quoted (codes ":: core :: hash :: Hash :: hash")
 path_lexemes Clone = quoted (codes ":: core :: clone :: Clone :: clone")
 path_lexemes CloneFrom = quoted (codes ":: core :: clone :: Clone :: clone_from")
 
--- what a segment says: its name, where that lies, and its arguments
+-- What a segment says: its name, where that lies, and its arguments.
 abbrev pub said_by : Segment → List ℕ × Span × Args
 said_by segment = ((out-Segment segment).ident.text, (out-Segment segment).ident.span, (out-Segment segment).args)
 
--- what a segment says that the program makes: a name alone, at no place
+-- What a segment says that the program makes: a name alone, at no place.
 abbrev pub name_alone : List ℕ → List ℕ × Span × Args
 name_alone name = (name, no_place, args.None)
 
--- the path of these tokens and names, behind `::` and no type; no name has arguments, and nothing lies anywhere
+-- The path of these tokens and names, behind `::` and no type; no name has arguments, and nothing lies anywhere.
 pub record IsMade (found : List Lexeme) (names : List (List ℕ)) (path : ExprPath) : Type 0 where
   pub held : lexemes path.written.tokens ≡ found
   pub tokens : written_lexemes path.written ≡ found
@@ -42,7 +42,7 @@ pub record IsMade (found : List Lexeme) (names : List (List ℕ)) (path : ExprPa
   pub leading : (out-Path path.path).leading ≡ true
   pub segments : map said_by (out-Path path.path).segments ≡ map name_alone names
 
--- the path by which generated code calls the function: it is made so, and it is the reading of its tokens
+-- The path by which generated code calls the function: it is made so, and it is the reading of its tokens.
 pub record IsBuiltIn (which : BuiltIn) (path : ExprPath) : Type 0 where
   pub made : IsMade (path_lexemes which) (path_names which) path
   pub reads : IsWhole expr_path path.written.tokens path

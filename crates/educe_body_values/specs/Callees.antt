@@ -14,16 +14,16 @@ use Rattle.educe_body_values.specs.declared.callee.BuiltIn.TheVariants.{Ne, Cmp,
 use Rattle.educe_body_values.specs.declared.callee.Callee.{Callee}
 use Rattle.educe_body_values.specs.declared.callee.Callee.TheVariants.{Ne as CalleeNe, Cmp as CalleeCmp, PartialCmp as CalleePartialCmp, Hash as CalleeHash, Clone as CalleeClone, CloneFrom as CalleeCloneFrom, Written}
 
--- the spellings of tokens; where they agree the tokens are the same (`AreSameTokens`), since a spelling decides the kind
+-- The spellings of tokens; where they agree the tokens are the same (`AreSameTokens`), since a spelling decides the kind.
 abbrev pub spellings : List Token → List (List ℕ)
 spellings tokens = map (λ t. t.spelling) tokens
 
--- the spellings of the path of these words, each behind `::`
+-- The spellings of the path of these words, each behind `::`.
 abbrev pub path_of : List (List ℕ) → List (List ℕ)
 path_of [] = []
 path_of (word ∷ words) = codes ":" ∷ codes ":" ∷ word ∷ path_of words
 
--- the words of the path of a function that is built in
+-- The words of the path of a function that is built in.
 abbrev pub path_names : BuiltIn → List (List ℕ)
 path_names Ne = codes "core" ∷ codes "cmp" ∷ codes "PartialEq" ∷ codes "ne" ∷ []
 path_names Cmp = codes "core" ∷ codes "cmp" ∷ codes "Ord" ∷ codes "cmp" ∷ []
@@ -32,20 +32,20 @@ path_names Hash = codes "core" ∷ codes "hash" ∷ codes "Hash" ∷ codes "hash
 path_names Clone = codes "core" ∷ codes "clone" ∷ codes "Clone" ∷ codes "clone" ∷ []
 path_names CloneFrom = codes "core" ∷ codes "clone" ∷ codes "Clone" ∷ codes "clone_from" ∷ []
 
--- the first of these functions whose path has these spellings
+-- The first of these functions whose path has these spellings.
 abbrev pub first_spelled : List BuiltIn → List (List ℕ) → Option BuiltIn
 first_spelled [] path = None
 first_spelled (which ∷ more) path = if pointwise bytes_eq path (path_of (path_names which)) then Some which else first_spelled more path
 
--- the function that a path of these spellings names, if it is built in
+-- The function that a path of these spellings names, if it is built in.
 unfoldable pub built_in_named : List (List ℕ) → Option BuiltIn
 built_in_named path = first_spelled (Ne ∷ Cmp ∷ PartialCmp ∷ Hash ∷ Clone ∷ CloneFrom ∷ []) path
 
--- the function that a path names, if it is built in
+-- The function that a path names, if it is built in.
 abbrev pub built_in : ExprPath → Option BuiltIn
 built_in path = built_in_named (spellings path.written.tokens)
 
--- a function that is built in, as what is called
+-- A function that is built in, as what is called.
 abbrev pub as_callee : BuiltIn → Callee
 as_callee Ne = CalleeNe
 as_callee Cmp = CalleeCmp
@@ -54,33 +54,33 @@ as_callee Hash = CalleeHash
 as_callee Clone = CalleeClone
 as_callee CloneFrom = CalleeCloneFrom
 
--- the text of a path
+-- The text of a path.
 abbrev pub text_of_path : ExprPath → List ℕ
 text_of_path path = text_of (written_lexemes path.written)
 
--- a function that is built in, or else that of the path's text
+-- A function that is built in, or else that of the path's text.
 abbrev pub callee_or_text : ExprPath → Option BuiltIn → Callee
 callee_or_text path None = Written (text_of_path path)
 callee_or_text path (Some which) = as_callee which
 
--- what a path names: a function that is built in, or that of its text
+-- What a path names: a function that is built in, or that of its text.
 abbrev pub callee_of : ExprPath → Callee
 callee_of path = callee_or_text path (built_in path)
 
--- words as they are written in code
+-- Words as they are written in code.
 abbrev pub texts : List (Bor (List ℕ)) → List (List ℕ)
 texts words = map (λ word. word.now) words
 
--- these have ASCII characters alone
+-- These have ASCII characters alone.
 abbrev pub are_ascii : List (Bor (List ℕ)) → Bool
 are_ascii [] = true
 are_ascii (word ∷ words) = list_all is_ascii word.now && are_ascii words
 
--- the tokens are spelled `::` and the word
+-- The tokens are spelled `::` and the word.
 abbrev pub segment_is : Token → Token → Token → List ℕ → Bool
 segment_is first second name word = bytes_eq first.spelling (codes ":") && bytes_eq second.spelling (codes ":") && bytes_eq name.spelling word
 
--- the function of the first path of a table that has these spellings
+-- The function of the first path of a table that has these spellings.
 unfoldable pub first_named : List (List (Bor (List ℕ)) × BuiltIn) → List (List ℕ) → Option BuiltIn
 first_named [] path = None
 first_named (known ∷ more) path =

@@ -6,7 +6,7 @@ use Rattle.educe_body_forms.specs.declared.form.Arm.{Arm}
 use Rattle.educe_body_forms.specs.declared.form.Init.{Init}
 
 abbrev mutual
-  -- an assignment to a field of `self` or through a name, or a discard, stands in the form
+  -- An assignment to a field of `self` or through a name, or a discard, stands in the form.
   pub assigns : Form → Bool
   assigns (Call' path shape arguments) = row_assigns arguments
   assigns (Not' shape inner) = row_assigns inner
@@ -26,39 +26,39 @@ abbrev mutual
   assigns (MethodArgument' own shape inner ty path) = row_assigns inner
   assigns form = false
 
-  -- in one of the forms
+  -- In one of the forms.
   pub row_assigns : {m : _} → Row_of-Form m → Bool
   row_assigns end_of-Form = false
   row_assigns (more_of-Form x rest) = assigns x || row_assigns rest
 
-  -- in a block that may be missing
+  -- In a block that may be missing.
   pub held_assigns : Held-Form-MatchOrdering-2 → Bool
   held_assigns None' = false
   held_assigns (Some' shape row) = row_assigns row
 
-  -- in the block of one of the arms
+  -- In the block of one of the arms.
   pub arms_assign : {m : _} → Row_of-Arm m → Bool
   arms_assign end_of-Arm = false
   arms_assign (more_of-Arm pattern braced comma shape row rest) = row_assigns row || arms_assign rest
 
-  -- in one of the initializers
+  -- In one of the initializers.
   pub inits_assign : {m : _} → Row_of-Init m → Bool
   inits_assign end_of-Init = false
   inits_assign (more_of-Init key x rest) = assigns x || inits_assign rest
 
--- in one of the forms of a list
+-- In one of the forms of a list.
 abbrev pub any_assigns : List Form → Bool
 any_assigns forms = list_any assigns forms
 
--- in a list of forms, where there is one
+-- In a list of forms, where there is one.
 abbrev pub others_assign : Option (List Form) → Bool
 others_assign None = false
 others_assign (Some forms) = any_assigns forms
 
--- in the block of one of the arms of a list
+-- In the block of one of the arms of a list.
 abbrev pub arms_assigning : List Arm → Bool
 arms_assigning arms = list_any (λ arm. any_assigns arm.block) arms
 
--- in one of the initializers of a list
+-- In one of the initializers of a list.
 abbrev pub inits_assigning : List Init → Bool
 inits_assigning inits = list_any (λ init. assigns init.value) inits

@@ -62,8 +62,8 @@ use Rattle.educe_body_values.specs.Matching.{has_key, fits, bindings_of}
 use Rattle.educe_body_values.specs.Scoping.{callee_in, names_bound}
 use Rattle.educe_body_values.specs.Types.{pasted_callee}
 
--- what forms are evaluated over: the definition, the value of `self` as the body begins and that of the parameter, the table, and in an
--- initializer its field
+-- What forms are evaluated over: the definition, the value of `self` as the body begins and that of the parameter, the table, and in an
+-- initializer its field.
 pub record Scene : Type 0 where
   pub definition : DeriveInput
   pub this : Option Value
@@ -71,7 +71,7 @@ pub record Scene : Type 0 where
   pub answers : Answers
   pub field : Option Field
 
--- the values that a scope refers to, and the table; no initializer is evaluated
+-- The values that a scope refers to, and the table; no initializer is evaluated.
 abbrev pub scene : Scope → Answers → Scene
 scene scope answers = record {
   definition = scope.ast.now;
@@ -81,83 +81,83 @@ scene scope answers = record {
   field = None;
 }
 
--- the same over a stage, which may be in an initializer
+-- The same over a stage, which may be in an initializer.
 abbrev pub scene_at : Stage → Scene
 scene_at stage = record (scene stage.scope.now stage.answers.now) { field = option_copied stage.field }
 
--- the same where the initializer of this field is evaluated
+-- The same where the initializer of this field is evaluated.
 abbrev pub for_field : Scene → Field → Scene
 for_field scene field = record scene { field = Some field }
 
 -- ---- names
 
--- what an inner binding gives, or else an outer one
+-- What an inner binding gives, or else an outer one.
 abbrev pub innermost : Option Referent → Option Referent → Option Referent
 innermost outer None = outer
 innermost outer (Some inner) = Some inner
 
--- what a name stands for: the innermost binding, which is the last, counts
+-- What a name stands for: the innermost binding, which is the last, counts.
 abbrev pub look_up : List Binding → List ℕ → Option Referent
 look_up [] name = None
 look_up (b ∷ bs) name = innermost (if bytes_eq b.name name then Some b.referent else None) (look_up bs name)
 
 -- ---- `self`
 
--- the value of `self`, as long as its fields are known
+-- The value of `self`, as long as its fields are known.
 abbrev pub own_value : Option Own → Option Value
 own_value None = None
 own_value (Some (own.Value value)) = Some value
 own_value (Some (own.Whole x)) = None
 
--- the value of `self` as a body begins
+-- The value of `self` as a body begins.
 abbrev pub first_own : Option Value → Option Own
 first_own value = option_map own.Value value
 
--- the value with another field at a place, where it has one there
+-- The value with another field at a place, where it has one there.
 abbrev pub set_at : ℕ → FieldValue → List FieldValue → Option (List FieldValue)
 set_at place x [] = None
 set_at zero x (y ∷ ys) = Some (x ∷ ys)
 set_at (suc place) x (y ∷ ys) = option_map (λ more. y ∷ more) (set_at place x ys)
 
--- `self` with another field at a place, where it has one there
+-- `self` with another field at a place, where it has one there.
 abbrev pub with_field : ℕ → FieldValue → Option Value → Option Own
 with_field place x None = None
 with_field place x (Some value) = option_map (λ xs. own.Value (record value { fields = xs })) (set_at place x value.fields)
 
 -- ---- fields
 
--- the value at the place of the first field of that key
+-- The value at the place of the first field of that key.
 abbrev pub part_of : List (List ℕ) → List FieldValue → List ℕ → Option FieldValue
 part_of [] xs key = None
 part_of (k ∷ keys) [] key = None
 part_of (k ∷ keys) (x ∷ xs) key = if bytes_eq k key then Some x else part_of keys xs key
 
--- the value of a field of a value, where there is one
+-- The value of a field of a value, where there is one.
 abbrev pub field_of : Scene → Option Value → List ℕ → Option FieldValue
 field_of scene None key = None
 field_of scene (Some value) key = part_of (keys_of scene.definition) value.fields key
 
--- the whole value that a name stands for
+-- The whole value that a name stands for.
 abbrev pub value_named : Scene → Env → Option Referent → Option Value
 value_named scene env (Some This) = own_value env.own
 value_named scene env (Some Other) = scene.other
 value_named scene env found = None
 
--- the field of the value that the base stands for
+-- The field of the value that the base stands for.
 abbrev pub reference_value : Scene → Env → Option Referent → List ℕ → Option FieldValue
 reference_value scene env base key = field_of scene (value_named scene env base) key
 
--- a whole value, as a table is shown it: its type place is the last number, its number the variant
+-- A whole value, as a table is shown it: its type place is the last number, its number the variant.
 abbrev pub whole_value : Option Value → Option FieldValue
 whole_value None = None
 whole_value (Some value) = Some (record { ty = 2 ^ 32 - 1; number = pos value.variant })
 
--- the field at a place of the value of `self`
+-- The field at a place of the value of `self`.
 abbrev pub own_field : ℕ → Option Value → Option FieldValue
 own_field place None = None
 own_field place (Some value) = slice_get value.fields place
 
--- the value that a name stands for, as a table is shown it
+-- The value that a name stands for, as a table is shown it.
 abbrev pub local_value : Scene → Env → Option Referent → Option FieldValue
 local_value scene env (Some This) = whole_value (own_value env.own)
 local_value scene env (Some Other) = whole_value scene.other
@@ -165,110 +165,110 @@ local_value scene env (Some (OwnField place)) = own_field place (own_value env.o
 local_value scene env (Some (Bound x)) = Some x
 local_value scene env found = None
 
--- what the fields of `self` stand for where a pattern binds them: their places, the first of which is this
+-- What the fields of `self` stand for where a pattern binds them: their places, the first of which is this.
 abbrev pub own_fields : ℕ → List FieldValue → List Referent
 own_fields place [] = []
 own_fields place (x ∷ xs) = OwnField place ∷ own_fields (place + 1) xs
 
--- what a field at a place stands for where a pattern binds it of the value of a name
+-- What a field at a place stands for where a pattern binds it of the value of a name.
 abbrev pub referent_at : Option Referent → ℕ → FieldValue → Referent
 referent_at (Some This) place x = OwnField place
 referent_at found place x = Bound x
 
--- the same of fields, the first of which is at a place
+-- The same of fields, the first of which is at a place.
 abbrev pub fields_from : Option Referent → ℕ → List FieldValue → List Referent
 fields_from found place [] = []
 fields_from found place (x ∷ xs) = referent_at found place x ∷ fields_from found (place + 1) xs
 
--- what the fields of the value of a name stand for where a pattern binds them: those of `self`, which may change, their places, and
--- those of the parameter themselves
+-- What the fields of the value of a name stand for where a pattern binds them: those of `self`, which may change, their places, and
+-- those of the parameter themselves.
 abbrev pub fields_named : Option Referent → Value → List Referent
 fields_named (Some This) value = own_fields 0 value.fields
 fields_named found value = map Bound value.fields
 
 -- ---- keys
 
--- the number of the value, of those for the value of `self` and for that of the parameter
+-- The number of the value, of those for the value of `self` and for that of the parameter.
 abbrev pub number_for : Option ℤ → Option ℤ → Option Referent → Option ℤ
 number_for this other (Some This) = this
 number_for this other (Some Other) = other
 number_for this other found = None
 
--- the number that a key function gives for a value, each by what its name stands for
+-- The number that a key function gives for a value, each by what its name stands for.
 abbrev pub key_of : Option Referent → Option Referent → Option ℤ
 key_of (Some (Keys this other)) value = number_for this other value
 key_of found value = None
 
 -- ---- flows
 
--- a field value, where there is one
+-- A field value, where there is one.
 abbrev pub part_flow : Env → Option FieldValue → Flow
 part_flow env None = Stuck
 part_flow env (Some x) = Gives env (Part x)
 
--- what a name gives: a value, as a table is shown it, an argument, or what does not count
+-- What a name gives: a value, as a table is shown it, an argument, or what does not count.
 abbrev pub local_flow : Scene → Env → Option Referent → Flow
 local_flow scene env (Some Inert) = Gives env InertThing
 local_flow scene env (Some (Argument place)) = Gives env (ArgumentThing place)
 local_flow scene env found = part_flow env (local_value scene env found)
 
--- the value of the field of this key of the value that the base stands for, which is read in place or from a copy
+-- The value of the field of this key of the value that the base stands for, which is read in place or from a copy.
 abbrev pub read_flow : Scene → Env → List ℕ → List ℕ → Flow
 read_flow scene env base key = part_flow env (reference_value scene env (look_up env.names base) key)
 
--- a number, where there is one
+-- A number, where there is one.
 abbrev pub number_flow : Env → Option ℤ → Flow
 number_flow env None = Stuck
 number_flow env (Some n) = Gives env (Number n)
 
--- an answer that a body names itself, as what a form gives
+-- An answer that a body names itself, as what a form gives.
 abbrev pub known_thing : Known → Thing
 known_thing (KnownTruth b) = Truth b
 known_thing (KnownOrder o) = Order o
 known_thing (KnownPartialOrder p) = PartialOrder p
 
--- the first return ends what goes on
+-- The first return ends what goes on.
 abbrev pub go_on : Flow → (Env → Thing → Flow) → Flow
 go_on (Gives env thing) next = next env thing
 go_on (Returns env thing) next = Returns env thing
 go_on Stuck next = Stuck
 
--- the names of a block end with it: as many are left as there were before it; what was fed to a hasher stays
+-- The names of a block end with it: as many are left as there were before it; what was fed to a hasher stays.
 abbrev pub leave : List Binding → Flow → Flow
 leave names (Gives env thing) = Gives (record env { names = take (length names) env.names }) thing
 leave names (Returns env thing) = Returns (record env { names = take (length names) env.names }) thing
 leave names Stuck = Stuck
 
--- the names in scope, and further ones
+-- The names in scope, and further ones.
 abbrev pub enter : Env → List Binding → Env
 enter env more = record env { names = env.names ++ more }
 
--- what comes where these further names are in scope, which end with it; without such names there is no value
+-- What comes where these further names are in scope, which end with it; without such names there is no value.
 abbrev pub within : Env → Option (List Binding) → (Env → Flow) → Flow
 within env None next = Stuck
 within env (Some more) next = leave env.names (next (enter env more))
 
--- what comes of a value, where there is one
+-- What comes of a value, where there is one.
 abbrev pub with_value : Option Value → (Value → Flow) → Flow
 with_value None next = Stuck
 with_value (Some value) next = next value
 
--- what comes of the value of a name, where there is one, and of what its fields stand for
+-- What comes of the value of a name, where there is one, and of what its fields stand for.
 abbrev pub with_named : Scene → Env → Option Referent → (Value → List Referent → Flow) → Flow
 with_named scene env found next = with_value (value_named scene env found) (λ value. next value (fields_named found value))
 
--- what a pattern binds of the value of a name, where there is one
+-- What a pattern binds of the value of a name, where there is one.
 abbrev pub bound_named : Scene → Env → Pattern → Option Referent → Option (List Binding)
 bound_named scene env pattern found = option_and_then (λ value. bindings_of scene.definition pattern value (fields_named found value)) (value_named scene env found)
 
--- a block, if there is one
+-- A block, if there is one.
 abbrev pub or_nothing : Env → Option (Env → Flow) → Flow
 or_nothing env None = Gives env Nothing
 or_nothing env (Some block) = block env
 
 -- ---- calls
 
--- the answer of a call, where there is one
+-- The answer of a call, where there is one.
 abbrev pub answer_flow : Env → Option Answer → Flow
 answer_flow env None = Stuck
 answer_flow env (Some (AnswerTruth b)) = Gives env (Truth b)
@@ -278,323 +278,323 @@ answer_flow env (Some (AnswerNumber n)) = Gives env (Number n)
 answer_flow env (Some (AnswerPart n)) = Gives env (Hashed n)
 answer_flow env (Some (AnswerMade x)) = Gives env (Made x)
 
--- goes on with a field value alone
+-- Goes on with a field value alone.
 abbrev pub if_part : (FieldValue → Flow) → Thing → Flow
 if_part next (Part x) = next x
 if_part next thing = Stuck
 
--- goes on with a number alone
+-- Goes on with a number alone.
 abbrev pub if_number : (ℤ → Flow) → Thing → Flow
 if_number next (Number n) = next n
 if_number next thing = Stuck
 
--- two numbers are compared by `Ord::cmp` alone
+-- Two numbers are compared by `Ord::cmp` alone.
 abbrev pub numbers_flow : Env → Callee → ℤ → ℤ → Flow
 numbers_flow env Cmp m n = Gives env (Order (int_cmp m n))
 numbers_flow env callee m n = Stuck
 
--- the place of a variant is fed to a hasher as it is, by `Hash::hash` alone
+-- The place of a variant is fed to a hasher as it is, by `Hash::hash` alone.
 abbrev pub position_flow : Env → Callee → ℕ → Flow
 position_flow env Hash place = Gives env (Hashed (pos place))
 position_flow env callee place = Stuck
 
--- the answer of a call of one argument: a field value, or the place of a variant
+-- The answer of a call of one argument: a field value, or the place of a variant.
 abbrev pub one_answer : Env → Answers → Callee → Thing → Flow
 one_answer env table callee (Part x) = answer_flow env (answer_of table callee (Some x) None)
 one_answer env table callee (Position place) = position_flow env callee place
 one_answer env table callee thing = Stuck
 
--- the answer of a call of two arguments: two field values, or two numbers
+-- The answer of a call of two arguments: two field values, or two numbers.
 abbrev pub two_answer : Env → Answers → Callee → Thing → Thing → Flow
 two_answer env table callee (Part x) y = if_part (λ y. answer_flow env (answer_of table callee (Some x) (Some y))) y
 two_answer env table callee (Number m) y = if_number (λ n. numbers_flow env callee m n) y
 two_answer env table callee thing y = Stuck
 
--- the answer of a call of at most two arguments
+-- The answer of a call of at most two arguments.
 abbrev pub call_answer : Env → Answers → Callee → List Thing → Flow
 call_answer env table callee [] = answer_flow env (answer_of table callee None None)
 call_answer env table callee (x ∷ []) = one_answer env table callee x
 call_answer env table callee (x ∷ y ∷ []) = two_answer env table callee x y
 call_answer env table callee (x ∷ y ∷ z ∷ more) = Stuck
 
--- the argument counts: all do but what has no value of its own
+-- The argument counts: all do but what has no value of its own.
 abbrev pub counts : Thing → Bool
 counts InertThing = false
 counts thing = true
 
--- the arguments of a call that count
+-- The arguments of a call that count.
 abbrev pub counted : List Thing → List Thing
 counted arguments = filter counts arguments
 
--- the answer of a call by the arguments that count, where something is called
+-- The answer of a call by the arguments that count, where something is called.
 abbrev pub call_named : Answers → Option Callee → Env → List Thing → Flow
 call_named table None env arguments = Stuck
 call_named table (Some callee) env arguments = call_answer env table callee (counted arguments)
 
--- a call of a path, where these names are in scope, by its arguments
+-- A call of a path, where these names are in scope, by its arguments.
 abbrev pub call_value : Scene → List Binding → ExprPath → Env → List Thing → Flow
 call_value scene names path = call_named scene.answers (callee_in names path)
 
--- what tokens give that are pasted as they were written: the answer of their call without arguments
+-- What tokens give that are pasted as they were written: the answer of their call without arguments.
 abbrev pub pasted_flow : Scene → Env → Written → Flow
 pasted_flow scene env written = call_named scene.answers (pasted_callee scene.definition scene.field env.names written) env []
 
 -- ---- what goes on behind a value
 
--- where the test is true, `false` is returned; where it is false, the block goes on
+-- Where the test is true, `false` is returned; where it is false, the block goes on.
 abbrev pub unless_true : Env → Thing → Flow
 unless_true env (Truth true) = Returns env (Truth false)
 unless_true env (Truth false) = Gives env Nothing
 unless_true env thing = Stuck
 
--- the opposite truth
+-- The opposite truth.
 abbrev pub opposite : Env → Thing → Flow
 opposite env (Truth b) = Gives env (Truth (not b))
 opposite env thing = Stuck
 
--- an order in `Some`
+-- An order in `Some`.
 abbrev pub some_of : Env → Thing → Flow
 some_of env (Order o) = Gives env (PartialOrder (Some o))
 some_of env thing = Stuck
 
--- what a call feeds to a hasher is added to what was fed
+-- What a call feeds to a hasher is added to what was fed.
 abbrev pub hash_part : Env → Thing → Flow
 hash_part env (Hashed n) = Gives (record env { parts = env.parts ++ n ∷ [] }) Nothing
 hash_part env thing = Stuck
 
--- the value that a call made
+-- The value that a call made.
 abbrev pub made_value : Thing → Option FieldValue
 made_value (Made x) = Some x
 made_value thing = None
 
--- goes on with a value that was made, where one was
+-- Goes on with a value that was made, where one was.
 abbrev pub with_made : Option FieldValue → (FieldValue → Flow) → Flow
 with_made None next = Stuck
 with_made (Some x) next = next x
 
--- the same of what a form gives
+-- The same of what a form gives.
 abbrev pub if_made : (Env → FieldValue → Flow) → Env → Thing → Flow
 if_made next env thing = with_made (made_value thing) (next env)
 
--- the arm of an order: Equal goes on, Greater returns the one order and Less the other
+-- The arm of an order: Equal goes on, Greater returns the one order and Less the other.
 abbrev pub order_arm : Env → Ordering → Ordering → Ordering → Flow
 order_arm env above below Equal = Gives env Nothing
 order_arm env above below Greater = Returns env (Order above)
 order_arm env above below Less = Returns env (Order below)
 
--- the same in `Some`, and none is returned
+-- The same in `Some`, and none is returned.
 abbrev pub partial_arm : Env → Ordering → Ordering → Option Ordering → Flow
 partial_arm env above below None = Returns env (PartialOrder None)
 partial_arm env above below (Some Equal) = Gives env Nothing
 partial_arm env above below (Some Greater) = Returns env (PartialOrder (Some above))
 partial_arm env above below (Some Less) = Returns env (PartialOrder (Some below))
 
--- the arm of what is matched; with true that is a partial order
+-- The arm of what is matched; with true that is a partial order.
 abbrev pub arm_of : Bool → Ordering → Ordering → Env → Thing → Flow
 arm_of false above below env (Order o) = order_arm env above below o
 arm_of true above below env (PartialOrder p) = partial_arm env above below p
 arm_of partial above below env thing = Stuck
 
--- an order as a function gives it: with true that is `partial_cmp`
+-- An order as a function gives it: with true that is `partial_cmp`.
 abbrev pub order_thing : Bool → Ordering → Thing
 order_thing false o = Order o
 order_thing true o = PartialOrder (Some o)
 
--- the arm of an order, where the arm for Equal is a block: each other one gives its order
+-- The arm of an order, where the arm for Equal is a block: each other one gives its order.
 abbrev pub block_arm : Bool → Ordering → Ordering → (Env → Flow) → Env → Thing → Flow
 block_arm partial above below equal env (Order Equal) = equal env
 block_arm partial above below equal env (Order Greater) = Gives env (order_thing partial above)
 block_arm partial above below equal env (Order Less) = Gives env (order_thing partial below)
 block_arm partial above below equal env thing = Stuck
 
--- the arm of a match on an order, with a block for Equal or as a step
+-- The arm of a match on an order, with a block for Equal or as a step.
 abbrev pub order_match : Bool → Ordering → Ordering → Option (Env → Flow) → Env → Thing → Flow
 order_match partial above below None = arm_of partial above below
 order_match partial above below (Some equal) = block_arm partial above below equal
 
 -- ---- key functions
 
--- the number that the arms of a key function give for a value, where the names are those of the environment
+-- The number that the arms of a key function give for a value, where the names are those of the environment.
 abbrev pub key_for : Scene → Env → Ident → List KeyArm → Option Value → Option ℤ
 key_for scene env this arms value = key_number scene.definition scene.answers env.names this arms value
 
--- the names in scope, and a key function, with its numbers for the value of `self` and for that of the parameter
+-- The names in scope, and a key function, with its numbers for the value of `self` and for that of the parameter.
 abbrev pub with_keys : Scene → Env → Ident → Ident → List KeyArm → Env
 with_keys scene env name this arms =
     enter env (record { name = name.text; referent = Keys (key_for scene env this arms (own_value env.own)) (key_for scene env this arms scene.other) } ∷ [])
 
 -- ---- `self` as it changes
 
--- the value of `self`
+-- The value of `self`.
 abbrev pub whole_thing : Own → Thing
 whole_thing (own.Value value) = Built value
 whole_thing (own.Whole x) = Made x
 
--- `self` as a value, where there is one
+-- `self` as a value, where there is one.
 abbrev pub own_flow : Env → Option Own → Flow
 own_flow env None = Stuck
 own_flow env (Some self) = Gives env (whole_thing self)
 
--- nothing is done with what a name stands for, where it stands for something
+-- Nothing is done with what a name stands for, where it stands for something.
 abbrev pub discarded : Env → Option Referent → Flow
 discarded env None = Stuck
 discarded env (Some found) = Gives env Nothing
 
--- the place of the first field of this key
+-- The place of the first field of this key.
 abbrev pub place_named : List (List ℕ) → List ℕ → Option ℕ
 place_named [] key = None
 place_named (k ∷ keys) key = if bytes_eq k key then Some 0 else option_map (λ place. place + 1) (place_named keys key)
 
--- the field of `self` of this key, as what a name stands for; it is one of a struct
+-- The field of `self` of this key, as what a name stands for; it is one of a struct.
 abbrev pub field_named : Scene → List ℕ → Option Referent
 field_named scene key = option_map OwnField (place_named (keys_of scene.definition) key)
 
--- `self` where this is assigned to what a name stands for: to `self`, of which the fields are no longer known, or to a field of it
+-- `self` where this is assigned to what a name stands for: to `self`, of which the fields are no longer known, or to a field of it.
 abbrev pub assigned : Option Referent → FieldValue → Option Own → Option Own
 assigned (Some This) x self = Some (own.Whole x)
 assigned (Some (OwnField place)) x self = with_field place x (own_value self)
 assigned found x self = None
 
--- `self` is this from now on, where it is something
+-- `self` is this from now on, where it is something.
 abbrev pub with_own : Env → Option Own → Flow
 with_own env None = Stuck
 with_own env (Some self) = Gives (record env { own = Some self }) Nothing
 
--- what stands before the value in the call by which it is assigned: with true what is to change
+-- What stands before the value in the call by which it is assigned: with true what is to change.
 abbrev pub with_target : Bool → Option FieldValue → (List Thing → Flow) → Flow
 with_target false target next = next []
 with_target true None next = Stuck
 with_target true (Some x) next = next (Part x ∷ [])
 
--- this is assigned to what a name stands for
+-- This is assigned to what a name stands for.
 abbrev pub stored : Option Referent → Env → FieldValue → Flow
 stored target env x = with_own env (assigned target x env.own)
 
--- what a call makes of a value is assigned to what a name stands for; with true the call is handed that before the value
+-- What a call makes of a value is assigned to what a name stands for; with true the call is handed that before the value.
 abbrev pub assign : Scene → ExprPath → Bool → Option Referent → Env → Thing → Flow
 assign scene path handed target env thing =
     with_target handed (local_value scene env target) (λ front. go_on (call_value scene env.names path env (front ++ thing ∷ [])) (if_made (stored target)))
 
 -- ---- what is shown
 
--- the name of an entry
+-- The name of an entry.
 abbrev pub key_text : EntryKey → List ℕ
 key_text Unnamed = []
 key_text (Named key) = key.text
 key_text (Mapped helper key) = key.text
 
--- the name stands for the type of the keys of a map
+-- The name stands for the type of the keys of a map.
 abbrev pub is_helper : Option Referent → Bool
 is_helper (Some Helper) = true
 is_helper found = false
 
--- an entry with this key is one of what is shown so: with a name in a struct, without one in a tuple, and with a name of the helper
--- type in a map
+-- An entry with this key is one of what is shown so: with a name in a struct, without one in a tuple, and with a name of the helper
+-- type in a map.
 abbrev pub fits_form : List Binding → ShapeForm → EntryKey → Bool
 fits_form names shape.Struct (Named key) = true
 fits_form names shape.Tuple Unnamed = true
 fits_form names shape.Map (Mapped helper key) = is_helper (look_up names helper.text)
 fits_form names form key = false
 
--- what is shown so under a name, without entries
+-- What is shown so under a name, without entries.
 abbrev pub bare_shape : ShapeForm → List ℕ → DebugShape
 bare_shape form name = record { form = form; name = name; entries = [] }
 
--- what is shown as a builder is begun
+-- What is shown as a builder is begun.
 abbrev pub opened : Opening → DebugShape
 opened (OpenStruct shown) = bare_shape shape.Struct shown.text
 opened (OpenTuple shown) = bare_shape shape.Tuple shown.text
 opened OpenMap = bare_shape shape.Map []
 
--- something may be shown through what a name stands for: that is the parameter, which is the formatter, and nothing is shown so far
+-- Something may be shown through what a name stands for: that is the parameter, which is the formatter, and nothing is shown so far.
 abbrev pub may_show : Env → Option Referent → Bool
 may_show env (Some Other) = is_none env.shown
 may_show env found = false
 
--- this is shown from now on, where it may be
+-- This is shown from now on, where it may be.
 abbrev pub shows : Env → Option Referent → DebugShape → (Env → Flow) → Flow
 shows env found first next = if may_show env found then next (record env { shown = Some first }) else Stuck
 
--- a text is written
+-- A text is written.
 abbrev pub text_flow : Env → Option Referent → List ℕ → Flow
 text_flow env found text = shows env found (bare_shape shape.Word text) (λ after. Gives after Shown)
 
--- a name, and what it stands for, from now on
+-- A name, and what it stands for, from now on.
 abbrev pub declared : Env → List ℕ → Referent → Flow
 declared env name referent = Gives (enter env (record { name = name; referent = referent } ∷ [])) Nothing
 
--- a builder is begun, and has this name
+-- A builder is begun, and has this name.
 abbrev pub builder_flow : Env → Option Referent → List ℕ → Opening → Flow
 builder_flow env found builder opening = shows env found (opened opening) (λ after. declared after builder BuilderName)
 
--- the entry of an argument, with its method
+-- The entry of an argument, with its method.
 abbrev pub entry_with : List ℕ → ArgumentMade → Entry
 entry_with key argument = record { key = key; method = Some argument.method; value = argument.value }
 
--- the entry of a value: of a field, or of an argument
+-- The entry of a value: of a field, or of an argument.
 abbrev pub entry_of : List ℕ → List ArgumentMade → Thing → Option Entry
 entry_of key arguments (Part x) = Some (record { key = key; method = None; value = x })
 entry_of key arguments (ArgumentThing place) = option_map (entry_with key) (slice_get arguments place)
 entry_of key arguments thing = None
 
--- the entry is added, where there is one
+-- The entry is added, where there is one.
 abbrev pub added : Env → DebugShape → Option Entry → Flow
 added env shown None = Stuck
 added env shown (Some entry) = Gives (record env { shown = Some (record shown { entries = shown.entries ++ entry ∷ [] }) }) Nothing
 
--- an entry with this key and value, where it is one of what is shown
+-- An entry with this key and value, where it is one of what is shown.
 abbrev pub entered : EntryKey → Env → Option DebugShape → Thing → Flow
 entered key env None thing = Stuck
 entered key env (Some shown) thing = if fits_form env.names shown.form key then added env shown (entry_of (key_text key) env.arguments thing) else Stuck
 
--- the same where the name is that of the builder
+-- The same where the name is that of the builder.
 abbrev pub entry_flow : Option Referent → EntryKey → Env → Thing → Flow
 entry_flow (Some BuilderName) key env thing = entered key env env.shown thing
 entry_flow found key env thing = Stuck
 
--- a name that stands for nothing that is evaluated
+-- A name that stands for nothing that is evaluated.
 abbrev pub inert : Ident → Binding
 inert name = record { name = name.text; referent = Inert }
 
--- the names that stand around the type of an argument, and around its method
+-- The names that stand around the type of an argument, and around its method.
 abbrev pub around_type : List Binding → ArgumentNames → List Binding
 around_type names own = names ++ inert own.wrapper ∷ []
 
 abbrev pub around_method : List Binding → ArgumentNames → List Binding
 around_method names own = names ++ inert own.wrapper ∷ inert own.own_value ∷ inert own.own_formatter ∷ []
 
--- an argument is made of a field, where the method calls something there
+-- An argument is made of a field, where the method calls something there.
 abbrev pub argument_made : Env → List ℕ → ExprPath → FieldValue → Option Callee → Flow
 argument_made env name path x None = Stuck
 argument_made env name path x (Some callee) =
     declared (record env { arguments = env.arguments ++ record { method = text_of_path path; value = x } ∷ [] }) name (Argument (length env.arguments))
 
--- an argument is made of a field of this type and the method, where neither text has a name in scope
+-- An argument is made of a field of this type and the method, where neither text has a name in scope.
 abbrev pub argument_flow : ArgumentNames → Written → ExprPath → Env → Thing → Flow
 argument_flow own ty path env thing =
     if_part (λ x.
     if names_bound (around_type env.names own) ty.tokens then Stuck else argument_made env own.argument.text path x (callee_in (around_method env.names own) path)) thing
 
--- what is shown, where the name is that of the builder
+-- What is shown, where the name is that of the builder.
 abbrev pub finished : Env → Option Referent → Flow
 finished env (Some BuilderName) = Gives env Shown
 finished env found = Stuck
 
 -- ---- values that are built
 
--- goes on with the case that is built, where there is one: the place of its variant, and its fields
+-- Goes on with the case that is built, where there is one: the place of its variant, and its fields.
 abbrev pub with_case : Option (ℕ × List Field) → (ℕ → List Field → Flow) → Flow
 with_case None next = Stuck
 with_case (Some case) next = next case.0 case.1
 
--- the value of this variant and these fields
+-- The value of this variant and these fields.
 abbrev pub built : ℕ → Env → List FieldValue → Flow
 built variant env values = Gives env (Built (record { variant = variant; fields = values }))
 
 -- ---- forms
 
 abbrev mutual
-  -- the value of one form; the names in scope go in, and those that are left come out
+  -- The value of one form; the names in scope go in, and those that are left come out.
   pub form_value : Scene → Env → Form → Flow
   form_value scene env (Local name) = local_flow scene env (look_up env.names name.text)
   form_value scene env (form.Known known) = Gives env (known_thing known)
@@ -616,7 +616,7 @@ abbrev mutual
   form_value scene env (Block' shape forms) = leave env.names (row_value scene env forms Nothing)
   form_value scene env (HashPart' shape inner) = go_on (inner_value scene env inner) hash_part
   form_value scene env (form.Position position) = Gives env (Position position.place)
-  -- how the fields are written means nothing more than which keys they have
+  -- How the fields are written means nothing more than which keys they have.
   form_value scene env (Construct' name written shape inits) =
       with_case (case_named scene.definition name) (λ variant fields. inits_value scene env inits fields (built variant))
   form_value scene env (Pasted written) = pasted_flow scene env written
@@ -627,35 +627,35 @@ abbrev mutual
   form_value scene env (AssignThrough' name path shape inner handed) =
       go_on (inner_value scene env inner) (assign scene path handed (look_up env.names name.text))
   form_value scene env (WriteText formatter text) = text_flow env (look_up env.names formatter.text) text.text
-  -- the formatter in a helper type is that of its own function
+  -- The formatter in a helper type is that of its own function.
   form_value scene env (HelperType helper formatter) = declared env helper.text Helper
   form_value scene env (Builder builder formatter opening) = builder_flow env (look_up env.names formatter.text) builder.text opening
-  -- a reference to a value shows what the value shows
+  -- A reference to a value shows what the value shows.
   form_value scene env (BuilderEntry' builder key shape inner by_reference) = go_on (inner_value scene env inner) (entry_flow (look_up env.names builder.text) key)
   form_value scene env (MethodArgument' own shape inner ty path) = go_on (inner_value scene env inner) (argument_flow own ty path)
   form_value scene env (Finish builder) = finished env (look_up env.names builder.text)
 
-  -- the value of the one form that a box holds
+  -- The value of the one form that a box holds.
   pub inner_value : Scene → Env → {m : _} → Row_of-Form m → Flow
   inner_value scene env end_of-Form = Stuck
   inner_value scene env (more_of-Form x rest) = form_value scene env x
 
-  -- the values of the arguments of a call, one after the other, with which the call goes on
+  -- The values of the arguments of a call, one after the other, with which the call goes on.
   pub args_value : Scene → Env → {m : _} → Row_of-Form m → (Env → List Thing → Flow) → Flow
   args_value scene env end_of-Form next = next env []
   args_value scene env (more_of-Form x rest) next = go_on (form_value scene env x) (λ env thing. args_value scene env rest (λ env things. next env (thing ∷ things)))
 
-  -- the forms of a block, in order
+  -- The forms of a block, in order.
   pub row_value : Scene → Env → {m : _} → Row_of-Form m → Thing → Flow
   row_value scene env end_of-Form last = Gives env last
   row_value scene env (more_of-Form x rest) last = go_on (form_value scene env x) (λ env. row_value scene env rest)
 
-  -- a block that may be missing
+  -- A block that may be missing.
   pub held_value : Scene → Held-Form-MatchOrdering-2 → Option (Env → Flow)
   held_value scene None' = None
   held_value scene (Some' shape row) = Some (λ env. leave env.names (row_value scene env row Nothing))
 
-  -- the first arm whose pattern fits, with what the pattern binds of a value whose fields stand for these
+  -- The first arm whose pattern fits, with what the pattern binds of a value whose fields stand for these.
   pub arms_value : Scene → Env → {m : _} → Row_of-Arm m → Value → List Referent → Flow
   arms_value scene env end_of-Arm value referents = Stuck
   arms_value scene env (more_of-Arm pattern braced comma shape row rest) value referents =
@@ -663,7 +663,7 @@ abbrev mutual
       then within env (bindings_of scene.definition pattern value referents) (λ inner. row_value scene inner row Nothing)
       else arms_value scene env rest value referents
 
-  -- the initializers of fields, each of which has the key of its field and is evaluated for it, and the values with which it goes on
+  -- The initializers of fields, each of which has the key of its field and is evaluated for it, and the values with which it goes on.
   pub inits_value : Scene → Env → {m : _} → Row_of-Init m → List Field → (Env → List FieldValue → Flow) → Flow
   inits_value scene env end_of-Init [] next = next env []
   inits_value scene env end_of-Init (f ∷ fs) next = Stuck
@@ -673,12 +673,12 @@ abbrev mutual
       then go_on (form_value (for_field scene f) env x) (if_made (λ env value. inits_value scene env rest fs (λ env values. next env (value ∷ values))))
       else Stuck
 
--- the values of a list of arguments, one after the other, with which the call goes on
+-- The values of a list of arguments, one after the other, with which the call goes on.
 abbrev pub args_list : Scene → Env → List Form → (Env → List Thing → Flow) → Flow
 args_list scene env [] next = next env []
 args_list scene env (x ∷ rest) next = go_on (form_value scene env x) (λ env thing. args_list scene env rest (λ env things. next env (thing ∷ things)))
 
--- the values of a list of initializers, one for each field, with which it goes on
+-- The values of a list of initializers, one for each field, with which it goes on.
 abbrev pub inits_list : Scene → Env → List Init → List Field → (Env → List FieldValue → Flow) → Flow
 inits_list scene env [] [] next = next env []
 inits_list scene env [] (f ∷ fs) next = Stuck
@@ -688,30 +688,30 @@ inits_list scene env (init ∷ rest) (f ∷ fs) next =
     then go_on (form_value (for_field scene f) env init.value) (if_made (λ env value. inits_list scene env rest fs (λ env values. next env (value ∷ values))))
     else Stuck
 
--- the value that a list of initializers builds
+-- The value that a list of initializers builds.
 abbrev pub built_value : Scene → Env → List Init → ℕ → List Field → Flow
 built_value scene env inits variant fields = inits_list scene env inits fields (built variant)
 
--- the forms of a list in order: the first return ends it, else the last form gives its value
+-- The forms of a list in order: the first return ends it, else the last form gives its value.
 abbrev pub list_value : Scene → Env → Thing → List Form → Flow
 list_value scene env last [] = Gives env last
 list_value scene env last (x ∷ rest) = go_on (form_value scene env x) (λ env thing. list_value scene env thing rest)
 
--- a block of these forms, if there are any
+-- A block of these forms, if there are any.
 abbrev pub held_list : Scene → Option (List Form) → Option (Env → Flow)
 held_list scene None = None
 held_list scene (Some forms) = Some (λ env. leave env.names (list_value scene env Nothing forms))
 
--- the forms of an arm, with what its pattern binds of a value whose fields stand for these
+-- The forms of an arm, with what its pattern binds of a value whose fields stand for these.
 abbrev pub taken : Scene → Env → Pattern → List Form → Value → List Referent → Flow
 taken scene env pattern forms value referents = within env (bindings_of scene.definition pattern value referents) (λ inner. list_value scene inner Nothing forms)
 
--- the forms behind a pattern where it fits the value, and else the others, if there are any
+-- The forms behind a pattern where it fits the value, and else the others, if there are any.
 abbrev pub if_let_value : Scene → Env → Pattern → List Form → Option (List Form) → Value → List Referent → Flow
 if_let_value scene env pattern forms others value referents =
     if fits scene.definition pattern value then taken scene env pattern forms value referents else or_nothing env (held_list scene others)
 
--- the first arm of a list whose pattern fits
+-- The first arm of a list whose pattern fits.
 abbrev pub arms_list : Scene → Env → List Arm → Value → List Referent → Flow
 arms_list scene env [] value referents = Stuck
 arms_list scene env (arm ∷ arms) value referents =
@@ -719,18 +719,18 @@ arms_list scene env (arm ∷ arms) value referents =
 
 -- ---- bodies
 
--- what `self` is when a body ends
+-- What `self` is when a body ends.
 abbrev pub own_outcome : Option Own → Outcome
 own_outcome None = OutcomeStuck
 own_outcome (Some (own.Value value)) = OutcomeMade value
 own_outcome (Some (own.Whole x)) = OutcomeWhole x
 
--- what is shown when a body ends
+-- What is shown when a body ends.
 abbrev pub shown_outcome : Option DebugShape → Outcome
 shown_outcome None = OutcomeStuck
 shown_outcome (Some shown) = OutcomeShape shown
 
--- what a body may evaluate to; one that shows something is there for that
+-- What a body may evaluate to; one that shows something is there for that.
 abbrev pub outcome_of_thing : Env → Thing → Outcome
 outcome_of_thing env (Truth b) = OutcomeTruth b
 outcome_of_thing env (Order o) = OutcomeOrder o
@@ -740,54 +740,54 @@ outcome_of_thing env (Made x) = OutcomeWhole x
 outcome_of_thing env Shown = shown_outcome env.shown
 outcome_of_thing env thing = OutcomeStuck
 
--- the value that is given or returned
+-- The value that is given or returned.
 abbrev pub outcome_of : Flow → Outcome
 outcome_of (Gives env thing) = outcome_of_thing env thing
 outcome_of (Returns env thing) = outcome_of_thing env thing
 outcome_of Stuck = OutcomeStuck
 
--- what `self` becomes, whatever is given or returned
+-- What `self` becomes, whatever is given or returned.
 abbrev pub own_of : Flow → Outcome
 own_of (Gives env thing) = own_outcome env.own
 own_of (Returns env thing) = own_outcome env.own
 own_of Stuck = OutcomeStuck
 
--- what was fed to a hasher, whatever is given or returned
+-- What was fed to a hasher, whatever is given or returned.
 abbrev pub parts_of : Flow → Outcome
 parts_of (Gives env thing) = OutcomeParts env.parts
 parts_of (Returns env thing) = OutcomeParts env.parts
 parts_of Stuck = OutcomeStuck
 
--- what a body comes to that has no hasher: with true, where it assigns, what `self` becomes, and else its result
+-- What a body comes to that has no hasher: with true, where it assigns, what `self` becomes, and else its result.
 abbrev pub changed_or_given : Bool → Flow → Outcome
 changed_or_given true flow = own_of flow
 changed_or_given false flow = outcome_of flow
 
--- what a body of these parameters and forms comes to: with two, a hasher and its type, it feeds the hasher; with fewer it may be there
--- for what it does to `self`; and with more it has a result alone
+-- What a body of these parameters and forms comes to: with two, a hasher and its type, it feeds the hasher; with fewer it may be there
+-- for what it does to `self`; and with more it has a result alone.
 abbrev pub ended : List Word → List Form → Flow → Outcome
 ended [] block flow = changed_or_given (any_assigns block) flow
 ended (param ∷ []) block flow = changed_or_given (any_assigns block) flow
 ended (state ∷ hasher ∷ []) block flow = parts_of flow
 ended params block flow = outcome_of flow
 
--- what the parameters of a body stand for: a single one for the other value; of several, none has a value of its own
+-- What the parameters of a body stand for: a single one for the other value; of several, none has a value of its own.
 abbrev pub param_referent : List Word → Referent
 param_referent (param ∷ []) = Other
 param_referent params = Inert
 
--- these names, each of which stands for the same
+-- These names, each of which stands for the same.
 abbrev pub all_bound : Referent → List Word → List Binding
 all_bound referent names = map (λ (name : Word). record { name = name.text; referent = referent }) names
 
--- `self`, and the parameters
+-- `self`, and the parameters.
 abbrev pub first_bindings : List Word → List Binding
 first_bindings params = record { name = codes "self"; referent = This } ∷ all_bound (param_referent params) params
 
--- the names that are in scope as a body begins, and the value of `self`; nothing was fed, nothing is shown, and no argument was made
+-- The names that are in scope as a body begins, and the value of `self`; nothing was fed, nothing is shown, and no argument was made.
 abbrev pub start : List Word → Option Value → Env
 start params this = record { names = first_bindings params; parts = []; own = first_own this; shown = None; arguments = [] }
 
--- the value of a body
+-- The value of a body.
 abbrev pub value : Body → Scene → Outcome
 value body scene = ended body.params body.block (list_value scene (start body.params scene.this) Nothing body.block)

@@ -16,11 +16,11 @@ use Rattle.educe_body_values.specs.Callees.{built_in, as_callee, text_of_path}
 
 -- ---- what is called
 
--- the binding hides what a text means by this name; `self`, a keyword, hides nothing
+-- The binding hides what a text means by this name; `self`, a keyword, hides nothing.
 abbrev pub hides : Binding → List ℕ → Bool
 hides binding name = not (bytes_eq binding.name (codes "self")) && bytes_eq (unraw binding.name) name
 
--- an identifier
+-- An identifier.
 abbrev pub is_ident : TokenKind → Bool
 is_ident Ident = true
 is_ident Lifetime = false
@@ -30,34 +30,34 @@ is_ident (Start b) = false
 is_ident (Stop b) = false
 is_ident Doc = false
 
--- the name is one in scope
+-- The name is one in scope.
 abbrev pub is_hidden : List Binding → List ℕ → Bool
 is_hidden names name = list_any (λ binding. hides binding name) names
 
--- the token is a name in scope
+-- The token is a name in scope.
 abbrev pub is_bound : List Binding → Token → Bool
 is_bound names token = is_ident token.kind && is_hidden names (unraw token.spelling)
 
--- one of the tokens is a name in scope
+-- One of the tokens is a name in scope.
 abbrev pub names_bound : List Binding → List Token → Bool
 names_bound names tokens = list_any (λ token. is_bound names token) tokens
 
--- a function that is built in, or else that of the path's text, if that has no name in scope
+-- A function that is built in, or else that of the path's text, if that has no name in scope.
 abbrev pub named_in : List Binding → ExprPath → Option BuiltIn → Option Callee
 named_in names path None = if names_bound names path.written.tokens then None else Some (Written (text_of_path path))
 named_in names path (Some which) = Some (as_callee which)
 
--- what a path calls where these names are in scope
+-- What a path calls where these names are in scope.
 abbrev pub callee_in : List Binding → ExprPath → Option Callee
 callee_in names path = named_in names path (built_in path)
 
 -- ---- names that hide nothing of an input
 
--- the name in scope is `self`, or, without `r#`, no word of the input
+-- The name in scope is `self`, or, without `r#`, no word of the input.
 pub data IsApart (input : List Token) (binding : Binding) : Type 0 where
   own_self : binding.name ≡ codes "self" → IsApart input binding
   apart : (HasWord input (unraw binding.name) → ⊥) → IsApart input binding
 
--- each identifier of the tokens is, without `r#`, a word of the input
+-- Each identifier of the tokens is, without `r#`, a word of the input.
 abbrev pub AreOwnNames : List Token → List Token → Type 0
 AreOwnNames input tokens = AllByRecursion (λ (t : Token). is_ident t.kind ≡ true → HasWord input (unraw t.spelling)) tokens

@@ -21,13 +21,13 @@ use Rattle.educe_bound.specs.Predicates.{behind, AreRead, IsReadBound}
 
 -- What holds of the predicates that bounds ask for.
 pub record PredicateLaws : Type 0 where
-  -- what such a type needs: its tokens, as they are copied, `:` and the path of the trait
+  -- What such a type needs: its tokens, as they are copied, `:` and the path of the trait.
   pub types : (params : List GenericParam) (ex : Exceptions) (self : List ℕ) (which : Trait) (ty : Ty) (p : WherePredicate) → IsAskedType params ex self ty
       → lexemes p.written.tokens ≡ written_lexemes (out-Ty ty).written ++ behind which → IsReadPredicate p
-  -- what is asked of a parameter: its name, `:` and the path of the trait
+  -- What is asked of a parameter: its name, `:` and the path of the trait.
   pub params : (which : Trait) (text : List ℕ) (p : WherePredicate) → IsName text
       → lexemes p.written.tokens ≡ record { kind = kind.Ident; spelling = text } ∷ behind which → IsReadPredicate p
-  -- those of a list that is read
+  -- Those of a list that is read.
   pub lists : (tokens : Tokens) (found : List WherePredicate) → IsWhole predicates tokens found → AreRead found
-  -- those that a bound lists
+  -- Those that a bound lists.
   pub bounds : (value : WherePredicatesOrBool) (s : Source) → IsBound s value → IsReadBound (bound_of value)

@@ -22,37 +22,37 @@ use Rattle.educe_bound_traits.specs.declared.traits.Trait.TheVariants as trait
 
 -- ---- predicates
 
--- a predicate by its tokens: the spans, and whether puncts are joint, aside
+-- A predicate by its tokens: the spans, and whether puncts are joint, aside.
 abbrev pub Key : Type 0
 Key = List Lexeme
 
--- that of a predicate
+-- That of a predicate.
 abbrev pub key_of : WherePredicate → Key
 key_of predicate = lexemes_aside predicate.written.tokens
 
--- those of predicates
+-- Those of predicates.
 abbrev pub keys_of : List WherePredicate → List Key
 keys_of predicates = map key_of predicates
 
--- the numbers by which it is found again
+-- The numbers by which it is found again.
 abbrev pub number_of : WherePredicate → List ℕ
 number_of predicate = tokens_key predicate.written.tokens
 
--- each predicate is the reading of its tokens, within the limits
+-- Each predicate is the reading of its tokens, within the limits.
 abbrev pub AreRead : List WherePredicate → Type 0
 AreRead predicates = AllByRecursion IsReadPredicate predicates
 
 -- ---- what a trait asks for
 
--- what stands behind the type in a predicate that asks for the trait, jointness included
+-- What stands behind the type in a predicate that asks for the trait, jointness included.
 abbrev pub behind : Trait → List Lexeme
 behind which = quoted (codes ":") ++ quoted (trait_path which)
 
--- the same, jointness aside
+-- The same, jointness aside.
 abbrev pub asks_for : Trait → List Lexeme
 asks_for which = map unjoin (behind which)
 
--- the types that a trait treats otherwise than others
+-- The types that a trait treats otherwise than others.
 abbrev pub exceptions_of : Trait → Exceptions
 exceptions_of trait.Debug = debug_exceptions
 exceptions_of trait.Clone = clone_exceptions
@@ -66,26 +66,26 @@ exceptions_of trait.Default = default_exceptions
 
 -- ---- parameters
 
--- a lifetime parameter
+-- A lifetime parameter.
 abbrev pub is_lifetime : GenericParam → Bool
 is_lifetime (param.Lifetime p) = true
 is_lifetime (param.TypeParam p) = false
 is_lifetime (param.Const p) = false
 
--- the parameters in the order in which an impl has them: lifetimes first (Rust Reference, Generic parameters)
+-- The parameters in the order in which an impl has them: lifetimes first (Rust Reference, Generic parameters).
 abbrev pub lifetimes_first : List GenericParam → List GenericParam
 lifetimes_first params = filter is_lifetime params ++ filter (λ p. not (is_lifetime p)) params
 
 -- ---- modes
 
--- the predicates that a bound lists are readings of their tokens
+-- The predicates that a bound lists are readings of their tokens.
 abbrev pub IsReadBound : Bound → Type 0
 IsReadBound Disabled = Unit {0}
 IsReadBound Auto = Unit {0}
 IsReadBound All = Unit {0}
 IsReadBound (Custom predicates) = AreRead predicates
 
--- `Param : Trait` for each type parameter
+-- `Param : Trait` for each type parameter.
 abbrev pub on_each_param : List GenericParam → Trait → List Key
 on_each_param params which = map (param_of (asks_for which)) (filter_map type_name params)
 
@@ -98,22 +98,22 @@ AreByBound Auto ex params self which types own = AreOwn ex params self (asks_for
 AreByBound All ex params self which types own = own ≡ on_each_param params which
 AreByBound (Custom predicates) ex params self which types own = own ≡ keys_of predicates
 
--- under the automatic bound each of the types can be derived from the predicates
+-- Under the automatic bound each of the types can be derived from the predicates.
 abbrev pub SufficeBy : Bound → Exceptions → List GenericParam → List ℕ → Trait → List Ty → List Key → Type 0
 SufficeBy Disabled ex params self which types own = Unit {0}
 SufficeBy Auto ex params self which types own = Suffices ex params self (asks_for which) types own
 SufficeBy All ex params self which types own = Unit {0}
 SufficeBy (Custom predicates) ex params self which types own = Unit {0}
 
--- and none of them can be dropped
+-- And none of them can be dropped.
 abbrev pub AreMinimalBy : Bound → Exceptions → List GenericParam → List ℕ → Trait → List Ty → List Key → Type 0
 AreMinimalBy Disabled ex params self which types own = Unit {0}
 AreMinimalBy Auto ex params self which types own = AreMinimal ex params self (asks_for which) types own
 AreMinimalBy All ex params self which types own = Unit {0}
 AreMinimalBy (Custom predicates) ex params self which types own = Unit {0}
 
--- the predicates by which fields of these types may be copied out of a packed struct: `Copy`, by the same bound; none where the
--- predicates are listed
+-- The predicates by which fields of these types may be copied out of a packed struct: `Copy`, by the same bound; none where the
+-- predicates are listed.
 abbrev pub AreCopies : Bound → List GenericParam → List ℕ → List Ty → List Key → Type 0
 AreCopies Disabled params self types found = found ≡ []
 AreCopies Auto params self types found = AreOwn copy_exceptions params self (asks_for trait.Copy) types found

@@ -13,30 +13,30 @@ use Rattle.educe_bound_classes.specs.declared.needs.Asked.{Asked}
 use Rattle.educe_bound_classes.specs.declared.needs.Asked.TheVariants.{Itself, Param}
 use Rattle.educe_bound_classes.specs.Needs.{AreNames, own_of, param_of, Asks, AllAsk, AreOwn}
 
--- types that are lent
+-- Types that are lent.
 abbrev pub types_of : List (Bor Ty) → List Ty
 types_of types = map (λ ty. ty.now) types
 
--- the tokens of what is asked, where these stand behind the type or the parameter
+-- The tokens of what is asked, where these stand behind the type or the parameter.
 abbrev pub key_of : List Lexeme → Asked → List Lexeme
 key_of bound (Itself ty) = own_of bound ty.now
 key_of bound (Param name) = param_of bound name.now.text
 
--- those of each
+-- Those of each.
 abbrev pub keys_of : List Lexeme → List Asked → List (List Lexeme)
 keys_of bound asked = map (key_of bound) asked
 
--- the type is the reading of its tokens, and it is itself what is asked
+-- The type is the reading of its tokens, and it is itself what is asked.
 pub record IsAskedType (params : List GenericParam) (ex : Exceptions) (self : List ℕ) (ty : Ty) : Type 0 where
   pub reads : IsReadType ty
   pub class : class_of params ex self ty ≡ other
 
--- what is asked: of such a type itself, or of a parameter that has a name
+-- What is asked: of such a type itself, or of a parameter that has a name.
 abbrev pub IsAskedRead : List GenericParam → Exceptions → List ℕ → Asked → Type 0
 IsAskedRead params ex self (Itself ty) = IsAskedType params ex self ty.now
 IsAskedRead params ex self (Param name) = IsName name.now.text
 
--- so is each
+-- So is each.
 abbrev pub AreAskedRead : List GenericParam → Exceptions → List ℕ → List Asked → Type 0
 AreAskedRead params ex self asked = AllByRecursion (IsAskedRead params ex self) asked
 

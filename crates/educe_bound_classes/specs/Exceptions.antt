@@ -3,34 +3,34 @@ use Rattle.std.specs.Prelude.{ℕ, Bool, true, false, List, [], ◌∷◌, ◌++
 
 -- Names of types, as texts, and whether nothing is asked of shared references.
 pub record Exceptions : Type 0 where
-  -- of these nothing is asked
+  -- Of these nothing is asked.
   pub unconditional : List (List ℕ)
-  -- these hand on to their arguments what is asked of them
+  -- These hand on to their arguments what is asked of them.
   pub forwarding : List (List ℕ)
-  -- nothing is asked of `&T`, whatever `T` is
+  -- Nothing is asked of `&T`, whatever `T` is.
   pub shared_references : Bool
 
--- what `Clone` and `Copy` don't ask: such values share or point to what they hold
+-- What `Clone` and `Copy` don't ask: such values share or point to what they hold.
 abbrev pub sharing : List (List ℕ)
 sharing = codes "Arc" ∷ codes "Rc" ∷ codes "Weak" ∷ codes "NonNull" ∷ codes "Cow" ∷ codes "Discriminant" ∷ []
 
--- the types that `Clone` and `Debug` see through
+-- The types that `Clone` and `Debug` see through.
 abbrev pub held : List (List ℕ)
 held =
     codes "Option" ∷ codes "Result" ∷ codes "Box" ∷ codes "Vec" ∷ codes "VecDeque" ∷ codes "LinkedList" ∷ codes "BTreeMap" ∷ codes "BTreeSet" ∷ codes "BinaryHeap"
     ∷ codes "HashMap" ∷ codes "HashSet" ∷ codes "RefCell" ∷ codes "Wrapping" ∷ codes "Reverse" ∷ codes "Saturating" ∷ []
 
--- the types that comparisons see through
+-- The types that comparisons see through.
 abbrev pub compared : List (List ℕ)
 compared =
     codes "Option" ∷ codes "Result" ∷ codes "Box" ∷ codes "Vec" ∷ codes "VecDeque" ∷ codes "LinkedList" ∷ codes "BTreeMap" ∷ codes "BTreeSet"
     ∷ codes "Arc" ∷ codes "Rc" ∷ codes "RefCell" ∷ codes "Wrapping" ∷ codes "Reverse" ∷ codes "Saturating" ∷ []
 
--- those of `Clone`
+-- Those of `Clone`.
 abbrev pub clone_exceptions : Exceptions
 clone_exceptions = record { unconditional = sharing; forwarding = held; shared_references = true }
 
--- those of `Copy`
+-- Those of `Copy`.
 abbrev pub copy_exceptions : Exceptions
 copy_exceptions = record {
   unconditional = sharing;
@@ -38,7 +38,7 @@ copy_exceptions = record {
   shared_references = true;
 }
 
--- those of `Debug`
+-- Those of `Debug`.
 abbrev pub debug_exceptions : Exceptions
 debug_exceptions = record {
   unconditional = codes "Weak" ∷ codes "NonNull" ∷ codes "AtomicPtr" ∷ codes "Discriminant" ∷ [];
@@ -46,15 +46,15 @@ debug_exceptions = record {
   shared_references = false;
 }
 
--- those of `PartialEq` and `Eq`
+-- Those of `PartialEq` and `Eq`.
 abbrev pub equality_exceptions : Exceptions
 equality_exceptions = record { unconditional = codes "NonNull" ∷ codes "Discriminant" ∷ []; forwarding = compared; shared_references = false }
 
--- those of `PartialOrd` and `Ord`
+-- Those of `PartialOrd` and `Ord`.
 abbrev pub order_exceptions : Exceptions
 order_exceptions = record { unconditional = codes "NonNull" ∷ []; forwarding = compared; shared_references = false }
 
--- those of `Hash`
+-- Those of `Hash`.
 abbrev pub hash_exceptions : Exceptions
 hash_exceptions = record {
   unconditional = codes "NonNull" ∷ codes "Discriminant" ∷ [];
@@ -64,7 +64,7 @@ hash_exceptions = record {
   shared_references = false;
 }
 
--- those of `Default`
+-- Those of `Default`.
 abbrev pub default_exceptions : Exceptions
 default_exceptions = record {
   unconditional =

@@ -16,7 +16,7 @@ use Rattle.educe_tokens.specs.declared.token.Token.{Token}
 use Rattle.educe_bound_classes.specs.declared.needs.Asked.{Asked}
 use Rattle.educe_bound_classes.specs.declared.needs.Asked.TheVariants.{Itself, Param}
 
--- the number of a kind
+-- The number of a kind.
 abbrev pub kind_number : TokenKind → ℕ
 kind_number kind.Ident = 0
 kind_number kind.Lifetime = 1
@@ -34,7 +34,7 @@ kind_number (kind.Stop Square) = 12
 kind_number (kind.Stop Curly) = 13
 kind_number kind.Doc = 14
 
--- the character of a punct, and 0 of any other kind
+-- The character of a punct, and 0 of any other kind.
 abbrev pub kind_char : TokenKind → ℕ
 kind_char (kind.Punct c joint) = c
 kind_char kind.Ident = 0
@@ -44,32 +44,32 @@ kind_char (kind.Start b) = 0
 kind_char (kind.Stop b) = 0
 kind_char kind.Doc = 0
 
--- the kind, and the characters, each as the number behind its own, which a 0 ends
+-- The kind, and the characters, each as the number behind its own, which a 0 ends.
 abbrev pub word_key : TokenKind → List ℕ → List ℕ
 word_key k text = kind_number k ∷ kind_char k ∷ (map suc text ++ 0 ∷ [])
 
--- those of a token
+-- Those of a token.
 unfoldable pub token_key : Token → List ℕ
 token_key t = word_key t.kind t.spelling
 
--- those of tokens, one behind the other
+-- Those of tokens, one behind the other.
 abbrev pub tokens_key : List Token → List ℕ
 tokens_key tokens = flat_map token_key tokens
 
--- those of what a predicate is asked of
+-- Those of what a predicate is asked of.
 abbrev pub asked_key : Asked → List ℕ
 asked_key (Itself ty) = tokens_key ty.now.written.tokens
 asked_key (Param name) = word_key kind.Ident name.now.text
 
--- those of all that is asked
+-- Those of all that is asked.
 abbrev pub all_keys : List Asked → List (List ℕ)
 all_keys asked = map asked_key asked
 
--- one of the keys is this
+-- One of the keys is this.
 abbrev pub has_key : List (List ℕ) → List ℕ → Bool
 has_key keys key = list_any (λ k. bytes_eq k key) keys
 
--- keys in their order
+-- Keys in their order.
 abbrev pub key_cmp : Vec ℕ Global → Vec ℕ Global → Ordering
 key_cmp x y = slice_cmp nat_cmp x.items y.items
 

@@ -4,7 +4,7 @@ use Rattle.educe_tree.specs.declared.generics.GenericParam.{GenericParam}
 use Rattle.educe_bound_classes.specs.declared.params.Names.{Names}
 use Rattle.educe_bound_classes.specs.declared.params.Names.TheVariants.{Listed, Sorted}
 
--- the parameters, however they are found
+-- The parameters, however they are found.
 abbrev pub params_of : Names → List GenericParam
 params_of (Listed params) = params.now
 params_of (Sorted names) = names.now.now

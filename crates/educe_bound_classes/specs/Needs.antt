@@ -13,40 +13,40 @@ use Rattle.educe_bound_classes.specs.Exceptions.{Exceptions}
 use Rattle.educe_bound_classes.specs.Deriving.{AreDistinct, Needs, AllNeed, AllDerivable, IsAutomatic, IsMinimal}
 use Rattle.educe_bound_classes.specs.Classes.{type_name, class_of}
 
--- the type is the reading of its tokens as they were written
+-- The type is the reading of its tokens as they were written.
 abbrev pub IsReading : Ty → Type 0
 IsReading ty = (budget : ℕ) × Reads budget any_type ty.written.tokens ty
 
--- the name of each type parameter is one
+-- The name of each type parameter is one.
 abbrev pub AreNames : List GenericParam → Type 0
 AreNames params = AllByRecursion (λ p. IfSome (type_name p) IsName) params
 
--- `Type : Trait`, where the second list is what stands behind the type
+-- `Type : Trait`, where the second list is what stands behind the type.
 abbrev pub own_of : List Lexeme → Ty → List Lexeme
 own_of bound ty = lexemes_aside ty.written.tokens ++ bound
 
--- `Param : Trait`
+-- `Param : Trait`.
 abbrev pub param_of : List Lexeme → List ℕ → List Lexeme
 param_of bound name = record { kind = kind.Ident; spelling = name } ∷ bound
 
 module _ (ex : Exceptions) (params : List GenericParam) (self : List ℕ) (bound : List Lexeme) where
-  -- what the types need
+  -- What the types need.
   abbrev pub AllAsk : List Ty → List (List Lexeme) → Type 0
   AllAsk types asked = AllNeed (class_of params ex self) (own_of bound) (param_of bound) types asked
 
-  -- what a type needs
+  -- What a type needs.
   abbrev pub Asks : Ty → List (List Lexeme) → Type 0
   Asks ty asked = Needs (class_of params ex self) (own_of bound) (param_of bound) ty asked
 
-  -- the own predicates of the automatic mode
+  -- The own predicates of the automatic mode.
   abbrev pub AreOwn : List Ty → List (List Lexeme) → Type 0
   AreOwn types own = IsAutomatic (class_of params ex self) (own_of bound) (param_of bound) types own
 
-  -- each of the types can be derived from them
+  -- Each of the types can be derived from them.
   abbrev pub Suffices : List Ty → List (List Lexeme) → Type 0
   Suffices types own = AllDerivable (class_of params ex self) (own_of bound) (param_of bound) own types
 
-  -- once one of them is dropped, one of the types can't
+  -- Once one of them is dropped, one of the types can't.
   abbrev pub AreMinimal : List Ty → List (List Lexeme) → Type 0
   AreMinimal types own = IsMinimal (class_of params ex self) (own_of bound) (param_of bound) types own
 

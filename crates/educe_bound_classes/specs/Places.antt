@@ -13,16 +13,16 @@ use Rattle.educe_tree.specs.declared.generics.GenericParam.{GenericParam}
 use Rattle.educe_bound_classes.specs.Classes.{type_name}
 use Rattle.educe_bound_classes.specs.Params.{is_type_named}
 
--- the number is one of these
+-- The number is one of these.
 abbrev pub is_among : List ℕ → ℕ → Bool
 is_among places place = list_any (λ known. is_eq (nat_cmp place known)) places
 
--- the same, where there are any
+-- The same, where there are any.
 abbrev pub is_listed : Option (Vec ℕ Global) → ℕ → Bool
 is_listed None place = false
 is_listed (Some places) place = is_among places.items place
 
--- the map has the place at the name
+-- The map has the place at the name.
 abbrev pub has_place : BTreeMap (Bor (List ℕ)) (Vec ℕ Global) → List ℕ → ℕ → Bool
 has_place map name place = is_listed (get_by (λ known. slice_cmp nat_cmp name known.now) map) place
 
@@ -50,12 +50,12 @@ AddsPlaces map name old new = (place : ℕ) → (contains nat_cmp old place ≡ 
 abbrev pub HaveTheirPlaces : BTreeMap (Bor (List ℕ)) (Vec ℕ Global) → List (Bor (List ℕ)) → BTreeSet ℕ → Type 0
 HaveTheirPlaces map names found = AllByRecursion (λ name. (place : ℕ) → has_place map name.now place ≡ true → contains nat_cmp found place ≡ true) names
 
--- the name of the type parameter, where there is one
+-- The name of the type parameter, where there is one.
 abbrev pub name_list : Option GenericParam → List (List ℕ)
 name_list None = []
 name_list (Some param) = cons_option (type_name param) []
 
--- the name of the type parameter at the place, if one stands there
+-- The name of the type parameter at the place, if one stands there.
 abbrev pub names_at : List GenericParam → ℕ → List (List ℕ)
 names_at params place = name_list (slice_get params place)
 

@@ -12,7 +12,7 @@ use Rattle.educe_bound_classes.specs.Params.{is_param, is_type_param}
 use Rattle.educe_bound_classes.specs.Paths.{begins_with}
 use Rattle.educe_bound_classes.specs.Walk.{Question, in_type}
 
--- the word of a token of this kind is a parameter
+-- The word of a token of this kind is a parameter.
 abbrev pub is_param_at : List GenericParam → TokenKind → List ℕ → Bool
 is_param_at params kind.Ident text = is_param params text
 is_param_at params kind.Lifetime text = false
@@ -22,11 +22,11 @@ is_param_at params (kind.Start b) text = false
 is_param_at params (kind.Stop b) text = false
 is_param_at params kind.Doc text = false
 
--- the token is a word that is a parameter
+-- The token is a word that is a parameter.
 abbrev pub is_param_word : List GenericParam → Token → Bool
 is_param_word params t = is_param_at params t.kind t.spelling
 
--- does it use a type parameter or a const parameter?
+-- Does it use a type parameter or a const parameter?
 abbrev pub use_of : List GenericParam → Question
 use_of params = record {
   at_path = λ behind p. begins_with (is_param params) p;
@@ -36,17 +36,17 @@ use_of params = record {
   passes_path = λ p. false;
 }
 
--- the type uses one
+-- The type uses one.
 abbrev pub uses_params : List GenericParam → Ty → Bool
 uses_params params ty = in_type (use_of params) ty
 
--- the path mentions the derived type of this name
+-- The path mentions the derived type of this name.
 abbrev pub mentions_at : List GenericParam → List ℕ → Bool → Path → Bool
 mentions_at params self behind p =
     not behind && (not (begins_with (is_type_param params) p)
     && (list_any (λ s. bytes_eq self s.ident.text) (out-Path p).segments || begins_with (λ text. bytes_eq (codes "Self") text) p))
 
--- does it mention the derived type of this name?
+-- Does it mention the derived type of this name?
 abbrev pub mention_of : List GenericParam → List ℕ → Question
 mention_of params self = record {
   at_path = λ behind p. mentions_at params self behind p;

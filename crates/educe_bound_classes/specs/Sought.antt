@@ -11,17 +11,17 @@ use Rattle.educe_bound_classes.specs.Paths.{begins_with}
 use Rattle.educe_bound_classes.specs.Walk.{Question}
 use Rattle.educe_bound_classes.specs.Questions.{is_param_word, mentions_at}
 
--- a path, which may stand behind a self type, is what is sought
+-- A path, which may stand behind a self type, is what is sought.
 abbrev pub sought_at : Sought → Bool → Path → Bool
 sought_at (Parameter names) behind p = begins_with (is_param (params_of names)) p
 sought_at (Derived names self) behind p = mentions_at (params_of names) self.now behind p
 
--- it is among the words of these tokens
+-- It is among the words of these tokens.
 abbrev pub sought_in : Sought → List Token → Bool
 sought_in (Parameter names) tokens = list_any (λ t. is_param_word (params_of names) t) tokens
 sought_in (Derived names self) tokens = false
 
--- the question whether it stands there
+-- The question whether it stands there.
 abbrev pub sought_by : Sought → Question
 sought_by sought = record {
   at_path = λ behind p. sought_at sought behind p;

@@ -4,11 +4,11 @@ use Rattle.std.specs.Borrow.{Bor}
 use Rattle.std.specs.List.{list_any}
 use Rattle.std.specs.Str.{bytes_eq}
 
--- texts that are lent, as characters
+-- Texts that are lent, as characters.
 abbrev pub texts_of : List (Bor (List ℕ)) → List (List ℕ)
 texts_of texts = map (λ text. chars text.now) texts
 
--- the text is one of these
+-- The text is one of these.
 abbrev pub has_text : List (List ℕ) → List ℕ → Bool
 has_text texts text = list_any (λ known. bytes_eq text known) texts
 
@@ -16,10 +16,10 @@ has_text texts text = list_any (λ known. bytes_eq text known) texts
 abbrev pub AddsTexts : List (List ℕ) → List (List ℕ) → List (List ℕ) → Type 0
 AddsTexts more old new = (text : List ℕ) → has_text new text ≡ (has_text old text || has_text more text)
 
--- what was there is there
+-- What was there is there.
 abbrev pub KeepsTexts : List (List ℕ) → List (List ℕ) → Type 0
 KeepsTexts old new = (text : List ℕ) → has_text old text ≡ true → has_text new text ≡ true
 
--- the texts are those that pass
+-- The texts are those that pass.
 abbrev pub IsSetOf : (List ℕ → Bool) → List (List ℕ) → Type 0
 IsSetOf test texts = (text : List ℕ) → has_text texts text ≡ test text

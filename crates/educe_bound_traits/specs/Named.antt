@@ -5,10 +5,10 @@ use Rattle.educe_bound_traits.specs.declared.traits.Trait.{Trait}
 use Rattle.educe_bound_traits.specs.Traits.{text_of, variants}
 use Rattle.educe_bound_traits.specs.OneWord.{is_one_word}
 
--- the path is the name of the trait, as it is spelled
+-- The path is the name of the trait, as it is spelled.
 abbrev pub names_trait : MetaPath → Trait → Bool
 names_trait path which = is_one_word (text_of which) path.written.tokens
 
--- the trait whose name a path is
+-- The trait whose name a path is.
 abbrev pub trait_named : MetaPath → Option Trait
 trait_named path = find (names_trait path) variants

@@ -5,11 +5,11 @@ use Rattle.educe_tokens.specs.declared.token.Token.{Token}
 use Rattle.educe_grammar.specs.declared.terminal.Terminal.TheVariants.{AnyWord}
 use Rattle.educe_grammar.specs.Terminals.{accepts}
 
--- an identifier that is spelled so, with no `r#`
+-- An identifier that is spelled so, with no `r#`.
 abbrev pub is_word : List ℕ → Token → Bool
 is_word text t = accepts AnyWord t && bytes_eq text t.spelling
 
--- the tokens are one identifier that is spelled so
+-- The tokens are one identifier that is spelled so.
 abbrev pub is_one_word : List ℕ → List Token → Bool
 is_one_word text [] = false
 is_one_word text (t ∷ []) = is_word text t

@@ -2,6 +2,6 @@
 use Rattle.educe_laws.specs.EqLaws.{EqLaws}
 use Rattle.educe_laws.proofs.Checked as checked
 
--- what holds of the block of `Eq`
+-- What holds of the block of `Eq`.
 pub lawful_checks : EqLaws
 lawful_checks = checked.lawful_checks

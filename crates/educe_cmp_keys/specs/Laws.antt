@@ -2,6 +2,6 @@
 use Rattle.educe_laws.specs.Laws.{ComparisonLaws}
 use Rattle.educe_laws.proofs.Evaluating as evaluating
 
--- the functions of a comparison's block evaluate to what the comparison means
+-- The functions of a comparison's block evaluate to what the comparison means.
 pub lawful_comparisons : ComparisonLaws
 lawful_comparisons = evaluating.lawful_comparisons

@@ -2,7 +2,7 @@
 use Rattle.educe_cmp_keys.specs.declared.names.Names.{Names}
 use Rattle.educe_laws.specs.Arms as laws
 
--- the texts of the names, and the prefixes
+-- The texts of the names, and the prefixes.
 abbrev pub names_of : Names → laws.Names
 names_of names = record {
   other = names.other.text;

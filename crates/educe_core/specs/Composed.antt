@@ -8,8 +8,8 @@ use Rattle.educe_laws.specs.Blocks.{Blocks, EachEvaluates}
 use Rattle.educe_laws.specs.Handlers.{Noted, AreNoted, AreUncaused, handled_of}
 use Rattle.educe_laws.specs.Listed.{listed}
 
--- each of these traits that is listed was handled, and no other trait: the context holds what their handlers noted; the items are
--- their blocks, one behind the other, whose functions evaluate to what the traits mean; and no cause of theirs stands
+-- Each of these traits that is listed was handled, and no other trait: the context holds what their handlers noted; the items are
+-- their blocks, one behind the other, whose functions evaluate to what the traits mean; and no cause of theirs stands.
 pub record AreHandled (done : List Trait) (definition : DeriveInput) (noted : List Noted) (items : List Item) : Type 0 where
   pub noted_are : AreNoted definition done noted
   pub blocks : Blocks (handled_of (listed definition) done) definition items

@@ -22,31 +22,31 @@ use Rattle.educe_laws.specs.Handled.{IsListedCause}
 use Rattle.educe_laws.specs.Listed.{listed, IsListingCause}
 use Rattle.educe_laws.specs.Said.{AreAllSaid}
 
--- the definition that a text is, within the limits, whose names are apart
+-- The definition that a text is, within the limits, whose names are apart.
 pub record Defines (text : List ℕ) (definition : DeriveInput) : Type 0 where
   pub tokens_are : IsReading text definition.tokens
   pub whole : IsWhole grammar.definition definition.tokens definition
   pub names_apart : AreNamesApart definition
 
--- why the handler rejects a definition, by phases, of which the first with a cause is the one that is reported: what the
+-- Why the handler rejects a definition, by phases, of which the first with a cause is the one that is reported: what the
 -- definition lists is rejected; or a listed trait is rejected. Out of memory has no cause.
 pub data IsHandlerCause (definition : DeriveInput) : EduceError → Type 0 where
   listing : {e : EduceError} → IsListingCause definition e → IsHandlerCause definition e
   handled : {e : EduceError} → NoCause (IsListingCause definition) → IsListedCause definition e → IsHandlerCause definition e
   memory : IsHandlerCause definition (placeless Alloc)
 
--- the text is a definition in which no cause of any phase stands
+-- The text is a definition in which no cause of any phase stands.
 pub record IsValid (source : List ℕ) : Type 0 where
   pub definition : DeriveInput
   pub defines : Defines (chars source) definition
   pub listing : NoCause (IsListingCause definition)
   pub uncaused : NoCause (IsListedCause definition)
 
--- the text is no definition
+-- The text is no definition.
 abbrev pub IsUndefined : List ℕ → Type 0
 IsUndefined source = (definition : DeriveInput) → Defines (chars source) definition → ⊥
 
--- why a text is rejected, for each kind of rejection with its place and words: it has no tokens whose brackets close in
+-- Why a text is rejected, for each kind of rejection with its place and words: it has no tokens whose brackets close in
 -- order, not too deep, or an unsupported literal; it has such tokens, and they begin as a union, are no definition
 -- within the limits, or one in which a name is given twice; or it is a definition, and the handler rejects that. Out of
 -- memory has no cause.
@@ -56,7 +56,7 @@ pub data IsCause (source : List ℕ) : EduceError → Type 0 where
   handled : {e : EduceError} (definition : DeriveInput) → Defines (chars source) definition → IsHandlerCause definition e → IsCause source e
   memory : IsCause source (placeless Alloc)
 
--- no other rejection than this one has a cause, out of memory aside
+-- No other rejection than this one has a cause, out of memory aside.
 abbrev pub IsAlone : List ℕ → EduceError → Type 0
 IsAlone source e = (other : EduceError) → other.kind ≢ Alloc → IsCause source other → other ≡ e
 

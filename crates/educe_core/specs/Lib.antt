@@ -3,7 +3,7 @@ pub mod Composed
 pub mod Expansion
 pub mod Run
 pub mod Laws
--- what clauses say of the handlers and of their items
+-- What clauses say of the handlers and of their items.
 pub use Rattle.educe_laws.specs.Comparisons
 pub use Rattle.educe_laws.specs.Rows
 pub use Rattle.educe_laws.specs.Listed
@@ -19,7 +19,7 @@ pub use Rattle.educe_laws.specs.Arms
 pub use Rattle.educe_laws.specs.Blocks
 pub use Rattle.educe_laws.specs.Handled
 pub use Rattle.educe_laws.specs.Handlers
--- what clauses say of devices and of how a run ends, and the types that they name
+-- What clauses say of devices and of how a run ends, and the types that they name.
 pub use Rattle.educe_core_devices.specs.Devices
 pub use Rattle.educe_core_devices.specs.Plan as Planned
 pub use Rattle.educe_core_devices.specs.Memory

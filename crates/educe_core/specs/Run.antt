@@ -11,11 +11,11 @@ use Rattle.educe_core_devices.specs.Devices.{Change, ahead, IsAtEnd, IsUnchanged
 use Rattle.educe_core_devices.specs.Status.{Delivers}
 use Rattle.educe_core.specs.Headline.{IsExpansion, IsCause, IsValid, IsUndefined, IsAlone}
 
--- the words of the command
+-- The words of the command.
 abbrev pub expand_words : List (List ℕ)
 expand_words = codes "expand" ∷ []
 
--- the lines that the notes gain
+-- The lines that the notes gain.
 abbrev pub usage_line : List ℕ
 usage_line = codes "usage: educe expand\n"
 
@@ -25,27 +25,27 @@ too_long_line = codes "the input is longer than 131072 bytes\n"
 abbrev pub not_utf8_line : List ℕ
 not_utf8_line = codes "the input is not UTF-8\n"
 
--- line, column and message of a rejection
+-- Line, column and message of a rejection.
 abbrev pub refusal_line : List ℕ → EduceError → List ℕ
 refusal_line source error =
     decimal (line_of source error.span.start) ++ codes ":" ++ decimal (column_of source error.span.start) ++ codes ": "
     ++ message_of error.kind error.words ++ codes "\n"
 
--- this is the whole input, within the limit of 131,072 bytes, and no read failed
+-- This is the whole input, within the limit of 131,072 bytes, and no read failed.
 pub record ReadsAll (source : Change) (input : List ℕ) : Type 0 where
   pub taken : source.before ≡ ahead input source.after
   pub end : IsAtEnd source.after
   pub limit : length input ≤ 131_072
   pub faults : source.faults_after ≡ source.faults_before
 
--- the input has more bytes than the limit, no read failed, and reading stopped behind the first byte that is too many
+-- The input has more bytes than the limit, no read failed, and reading stopped behind the first byte that is too many.
 pub record ReadsTooMuch (source : Change) : Type 0 where
   pub input : List ℕ
   pub taken : source.before ≡ ahead input source.after
   pub limit : length input ≡ 131_073
   pub faults : source.faults_after ≡ source.faults_before
 
--- the text of an expansion of the whole input, in which no cause of a rejection stands
+-- The text of an expansion of the whole input, in which no cause of a rejection stands.
 pub record IsText (source : Change) (text : List ℕ) : Type 0 where
   pub input : List ℕ
   pub whole : ReadsAll source input
@@ -54,8 +54,8 @@ pub record IsText (source : Change) (text : List ℕ) : Type 0 where
   pub expands : IsExpansion input items text
   pub uncaused : (e : EduceError) → e.kind ≢ Alloc → IsCause input e → ⊥
 
--- the line of a rejection whose cause stands in the whole input, which is not valid; where the input is no definition, no other
--- rejection has a cause
+-- The line of a rejection whose cause stands in the whole input, which is not valid; where the input is no definition, no other
+-- rejection has a cause.
 pub record IsRefusal (source : Change) (error : EduceError) (line : List ℕ) : Type 0 where
   pub input : List ℕ
   pub whole : ReadsAll source input
@@ -66,13 +66,13 @@ pub record IsRefusal (source : Change) (error : EduceError) (line : List ℕ) : 
   pub invalid : IsValid input → ⊥
   pub is : line ≡ refusal_line input error
 
--- the whole input is not UTF-8
+-- The whole input is not UTF-8.
 pub record ReadsNoText (source : Change) : Type 0 where
   pub input : List ℕ
   pub whole : ReadsAll source input
   pub not_utf8 : IsUtf8 input → ⊥
 
--- the answer's condition holds, and this is its line for the notes
+-- The answer's condition holds, and this is its line for the notes.
 abbrev pub IsLine : List (List ℕ) → Change → Status → List ℕ → Type 0
 IsLine words source Usage line = (words ≢ expand_words) × IsUnchanged source × (line ≡ usage_line)
 IsLine words source (Refused error) line = (words ≡ expand_words) × IsRefusal source error line
@@ -83,7 +83,7 @@ IsLine words source ReadFault line = ⊥
 IsLine words source WriteFault line = ⊥
 IsLine words source NoMemory line = ⊥
 
--- what becomes of the text of an expansion: it goes to the sink, and the notes stay
+-- What becomes of the text of an expansion: it goes to the sink, and the notes stay.
 pub record WritesText (becomes : Change → List ℕ → Type 0) (words : List (List ℕ)) (source sink notes : Change) : Type 0 where
   pub command : words ≡ expand_words
   pub text : List ℕ
@@ -91,19 +91,19 @@ pub record WritesText (becomes : Change → List ℕ → Type 0) (words : List (
   pub gained : becomes sink text
   pub kept : IsUnchanged notes
 
--- what becomes of the answer's line: it goes to the notes, and the sink stays
+-- What becomes of the answer's line: it goes to the notes, and the sink stays.
 pub record WritesLine (becomes : Change → List ℕ → Type 0) (words : List (List ℕ)) (source sink notes : Change) (status : Status) : Type 0 where
   pub line : List ℕ
   pub stands : IsLine words source status line
   pub gained : becomes notes line
   pub kept : IsUnchanged sink
 
--- neither the sink nor the notes are touched
+-- Neither the sink nor the notes are touched.
 pub record WritesNothing (sink notes : Change) : Type 0 where
   pub sink_kept : IsUnchanged sink
   pub notes_kept : IsUnchanged notes
 
--- the table: for each answer when it comes, and what the sink and the notes gain
+-- The table: for each answer when it comes, and what the sink and the notes gain.
 abbrev pub Answers : List (List ℕ) → Change → Change → Change → Status → Type 0
 Answers words source sink notes Done = WritesText Gains words source sink notes
 Answers words source sink notes (Refused error) = WritesLine Gains words source sink notes (Refused error)
@@ -117,7 +117,7 @@ Answers words source sink notes NoMemory =
     ((source.faults_after ≡ source.faults_before) × WritesNothing sink notes)
     ⊎ (WritesText RunsShortWithin words source sink notes ⊎ ((status : Status) × WritesLine RunsShortWithin words source sink notes status))
 
--- the line of a rejection goes to the notes, or memory does not suffice for the rejection or its line
+-- The line of a rejection goes to the notes, or memory does not suffice for the rejection or its line.
 abbrev pub Refuses : Change → List ℕ → EduceError → Status → Type 0
 Refuses notes source error status =
     ((error.kind ≢ Alloc) × Delivers notes (refusal_line source error) (Refused error) status) ⊎ (IsUnchanged notes × (status ≡ NoMemory))

@@ -1,39 +1,39 @@
 -- What calls do to the bytes and the count of faults of a device.
 use Rattle.std.specs.Prelude.{◌≡◌, ℕ, ◌+◌, ◌-◌, ◌^◌, ◌<◌, ◌≤◌, min, List, [], ◌++◌, length, take, Option, Some, None, IfSome, Bool, IsTrue}
 
--- the count rose, or stands at the last value of a u64
+-- The count rose, or stands at the last value of a u64.
 abbrev pub Rose : ℕ → ℕ → Type 0
 Rose before now = min (before + 1) (2 ^ 64 - 1) ≤ now
 
--- these bytes, and then the told ones
+-- These bytes, and then the told ones.
 abbrev pub ahead : List ℕ → Option (List ℕ) → Option (List ℕ)
 ahead bytes None = None
 ahead bytes (Some told) = Some (bytes ++ told)
 
--- the told bytes, and then these
+-- The told bytes, and then these.
 abbrev pub behind : Option (List ℕ) → List ℕ → Option (List ℕ)
 behind None bytes = None
 behind (Some told) bytes = Some (told ++ bytes)
 
--- no told byte is left
+-- No told byte is left.
 abbrev pub IsAtEnd : Option (List ℕ) → Type 0
 IsAtEnd told = IfSome told (λ bytes. bytes ≡ [])
 
--- where nothing came into nonempty room, nothing is left
+-- Where nothing came into nonempty room, nothing is left.
 abbrev pub EndsOnNothing : ℕ → List ℕ → Option (List ℕ) → Type 0
 EndsOnNothing count room left = count ≡ 0 → 0 < length room → IsAtEnd left
 
--- of a nonempty piece at least one byte is taken
+-- Of a nonempty piece at least one byte is taken.
 abbrev pub TakesSome : ℕ → List ℕ → Type 0
 TakesSome count piece = 0 < length piece → 0 < count
 
--- at most so many bytes went from the front of what was left
+-- At most so many bytes went from the front of what was left.
 pub record TakesAtMost (most : ℕ) (before after : Option (List ℕ)) : Type 0 where
   pub bytes : List ℕ
   pub front : before ≡ ahead bytes after
   pub bound : length bytes ≤ most
 
--- a device before and after: its bytes, its count of faults, and whether it might fail
+-- A device before and after: its bytes, its count of faults, and whether it might fail.
 pub record Change : Type 0 where
   pub before : Option (List ℕ)
   pub after : Option (List ℕ)
@@ -45,28 +45,28 @@ abbrev pub change : Option (List ℕ) → Option (List ℕ) → ℕ → ℕ → 
 change before after faults_before faults_after may_fail =
     record { before = before; after = after; faults_before = faults_before; faults_after = faults_after; may_fail = may_fail }
 
--- no byte was moved, and no call failed
+-- No byte was moved, and no call failed.
 pub record IsUnchanged (device : Change) : Type 0 where
   pub bytes : device.after ≡ device.before
   pub faults : device.faults_after ≡ device.faults_before
 
--- a device that might fail did
+-- A device that might fail did.
 pub record Fails (device : Change) : Type 0 where
   pub rose : Rose device.faults_before device.faults_after
   pub might : IsTrue device.may_fail
 
--- the whole text was appended, and no call failed
+-- The whole text was appended, and no call failed.
 pub record Gains (device : Change) (text : List ℕ) : Type 0 where
   pub bytes : device.after ≡ behind device.before text
   pub faults : device.faults_after ≡ device.faults_before
 
--- a front of the text was appended, and then a call failed
+-- A front of the text was appended, and then a call failed.
 pub record FailsWithin (device : Change) (text : List ℕ) : Type 0 where
   pub count : ℕ
   pub bytes : device.after ≡ behind device.before (take count text)
   pub fails : Fails device
 
--- a front of the text was appended, and then memory did not suffice
+-- A front of the text was appended, and then memory did not suffice.
 pub record RunsShortWithin (device : Change) (text : List ℕ) : Type 0 where
   pub count : ℕ
   pub bytes : device.after ≡ behind device.before (take count text)

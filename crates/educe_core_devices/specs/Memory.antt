@@ -4,18 +4,18 @@ use Rattle.educe_core_devices.specs.declared.memory.MemorySource.{MemorySource}
 use Rattle.educe_core_devices.specs.declared.memory.MemorySink.{MemorySink}
 use Rattle.educe_core_devices.specs.declared.plan.Plan.{Plan}
 
--- the bytes that are left
+-- The bytes that are left.
 abbrev pub source_left : MemorySource → Option (List ℕ)
 source_left source = Some (drop source.taken source.bytes.items)
 
--- what is planned for the reads
+-- What is planned for the reads.
 abbrev pub source_plan : MemorySource → Plan
 source_plan source = source.plan
 
--- the bytes that are held
+-- The bytes that are held.
 abbrev pub sink_held : MemorySink → Option (List ℕ)
 sink_held sink = Some sink.bytes.items
 
--- what is planned for the writes
+-- What is planned for the writes.
 abbrev pub sink_plan : MemorySink → Plan
 sink_plan sink = sink.plan

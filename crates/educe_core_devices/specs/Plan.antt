@@ -3,22 +3,22 @@ use Rattle.std.specs.Prelude.{◌≡◌, ℕ, ◌+◌, ◌-◌, ◌^◌, ◌==�
 use Rattle.std.specs.List.{list_any}
 use Rattle.educe_core_devices.specs.declared.plan.Plan.{Plan}
 
--- before the first call: a call moves at most so many bytes, and the calls of these numbers fail
+-- Before the first call: a call moves at most so many bytes, and the calls of these numbers fail.
 pub record IsNew (step : ℕ) (failing : List ℕ) (plan : Plan) : Type 0 where
   pub step_is : plan.step ≡ step
   pub failing_are : plan.failing.items ≡ failing
   pub no_calls : plan.calls ≡ 0
   pub no_faults : plan.faults ≡ 0
 
--- some call may fail: the list of those that do is not empty
+-- Some call may fail: the list of those that do is not empty.
 abbrev pub may_fail : Plan → Bool
 may_fail plan = nat_lt 0 (length plan.failing.items)
 
--- the next call fails
+-- The next call fails.
 abbrev pub fails_next : Plan → Bool
 fails_next plan = list_any (λ n. n == plan.calls) plan.failing.items
 
--- one call more was counted, and a fault where it was planned, each up to the last value of a `u64`; what is planned stays
+-- One call more was counted, and a fault where it was planned, each up to the last value of a `u64`; what is planned stays.
 pub record IsCounted (before after : Plan) : Type 0 where
   pub step_stays : after.step ≡ before.step
   pub failing_stay : after.failing ≡ before.failing

@@ -4,7 +4,7 @@ use Rattle.educe_core_devices.specs.Devices.{Change, Gains, FailsWithin, RunsSho
 use Rattle.educe_core_devices.specs.declared.status.Status.{Status}
 use Rattle.educe_core_devices.specs.declared.status.Status.TheVariants.{Done, Refused, Usage, ReadFault, WriteFault, TooLong, NotUtf8, NoMemory}
 
--- the exit status
+-- The exit status.
 abbrev pub code_of : Status → ℕ
 code_of Done = 0
 code_of (Refused error) = 1
@@ -15,7 +15,7 @@ code_of TooLong = 5
 code_of NotUtf8 = 6
 code_of NoMemory = 7
 
--- a fault or out of memory, which stop a run anywhere
+-- A fault or out of memory, which stop a run anywhere.
 abbrev pub IsStop : Status → Type 0
 IsStop ReadFault = Unit {0}
 IsStop WriteFault = Unit {0}
@@ -26,11 +26,11 @@ IsStop Usage = ⊥
 IsStop TooLong = ⊥
 IsStop NotUtf8 = ⊥
 
--- the answer is the expected one, where nothing stops the run
+-- The answer is the expected one, where nothing stops the run.
 abbrev pub IsUnlessStopped : Status → Status → Type 0
 IsUnlessStopped expected status = (status ≡ expected) ⊎ IsStop status
 
--- the text goes to the device, and with all of it there the answer is this one
+-- The text goes to the device, and with all of it there the answer is this one.
 pub data Delivers (device : Change) (text : List ℕ) (status : Status) : Status → Type 0 where
   whole : Gains device text → Delivers device text status status
   fault : FailsWithin device text → Delivers device text status WriteFault

@@ -7,11 +7,11 @@ use Rattle.educe_tokens.specs.IntValue.{int_value}
 use Rattle.educe_tokens.specs.Lexes.{lexeme_of}
 use Rattle.educe_tokens.specs.declared.token.Token.{Token}
 
--- `-`
+-- `-`.
 abbrev pub is_minus : Token → Bool
 is_minus t = bytes_eq t.spelling (codes "-")
 
--- the number that these tokens write: one integer literal, suffix aside, or a minus and one
+-- The number that these tokens write: one integer literal, suffix aside, or a minus and one.
 abbrev pub literal_number : List Token → Option ℤ
 literal_number [] = None
 literal_number (t ∷ []) = option_map pos (int_value (lexeme_of t))

@@ -5,25 +5,25 @@ use mir.Val.{bits}
 use Rattle.educe_discriminants.specs.declared.discriminant_type.DiscriminantType.{DiscriminantType}
 use Rattle.educe_discriminants.specs.Types.{width, is_signed}
 
--- the number is one of the type of these bits, with a sign or without
+-- The number is one of the type of these bits, with a sign or without.
 abbrev pub Fits : Bool → Width → ℤ → Type 0
 Fits true w n = FitsSigned w n
 Fits false w n = FitsUnsignedBits (bits w) n
 
--- the number is one of the type
+-- The number is one of the type.
 abbrev pub IsInRange : DiscriminantType → ℤ → Type 0
 IsInRange ty n = Fits (is_signed ty) (width ty) n
 
--- the number of the type of these bits that differs from a number by a multiple of 2 ^ bits
+-- The number of the type of these bits that differs from a number by a multiple of 2 ^ bits.
 abbrev pub wrapped_to : Bool → Width → ℤ → ℤ
 wrapped_to true w n = int_wrap w n
 wrapped_to false w n = int_rem_euclid n (pos (2 ^ bits w))
 
--- the number of the type that differs from a number by a multiple of 2 ^ bits
+-- The number of the type that differs from a number by a multiple of 2 ^ bits.
 abbrev pub wrapped : DiscriminantType → ℤ → ℤ
 wrapped ty n = wrapped_to (is_signed ty) (width ty) n
 
 -- What holds of ranges with no call.
 pub record RangeLaws : Type 0 where
-  -- a number of the type is left as it is
+  -- A number of the type is left as it is.
   pub kept : (ty : DiscriminantType) (n : ℤ) → IsInRange ty n → wrapped ty n ≡ n

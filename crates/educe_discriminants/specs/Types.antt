@@ -5,11 +5,11 @@ use Rattle.std.specs.Str.{bytes_eq}
 use Rattle.educe_discriminants.specs.declared.discriminant_type.DiscriminantType.{DiscriminantType}
 use Rattle.educe_discriminants.specs.declared.discriminant_type.DiscriminantType.TheVariants.{ISize, I8, I16, I32, I64, I128, USize, U8, U16, U32, U64, U128}
 
--- the types, those with a sign first
+-- The types, those with a sign first.
 abbrev pub types : List DiscriminantType
 types = ISize ∷ I8 ∷ I16 ∷ I32 ∷ I64 ∷ I128 ∷ USize ∷ U8 ∷ U16 ∷ U32 ∷ U64 ∷ U128 ∷ []
 
--- the name of a type
+-- The name of a type.
 abbrev pub name_of : DiscriminantType → List ℕ
 name_of ISize = codes "isize"
 name_of I8 = codes "i8"
@@ -24,16 +24,16 @@ name_of U32 = codes "u32"
 name_of U64 = codes "u64"
 name_of U128 = codes "u128"
 
--- the first of these types that has this name
+-- The first of these types that has this name.
 abbrev pub first_named : List DiscriminantType → List ℕ → Option DiscriminantType
 first_named [] name = None
 first_named (ty ∷ more) name = if bytes_eq name (name_of ty) then Some ty else first_named more name
 
--- the type of this name
+-- The type of this name.
 unfoldable pub type_named : List ℕ → Option DiscriminantType
 type_named name = first_named types name
 
--- how many bits a type has; `isize` and `usize` have 64
+-- How many bits a type has; `isize` and `usize` have 64.
 abbrev pub width : DiscriminantType → Width
 width ISize = w64
 width I8 = w8
@@ -48,7 +48,7 @@ width U32 = w32
 width U64 = w64
 width U128 = w128
 
--- whether a type has numbers below 0
+-- Whether a type has numbers below 0.
 abbrev pub is_signed : DiscriminantType → Bool
 is_signed ISize = true
 is_signed I8 = true

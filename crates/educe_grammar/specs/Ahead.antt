@@ -11,7 +11,7 @@ use Rattle.educe_grammar.specs.declared.terminal.Terminal.{Terminal}
 use Rattle.educe_grammar.specs.Terminals.{accepts}
 use Rattle.educe_grammar.specs.Steps.{Tokens}
 
--- this punctuation character
+-- This punctuation character.
 abbrev pub is_sign : ℕ → TokenKind → Bool
 is_sign c (kind.Punct d joint) = d == c
 is_sign c kind.Ident = false
@@ -21,7 +21,7 @@ is_sign c (kind.Start b) = false
 is_sign c (kind.Stop b) = false
 is_sign c kind.Doc = false
 
--- this punctuation character, joint with the next token
+-- This punctuation character, joint with the next token.
 abbrev pub is_joint : ℕ → TokenKind → Bool
 is_joint c (kind.Punct d joint) = (d == c) && joint
 is_joint c kind.Ident = false
@@ -67,18 +67,18 @@ closes b t = is_stop b t.kind
 abbrev pub documents : Token → Bool
 documents t = is_doc t.kind
 
--- two puncts that make one operator, as `::`: the first is joint with the second
+-- Two puncts that make one operator, as `::`: the first is joint with the second.
 unfoldable pub begins_pair : ℕ → ℕ → Tokens → Bool
 begins_pair c d [] = false
 begins_pair c d (t ∷ []) = false
 begins_pair c d (t ∷ u ∷ ts) = is_joint c t.kind && is_sign d u.kind
 
--- the punct c, where it isn't the first half of the operator of c and d
+-- The punct c, where it isn't the first half of the operator of c and d.
 unfoldable pub begins_lone : ℕ → ℕ → Tokens → Bool
 begins_lone c d [] = false
 begins_lone c d (t ∷ ts) = is_sign c t.kind && not (begins_pair c d (t ∷ ts))
 
--- the first token passes the test
+-- The first token passes the test.
 unfoldable pub sees : (Token → Bool) → Tokens → Bool
 sees test [] = false
 sees test (t ∷ ts) = test t
@@ -87,20 +87,20 @@ unfoldable pub at_end : Tokens → Bool
 at_end [] = true
 at_end (t ∷ ts) = false
 
--- what a list of tokens may begin with
+-- What a list of tokens may begin with.
 pub data Ahead : Type 0 where
-  -- such a token
+  -- Such a token.
   one : Terminal → Ahead
-  -- a bracket
+  -- A bracket.
   start : Bracket → Ahead
   stop : Bracket → Ahead
-  -- documentation
+  -- Documentation.
   doc : Ahead
-  -- the operator of the puncts c and d
+  -- The operator of the puncts c and d.
   pair : ℕ → ℕ → Ahead
-  -- the punct c, which isn't its first half
+  -- The punct c, which isn't its first half.
   lone : ℕ → ℕ → Ahead
-  -- nothing
+  -- Nothing.
   finish : Ahead
 
 abbrev pub begins : Ahead → Tokens → Bool
@@ -112,7 +112,7 @@ begins (pair c d) ts = begins_pair c d ts
 begins (lone c d) ts = begins_lone c d ts
 begins finish ts = at_end ts
 
--- the tokens behind it
+-- The tokens behind it.
 unfoldable pub behind : Ahead → Tokens → Tokens
 behind (pair c d) [] = []
 behind (pair c d) (t ∷ []) = []
@@ -120,12 +120,12 @@ behind (pair c d) (t ∷ u ∷ ts) = ts
 behind a [] = []
 behind a (t ∷ ts) = ts
 
--- the list begins with these, one behind the other
+-- The list begins with these, one behind the other.
 abbrev pub meets : List Ahead → Tokens → Bool
 meets [] ts = true
 meets (a ∷ more) ts = begins a ts && meets more (behind a ts)
 
--- several beginnings, one of which is looked for
+-- Several beginnings, one of which is looked for.
 abbrev pub Look : Type 0
 Look = List (List Ahead)
 

@@ -15,7 +15,7 @@ use Rattle.educe_tree.specs.declared.path.AngleArg.TheVariants as arg
 use Rattle.educe_grammar.specs.Types.{type_of, path_of, segment_of}
 -- ---- tokens
 
--- the same tokens are equal, their spans and whether puncts are joint aside
+-- The same tokens are equal, their spans and whether puncts are joint aside.
 pub use Rattle.educe_tokens.specs.Copied.{unjoined as kind_aside}
 pub use Rattle.educe_tokens.specs.Same.{lexeme_aside, lexemes_aside, AreSameTokens as AreEqualAside}
 
@@ -29,7 +29,7 @@ mutual
   pub data AlikeTypes : Ty → Ty → Type 0 where
     of_forms : {f g : TypeForm} (v w : Written) → AreEqualAside v.tokens w.tokens → AlikeForms f g → AlikeTypes (type_of f v) (type_of g w)
 
-  -- forms of types
+  -- Forms of types.
   pub data AlikeForms : TypeForm → TypeForm → Type 0 where
     parens : {x y : Ty} → AlikeTypes x y → AlikeForms (form.Paren x) (form.Paren y)
     tuples : {xs ys : List Ty} → AllTypesAlike xs ys → AlikeForms (form.Tuple xs) (form.Tuple ys)
@@ -42,48 +42,48 @@ mutual
     functions : {xs ys : List Ty} {s t : Option Ty} → AllTypesAlike xs ys → AlikeOptions s t → AlikeForms (form.FnPtr xs s) (form.FnPtr ys t)
     objects : {ps qs : List Path} → AllPathsAlike ps qs → AlikeForms (form.TraitObject ps) (form.TraitObject qs)
 
-  -- types, where there are any
+  -- Types, where there are any.
   pub data AlikeOptions : Option Ty → Option Ty → Type 0 where
     neither : AlikeOptions None None
     both_some : {x y : Ty} → AlikeTypes x y → AlikeOptions (Some x) (Some y)
 
-  -- types in their order
+  -- Types in their order.
   pub data AllTypesAlike : List Ty → List Ty → Type 0 where
     no_types : AllTypesAlike [] []
     more_types : {x y : Ty} {xs ys : List Ty} → AlikeTypes x y → AllTypesAlike xs ys → AllTypesAlike (x ∷ xs) (y ∷ ys)
 
-  -- paths
+  -- Paths.
   pub data AlikePaths : Path → Path → Type 0 where
     of_segments : (leading : Bool) {xs ys : List Segment} → AllSegmentsAlike xs ys → AlikePaths (path_of leading xs) (path_of leading ys)
 
-  -- paths in their order
+  -- Paths in their order.
   pub data AllPathsAlike : List Path → List Path → Type 0 where
     no_paths : AllPathsAlike [] []
     more_paths : {p q : Path} {ps qs : List Path} → AlikePaths p q → AllPathsAlike ps qs → AllPathsAlike (p ∷ ps) (q ∷ qs)
 
-  -- segments
+  -- Segments.
   pub data AlikeSegments : Segment → Segment → Type 0 where
     of_args : (i j : Ident) {a b : Args} → i.text ≡ j.text → AlikeArgs a b → AlikeSegments (segment_of i a) (segment_of j b)
 
-  -- segments in their order
+  -- Segments in their order.
   pub data AllSegmentsAlike : List Segment → List Segment → Type 0 where
     no_segments : AllSegmentsAlike [] []
     more_segments : {x y : Segment} {xs ys : List Segment} → AlikeSegments x y → AllSegmentsAlike xs ys → AllSegmentsAlike (x ∷ xs) (y ∷ ys)
 
-  -- arguments of segments
+  -- Arguments of segments.
   pub data AlikeArgs : Args → Args → Type 0 where
     no_args : AlikeArgs args.None args.None
     in_angles : {xs ys : List AngleArg} → AllArgsAlike xs ys → AlikeArgs (args.Angle xs) (args.Angle ys)
     in_round : {xs ys : List Ty} {s t : Option Ty} → AllTypesAlike xs ys → AlikeOptions s t → AlikeArgs (args.Round xs s) (args.Round ys t)
 
-  -- arguments in angle brackets
+  -- Arguments in angle brackets.
   pub data AlikeAngleArgs : AngleArg → AngleArg → Type 0 where
     lifetimes : (l m : Lifetime) → l.text ≡ m.text → AlikeAngleArgs (arg.Lifetime l) (arg.Lifetime m)
     plain_types : {x y : Ty} → AlikeTypes x y → AlikeAngleArgs (arg.Plain x) (arg.Plain y)
     bindings : (i j : Ident) {x y : Ty} → i.text ≡ j.text → AlikeTypes x y → AlikeAngleArgs (arg.Binding i x) (arg.Binding j y)
     constants : (v w : Written) → AreEqualAside v.tokens w.tokens → AlikeAngleArgs (arg.Constant v) (arg.Constant w)
 
-  -- arguments in angle brackets, in their order
+  -- Arguments in angle brackets, in their order.
   pub data AllArgsAlike : List AngleArg → List AngleArg → Type 0 where
     no_more : AllArgsAlike [] []
     more_args : {x y : AngleArg} {xs ys : List AngleArg} → AlikeAngleArgs x y → AllArgsAlike xs ys → AllArgsAlike (x ∷ xs) (y ∷ ys)

@@ -19,16 +19,16 @@ use Rattle.educe_grammar.specs.Expressions.{some_trees, group}
 
 -- ---- places
 
--- from the start of one token to the end of another
+-- From the start of one token to the end of another.
 abbrev pub through : Token → Token → Span
 through first last = record { start = first.span.start; end = last.span.end }
 
--- from the one token to the other, if both are there
+-- From the one token to the other, if both are there.
 abbrev pub between : Option Token → Option Token → Span
 between (Some first) (Some last) = through first last
 between _ _ = record { start = 0; end = 0 }
 
--- from the first of the tokens to the last
+-- From the first of the tokens to the last.
 unfoldable pub span_of : Tokens → Span
 span_of tokens = between (slice_get tokens 0) (slice_get tokens (length tokens - 1))
 
@@ -37,32 +37,32 @@ span_of tokens = between (slice_get tokens 0) (slice_get tokens (length tokens -
 abbrev pub meta_path_of : (Bool × List (Unit {0})) × Written → MetaPath
 meta_path_of p = record { written = p.1 }
 
--- the path of a meta
+-- The path of a meta.
 unfoldable pub meta_path : Rule MetaPath
 meta_path = made meta_path_of (written (simple_path terminal.AnyWord))
 
--- what stands behind the path of a meta: nothing, a group, a value, or tokens that aren't read
+-- What stands behind the path of a meta: nothing, a group, a value, or tokens that aren't read.
 pub data MetaTail : Type 0 where
   no_tail : MetaTail
   group_tail : Written → MetaTail
   value_tail : Expr → MetaTail
   unread_tail : Written → MetaTail
 
--- how a group begins
+-- How a group begins.
 abbrev pub at_group : Look
 at_group = (start Round ∷ []) ∷ (start Square ∷ []) ∷ (start Curly ∷ []) ∷ []
 
 unfoldable pub written_group : Rule MetaTail
 written_group = made (λ p. group_tail p.1) (written group)
 
--- `=` and at least one tree
+-- `=` and at least one tree.
 unfoldable pub unread_value : Rule (Unit {0})
 unread_value = skipping (sign 61) (skipping (part trees) some_trees)
 
 unfoldable pub unread : Rule MetaTail
 unread = made (λ p. unread_tail p.1) (written unread_value)
 
--- the meta of a path and what stands behind it; its place is that of all of its tokens
+-- The meta of a path and what stands behind it; its place is that of all of its tokens.
 abbrev pub meta_of : (MetaPath × MetaTail) × Tokens → Meta
 meta_of p = elim p.0.1 [
   | no_tail ↦ said.Word p.0.0
@@ -71,17 +71,17 @@ meta_of p = elim p.0.1 [
   | unread_tail tokens ↦ said.Unread p.0.0 tokens (span_of p.1)
 ]
 
--- a meta
+-- A meta.
 unfoldable pub meta : Rule Meta
 meta = made meta_of (sliced (both meta_path (either at_group written_group (either (at_sign 61) (made value_tail (skipping (sign 61) (part exprs))) (empty no_tail)))))
 
--- metas
+-- Metas.
 unfoldable pub metas : Rule (List Meta)
 metas = commas (at finish) meta
 
 -- ---- attributes
 
--- what an attribute says, with a value that isn't read
+-- What an attribute says, with a value that isn't read.
 unfoldable pub outer_meta : Rule Meta
 outer_meta = made meta_of (sliced (both meta_path (either at_group written_group (either (at_sign 61) unread (empty no_tail)))))
 
@@ -91,14 +91,14 @@ documented found = record { meta = said.Doc found.token }
 abbrev pub attribute_of : Meta → Attribute
 attribute_of m = record { meta = m }
 
--- an attribute
+-- An attribute.
 unfoldable pub attribute : Rule Attribute
 attribute = either (at doc) (made documented documentation) (made attribute_of (skipping (sign 35) (nest Square outer_meta)))
 
--- how an attribute begins
+-- How an attribute begins.
 abbrev pub at_attribute : Look
 at_attribute = (doc ∷ []) ∷ (one (terminal.Sign 35) ∷ []) ∷ []
 
--- attributes
+-- Attributes.
 unfoldable pub attributes : Rule (List Attribute)
 attributes = many at_attribute attribute

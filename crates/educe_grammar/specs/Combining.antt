@@ -18,72 +18,72 @@ at_sign c = at (one (Sign c))
 abbrev pub at_word : Keyword → Look
 at_word word = at (one (Word word))
 
--- `::`
+-- `::`.
 abbrev pub at_colons : Look
 at_colons = at (pair 58 58)
 
--- a colon that isn't half of `::`
+-- A colon that isn't half of `::`.
 abbrev pub at_colon : Look
 at_colon = at (lone 58 58)
 
--- `->`
+-- `->`.
 abbrev pub at_arrow : Look
 at_arrow = at (pair 45 62)
 
--- a `<` that isn't half of `<=`
+-- A `<` that isn't half of `<=`.
 abbrev pub at_angle : Look
 at_angle = at (lone 60 61)
 
 -- ---- rules
 
--- the rule, whatever its value
+-- The rule, whatever its value.
 abbrev pub unit : {A : Type 0} → Rule A → Rule (Unit {0})
 unit g = rule.made (λ _. tt) g
 
--- one behind the other, with the second's value
+-- One behind the other, with the second's value.
 abbrev pub skipping : {A B : Type 0} → Rule A → Rule B → Rule B
 skipping g h = rule.made (λ p. p.1) (rule.both g h)
 
--- one behind the other, with the first's value
+-- One behind the other, with the first's value.
 abbrev pub leaving : {A B : Type 0} → Rule A → Rule B → Rule A
 leaving g h = rule.made (λ p. p.0) (rule.both g h)
 
--- the rule, where the tokens begin so
+-- The rule, where the tokens begin so.
 abbrev pub optional : {A : Type 0} → Look → Rule A → Rule (Option A)
 optional look g = rule.either look (rule.made Some g) (rule.empty None)
 
--- whether the tokens begin so, as the rule says
+-- Whether the tokens begin so, as the rule says.
 abbrev pub flag : {A : Type 0} → Look → Rule A → Rule Bool
 flag look g = rule.either look (rule.made (λ _. true) g) (rule.empty false)
 
--- the sign
+-- The sign.
 abbrev pub sign : ℕ → Rule (Unit {0})
 sign c = unit (rule.token (Sign c))
 
--- the word
+-- The word.
 abbrev pub word : Keyword → Rule (Unit {0})
 word w = unit (rule.token (Word w))
 
--- `::`
+-- `::`.
 abbrev pub colons : Rule (Unit {0})
 colons = rule.operator 58 58
 
--- a colon that isn't half of `::`, and the rule
+-- A colon that isn't half of `::`, and the rule.
 abbrev pub behind_colon : {A : Type 0} → Rule A → Rule A
 behind_colon g = rule.lone 58 58 g
 
--- items with commas between, up to such a beginning
+-- Items with commas between, up to such a beginning.
 abbrev pub commas : {A : Type 0} → Look → Rule A → Rule (List A)
 commas closing g = rule.list (Sign 44) closing g
 
--- items in round brackets
+-- Items in round brackets.
 abbrev pub in_round : {A : Type 0} → Rule A → Rule (List A)
 in_round g = rule.nest Round (commas (at (stop Round)) g)
 
--- items in curly brackets
+-- Items in curly brackets.
 abbrev pub in_curly : {A : Type 0} → Rule A → Rule (List A)
 in_curly g = rule.nest Curly (commas (at (stop Curly)) g)
 
--- items in angle brackets
+-- Items in angle brackets.
 abbrev pub in_angles : {A : Type 0} → Rule A → Rule (List A)
 in_angles g = rule.angles (commas (at_sign 62) g)

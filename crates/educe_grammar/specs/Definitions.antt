@@ -26,19 +26,19 @@ use Rattle.educe_grammar.specs.Attributes.{attributes, span_of}
 
 -- ---- visibility
 
--- a path of names
+-- A path of names.
 unfoldable pub mod_path : Rule (Unit {0})
 mod_path = unit (simple_path terminal.PathSegment)
 
--- how a program sees that a scope comes, and not a type in brackets
+-- How a program sees that a scope comes, and not a type in brackets.
 abbrev pub at_scope : Look
 at_scope = (start Round ∷ one terminal.Scope ∷ stop Round ∷ []) ∷ (start Round ∷ one (terminal.Word keyword.In) ∷ []) ∷ []
 
--- `crate`, `self`, `super` or `in` and a path
+-- `crate`, `self`, `super` or `in` and a path.
 unfoldable pub scope : Rule (Unit {0})
 scope = either (at_word keyword.In) (unit (both (word keyword.In) mod_path)) (unit (token terminal.Scope))
 
--- a visibility, or nothing
+-- A visibility, or nothing.
 unfoldable pub visibility : Rule (Unit {0})
 visibility = unit (flag (at_word keyword.Pub) (both (word keyword.Pub) (flag at_scope (nest Round scope))))
 
@@ -50,14 +50,14 @@ named_field_of p = record { attrs = p.0.0; ident = Some p.0.1; ty = p.0.2; span 
 abbrev pub flat : List Attribute × (Ident × Ty) → List Attribute × Ident × Ty
 flat p = (p.0, p.1.0, p.1.1)
 
--- a field with a name
+-- A field with a name.
 unfoldable pub named_field : Rule Field
 named_field = made named_field_of (sliced (made flat (both attributes (skipping visibility (both name (behind_colon (part types)))))))
 
 abbrev pub tuple_field_of : (List Attribute × Ty) × Tokens → Field
 tuple_field_of p = record { attrs = p.0.0; ident = None; ty = p.0.1; span = span_of p.1 }
 
--- a field without a name
+-- A field without a name.
 unfoldable pub tuple_field : Rule Field
 tuple_field = made tuple_field_of (sliced (both attributes (skipping visibility (part types))))
 
@@ -84,13 +84,13 @@ variant_fields = either (at (start Curly)) named_fields (either (at (start Round
 abbrev pub variant_of : (List Attribute × (Ident × (FieldShape × Option Expr))) × Tokens → Variant
 variant_of p = record { attrs = p.0.0; ident = p.0.1.0; fields = p.0.1.1.0; discriminant = p.0.1.1.1; span = span_of p.1 }
 
--- a variant
+-- A variant.
 unfoldable pub variant : Rule Variant
 variant = made variant_of (sliced (both attributes (both name (both variant_fields (optional (at_sign 61) (skipping (sign 61) (part exprs)))))))
 
 -- ---- definitions
 
--- what is defined behind the name and the parameters
+-- What is defined behind the name and the parameters.
 abbrev pub Body : Type 0
 Body = Shape × List WherePredicate
 
@@ -100,7 +100,7 @@ struct_body_of p = (Struct p.0, p.1)
 abbrev pub swapped : List WherePredicate × FieldShape → FieldShape × List WherePredicate
 swapped p = (p.1, p.0)
 
--- the body of a struct
+-- The body of a struct.
 unfoldable pub struct_body : Rule Body
 struct_body = made struct_body_of
     (either (at (start Round)) (leaving (both tuple_fields where_clause) (sign 59))
@@ -109,11 +109,11 @@ struct_body = made struct_body_of
 abbrev pub enum_body_of : List WherePredicate × List Variant → Body
 enum_body_of p = (Enum p.1, p.0)
 
--- the body of an enum
+-- The body of an enum.
 unfoldable pub enum_body : Rule Body
 enum_body = made enum_body_of (both where_clause (in_curly variant))
 
--- a name, parameters and the body
+-- A name, parameters and the body.
 abbrev pub Item : Type 0
 Item = Ident × (List GenericParam × Body)
 
@@ -132,6 +132,6 @@ definition_of p = record {
   tokens = p.1;
 }
 
--- a definition
+-- A definition.
 unfoldable pub definition : Rule DeriveInput
 definition = made definition_of (sliced (both attributes (skipping visibility (either (at_word keyword.Enum) enum_item struct_item))))

@@ -6,11 +6,11 @@ use Rattle.educe_tokens.specs.TokenKind.{TokenKind}
 use Rattle.educe_tokens.specs.TokenKind.TheVariants as kind
 use Rattle.educe_grammar.specs.Steps.{Tokens}
 
--- `< > & * - ! + / % ^ | = .`
+-- `< > & * - ! + / % ^ | = .`.
 abbrev pub opening_signs : List ℕ
 opening_signs = 60 ∷ 62 ∷ 38 ∷ 42 ∷ 45 ∷ 33 ∷ 43 ∷ 47 ∷ 37 ∷ 94 ∷ 124 ∷ 61 ∷ 46 ∷ []
 
--- an opening bracket, the word `as` or `dyn`, or one of these signs
+-- An opening bracket, the word `as` or `dyn`, or one of these signs.
 abbrev pub is_opener : TokenKind → List ℕ → Bool
 is_opener (kind.Start b) text = true
 is_opener (kind.Punct c joint) text = list_any (λ d. d == c) opening_signs
@@ -20,7 +20,7 @@ is_opener kind.Lifetime text = false
 is_opener (kind.Literal l) text = false
 is_opener kind.Doc text = false
 
--- the closing brackets whose opening ones stand further to the left, with one more token on the left
+-- The closing brackets whose opening ones stand further to the left, with one more token on the left.
 abbrev pub pending : TokenKind → ℕ → ℕ
 pending (kind.Stop b) n = n + 1
 pending (kind.Start b) n = n - 1
@@ -30,7 +30,7 @@ pending kind.Lifetime n = n
 pending (kind.Literal l) n = n
 pending kind.Doc n = n
 
--- how many brackets are closed in the list that were not opened in it
+-- How many brackets are closed in the list that were not opened in it.
 unfoldable pub closed : Tokens → ℕ
 closed [] = 0
 closed (t ∷ ts) = pending t.kind (closed ts)

@@ -35,18 +35,18 @@ use Rattle.educe_grammar.specs.Types.{path_of, segment_of, angle_args, has_no_ar
 
 -- ---- trees of tokens
 
--- how a token tree begins
+-- How a token tree begins.
 abbrev pub at_tree : Look
 at_tree = (one terminal.Leaf ∷ []) ∷ (start Round ∷ []) ∷ (start Square ∷ []) ∷ (start Curly ∷ []) ∷ []
 
 unfoldable pub some_trees : Rule (Unit {0})
 some_trees = unit (many at_tree (part trees))
 
--- a bracket pair around trees
+-- A bracket pair around trees.
 unfoldable pub group : Rule (Unit {0})
 group = either (at (start Round)) (nest Round some_trees) (either (at (start Square)) (nest Square some_trees) (nest Curly some_trees))
 
--- a token or a bracket pair
+-- A token or a bracket pair.
 unfoldable pub tree : Rule (Unit {0})
 tree = either (at (one terminal.Leaf)) (unit (token terminal.Leaf)) group
 
@@ -55,11 +55,11 @@ tree = either (at (one terminal.Leaf)) (unit (token terminal.Leaf)) group
 abbrev pub segment_with : Ident × Option (List AngleArg) → Segment
 segment_with p = elim p.1 [ None ↦ segment_of p.0 args.None | Some found ↦ segment_of p.0 (args.Angle found) ]
 
--- `::<`
+-- `::<`.
 abbrev pub at_turbofish : Look
 at_turbofish = (pair 58 58 ∷ lone 60 61 ∷ []) ∷ []
 
--- a segment of a path in an expression
+-- A segment of a path in an expression.
 unfoldable pub expr_segment : Rule Segment
 expr_segment = made segment_with (both segment_name (optional at_turbofish (skipping colons angle_args)))
 
@@ -75,22 +75,22 @@ qualified_expr p = (Some p.0.0, qualified_path p.0.1 p.1)
 abbrev pub expr_path_of : (Option Ty × Path) × Written → ExprPath
 expr_path_of p = record { self_type = p.0.0; path = p.0.1; written = p.1 }
 
--- a path behind its type, as in `<T as A>::b`
+-- A path behind its type, as in `<T as A>::b`.
 unfoldable pub qualified_expr_path : Rule (Option Ty × Path)
 qualified_expr_path = made qualified_expr (both qualified_self (skipping colons (rule.path expr_segment)))
 
--- a path with no type before it
+-- A path with no type before it.
 unfoldable pub local_expr_path : Rule (Option Ty × Path)
 local_expr_path = checked is_local_path (made local_path (both (flag at_colons colons) (rule.path expr_segment)))
 
 unfoldable pub any_expr_path : Rule (Option Ty × Path)
 any_expr_path = either at_angle qualified_expr_path local_expr_path
 
--- a path in an expression
+-- A path in an expression.
 unfoldable pub expr_path : Rule ExprPath
 expr_path = made expr_path_of (written any_expr_path)
 
--- no segment has arguments
+-- No segment has arguments.
 abbrev pub no_segment_args : List Segment → Bool
 no_segment_args found = list_all (λ s. has_no_args (out-Segment s).args) found
 
@@ -98,17 +98,17 @@ abbrev pub has_no_self : Option Ty → Bool
 has_no_self None = true
 has_no_self (Some t) = false
 
--- a path without arguments
+-- A path without arguments.
 abbrev pub is_mod_path : ExprPath → Bool
 is_mod_path p = has_no_self p.self_type && no_segment_args (out-Path p.path).segments
 
 -- ---- what stands behind a path
 
--- the word `self`
+-- The word `self`.
 abbrev pub is_self : Token → Bool
 is_self t = bytes_eq t.spelling (codes "self")
 
--- each `self` stands before `::`
+-- Each `self` stands before `::`.
 unfoldable pub self_begins_paths : Tokens → Bool
 self_begins_paths [] = true
 self_begins_paths (t ∷ ts) = (not (is_self t) || begins_pair 58 58 ts) && self_begins_paths ts
@@ -116,36 +116,36 @@ self_begins_paths (t ∷ ts) = (not (is_self t) || begins_pair 58 58 ts) && self
 abbrev pub is_macro_group : Unit {0} × Tokens → Bool
 is_macro_group p = self_begins_paths p.1
 
--- what a macro is called with
+-- What a macro is called with.
 unfoldable pub macro_group : Rule (Unit {0})
 macro_group = unit (checked is_macro_group (sliced group))
 
--- how a program sees that a field comes with a value
+-- How a program sees that a field comes with a value.
 abbrev pub at_value : Look
 at_value = (one terminal.NameOrIndex ∷ lone 58 58 ∷ []) ∷ []
 
--- the value of a field, or its name alone
+-- The value of a field, or its name alone.
 unfoldable pub init : Rule (Unit {0})
 init =
     either at_value (unit (both (token terminal.NameOrIndex) (behind_colon (part exprs))))
     (unit (token terminal.Name))
 
--- what stands behind the fields
+-- What stands behind the fields.
 abbrev pub behind_fields : Look
 behind_fields = (stop Curly ∷ []) ∷ (pair 46 46 ∷ []) ∷ []
 
--- the fields of a struct expression
+-- The fields of a struct expression.
 unfoldable pub inits : Rule (Unit {0})
 inits = unit (both (commas behind_fields init) (flag (at (pair 46 46)) (both (rule.operator 46 46) (part exprs))))
 
--- nothing, the fields of a struct, or the call of a macro
+-- Nothing, the fields of a struct, or the call of a macro.
 unfoldable pub path_tail : Rule Tail
 path_tail =
     either (at (start Curly)) (made (λ _. tail.Fields) (nest Curly inits))
     (either (at (lone 33 61)) (made (λ _. tail.Call) (rule.lone 33 61 macro_group))
     (empty tail.Nothing))
 
--- the path of a macro has no arguments
+-- The path of a macro has no arguments.
 abbrev pub fits_tail : ExprPath × Tail → Bool
 fits_tail p = elim p.1 [ tail.Nothing ↦ true | tail.Fields ↦ true | tail.Call ↦ is_mod_path p.0 ]
 
@@ -156,7 +156,7 @@ tail_form tail.Call = form.Other
 
 -- ---- operands
 
--- an operand without prefixes and postfixes
+-- An operand without prefixes and postfixes.
 unfoldable pub primary : Rule ExprForm
 primary =
     either (at (one terminal.Literal)) (made (λ _. form.Literal) (token terminal.Literal))
@@ -164,7 +164,7 @@ primary =
     (either (at (start Round)) (made (λ _. form.Other) (in_round (part exprs)))
     (made (λ p. tail_form p.1) (checked fits_tail (both expr_path path_tail)))))
 
--- a field or a method behind `.`
+-- A field or a method behind `.`.
 unfoldable pub member : Rule (Unit {0})
 member =
     either (at (one terminal.Name)) (unit (both (token terminal.Name) (flag at_colons (skipping colons angle_args))))
@@ -173,7 +173,7 @@ member =
 abbrev pub at_postfix : Look
 at_postfix = (start Round ∷ []) ∷ (start Square ∷ []) ∷ (lone 46 46 ∷ []) ∷ []
 
--- what is read behind an operand
+-- What is read behind an operand.
 unfoldable pub postfix : Rule (Unit {0})
 postfix =
     either (at (start Round)) (unit (in_round (part exprs)))
@@ -186,13 +186,13 @@ at_prefix = (one terminal.PrefixSign ∷ []) ∷ (one (terminal.Sign 38) ∷ [])
 abbrev pub is_minus : Found (accepts terminal.PrefixSign) → Bool
 is_minus found = is_sign 45 found.token.kind
 
--- a prefix, and whether it is `-`
+-- A prefix, and whether it is `-`.
 unfoldable pub prefix : Rule Bool
 prefix =
     either (at_sign 38) (made (λ _. false) (both (sign 38) (flag (at_word keyword.Mut) (word keyword.Mut))))
     (made is_minus (token terminal.PrefixSign))
 
--- one literal behind one `-`
+-- One literal behind one `-`.
 abbrev pub negated_form : Bool → ExprForm → ExprForm
 negated_form true form.Literal = form.Negated
 negated_form true found = form.Other
@@ -203,20 +203,20 @@ unary_form [] found [] = found
 unary_form (minus ∷ []) found [] = negated_form minus found
 unary_form prefixes found postfixes = form.Other
 
--- an operand
+-- An operand.
 unfoldable pub unary : Rule ExprForm
 unary = made (λ p. unary_form p.0 p.1.0 p.1.1) (both (chain at_prefix prefix) (both primary (chain at_postfix postfix)))
 
 -- ---- operators
 
--- how a link begins: with `as` or an operator
+-- How a link begins: with `as` or an operator.
 abbrev pub at_link : Look
 at_link =
     (one (terminal.Word keyword.As) ∷ []) ∷ (one (terminal.Sign 43) ∷ []) ∷ (one (terminal.Sign 45) ∷ []) ∷ (one (terminal.Sign 42) ∷ [])
     ∷ (one (terminal.Sign 47) ∷ []) ∷ (one (terminal.Sign 37) ∷ []) ∷ (one (terminal.Sign 94) ∷ []) ∷ (one (terminal.Sign 38) ∷ [])
     ∷ (one (terminal.Sign 124) ∷ []) ∷ (one (terminal.Sign 60) ∷ []) ∷ (one (terminal.Sign 62) ∷ []) ∷ (pair 61 61 ∷ []) ∷ (pair 33 61 ∷ []) ∷ []
 
--- `as Plain`, or an operator and its second operand
+-- `as Plain`, or an operator and its second operand.
 unfoldable pub link : Rule Link
 link =
     either (at_word keyword.As) (made (λ t. Cast t.1) (skipping (word keyword.As) plain_type))
@@ -232,7 +232,7 @@ compares_once may (Binary Less ∷ more) = may && compares_once false more
 compares_once may (Binary ShiftsLeft ∷ more) = compares_once may more
 compares_once may (Binary Calculates ∷ more) = compares_once may more
 
--- the operator begins with `<`, and isn't `<=`
+-- The operator begins with `<`, and isn't `<=`.
 abbrev pub begins_with_less : Link → Bool
 begins_with_less (Cast ending) = false
 begins_with_less (Binary Joins) = false
@@ -245,7 +245,7 @@ abbrev pub may_stand_before : Link → Link → Bool
 may_stand_before (Cast Name) next = not (begins_with_less next)
 may_stand_before first next = true
 
--- behind a cast to a type that ends with a name stands neither `<` nor `<<`
+-- Behind a cast to a type that ends with a name stands neither `<` nor `<<`.
 unfoldable pub casts_end : List Link → Bool
 casts_end [] = true
 casts_end (l ∷ []) = true
@@ -260,10 +260,10 @@ linked_form p = elim p.1 [ [] ↦ p.0 | _ ∷ _ ↦ form.Other ]
 abbrev pub expr_of : ExprForm × Written → Expr
 expr_of p = record { form = p.0; written = p.1 }
 
--- operands with links between
+-- Operands with links between.
 unfoldable pub operation : Rule ExprForm
 operation = made linked_form (both unary (checked links_fit (chain at_link link)))
 
--- an expression
+-- An expression.
 unfoldable pub expression : Rule Expr
 expression = made expr_of (written operation)

@@ -7,29 +7,29 @@ use Rattle.educe_tree.specs.declared.derive.DeriveInput.{DeriveInput}
 use Rattle.educe_tree.specs.declared.derive.Shape.{Shape}
 use Rattle.educe_tree.specs.declared.derive.Shape.TheVariants.{Struct, Enum}
 
--- the variants of an enum; a struct has none
+-- The variants of an enum; a struct has none.
 abbrev pub shape_variants : Shape → List Variant
 shape_variants (Struct shape) = []
 shape_variants (Enum variants) = variants
 
--- the fields of a struct, or those of all variants of an enum, one behind the other
+-- The fields of a struct, or those of all variants of an enum, one behind the other.
 abbrev pub shape_fields : Shape → List Field
 shape_fields (Struct shape) = shape.fields
 shape_fields (Enum variants) = flat_map (λ v. v.fields.fields) variants
 
--- the variants of a definition
+-- The variants of a definition.
 abbrev pub variants_of : DeriveInput → List Variant
 variants_of definition = shape_variants definition.shape
 
--- its fields
+-- Its fields.
 abbrev pub all_fields : DeriveInput → List Field
 all_fields definition = shape_fields definition.shape
 
--- the definition has at most so many of each
+-- The definition has at most so many of each.
 pub record IsFew (count : ℕ) (definition : DeriveInput) : Type 0 where
-  -- generic parameters
+  -- Generic parameters.
   pub params : length definition.generics.params ≤ count
-  -- variants
+  -- Variants.
   pub variants : length (variants_of definition) ≤ count
-  -- fields, of all variants together
+  -- Fields, of all variants together.
   pub fields : length (all_fields definition) ≤ count

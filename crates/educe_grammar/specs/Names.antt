@@ -16,7 +16,7 @@ use Rattle.educe_grammar.specs.Rules as rule
 use Rattle.educe_grammar.specs.Rules.{Rule, token, both, made}
 use Rattle.educe_grammar.specs.Combining.{at_colons, unit, flag, colons}
 
--- a token of a set of words alone is an identifier
+-- A token of a set of words alone is an identifier.
 pub word_kind : (words : Words) (k : TokenKind) (text : List ℕ) → token_in (only_words words) k text ≡ true → k ≡ kind.Ident
 word_kind words kind.Ident text h = refl
 word_kind words kind.Lifetime text h = absurd (passes _ h)
@@ -26,7 +26,7 @@ word_kind words (kind.Start b) text h = absurd (passes _ h)
 word_kind words (kind.Stop b) text h = absurd (passes _ h)
 word_kind words kind.Doc text h = absurd (passes _ h)
 
--- a token of the set of lifetimes is one
+-- A token of the set of lifetimes is one.
 pub lifetime_kind : (k : TokenKind) (text : List ℕ) → token_in (set_of terminal.Lifetime) k text ≡ true → k ≡ kind.Lifetime
 lifetime_kind kind.Ident text h = absurd (passes _ h)
 lifetime_kind kind.Lifetime text h = refl
@@ -36,11 +36,11 @@ lifetime_kind (kind.Start b) text h = absurd (passes _ h)
 lifetime_kind (kind.Stop b) text h = absurd (passes _ h)
 lifetime_kind kind.Doc text h = absurd (passes _ h)
 
--- the identifier that a token of a set of words is
+-- The identifier that a token of a set of words is.
 abbrev pub ident_in : (words : Words) (t : Token) → IsTrue (token_in (only_words words) t.kind t.spelling) → Ident
 ident_in words t h = record { text = t.spelling; span = t.span; spelled = subst (λ k. IsTrue (spells k t.spelling)) (word_kind words t.kind t.spelling h) t.spelled }
 
--- what is accepted is in the set that is asked for
+-- What is accepted is in the set that is asked for.
 pub accepted : (asked : Terminal) (t : Token) → IsTrue (accepts asked t) → IsTrue (token_in (set_of asked) t.kind t.spelling)
 unfolding accepts
 accepted asked t passes = passes
@@ -59,22 +59,22 @@ lifetime_of found = record {
       subst (λ k. IsTrue (spells k found.token.spelling)) (lifetime_kind found.token.kind found.token.spelling (accepted terminal.Lifetime found.token found.passes)) found.token.spelled;
 }
 
--- a name (Rust Reference, Identifiers)
+-- A name (Rust Reference, Identifiers).
 unfoldable pub name : Rule Ident
 name = made name_of (token terminal.Name)
 
--- the name of a segment: also `self`, `Self`, `super` and `crate` (Rust Reference, Paths)
+-- The name of a segment: also `self`, `Self`, `super` and `crate` (Rust Reference, Paths).
 unfoldable pub segment_name : Rule Ident
 segment_name = made segment_name_of (token terminal.PathSegment)
 
--- a lifetime (Rust Reference, Lifetimes and loop labels)
+-- A lifetime (Rust Reference, Lifetimes and loop labels).
 unfoldable pub lifetime : Rule Lifetime
 lifetime = made lifetime_of (token terminal.Lifetime)
 
--- a token of which nothing is kept
+-- A token of which nothing is kept.
 unfoldable pub mere_token : Terminal → Rule (Unit {0})
 mere_token asked = unit (token asked)
 
--- such tokens with `::` between, and maybe before the first (Rust Reference, Simple paths)
+-- Such tokens with `::` between, and maybe before the first (Rust Reference, Simple paths).
 unfoldable pub simple_path : Terminal → Rule (Bool × List (Unit {0}))
 simple_path asked = both (flag at_colons colons) (rule.path (mere_token asked))

@@ -5,15 +5,15 @@ use Rattle.educe_grammar.specs.Reads.{rule_of}
 use Rattle.educe_grammar.specs.Rules.{Rule}
 use Rattle.educe_grammar.specs.Noting.{Noter, Noters, run}
 
--- the parts whose budget is below the first number
+-- The parts whose budget is below the first number.
 unfoldable pub readers_below : ℕ → Noters
 readers_below zero budget p = λ s. Err (Syntax (length s.cursor))
 readers_below (suc n) budget p = run (readers_below n) budget (rule_of p)
 
--- the parts, each with this budget
+-- The parts, each with this budget.
 abbrev pub readers : Noters
 readers budget = readers_below (suc budget) budget
 
--- the program of the rule, with this budget
+-- The program of the rule, with this budget.
 abbrev pub read : ℕ → {A : Type 0} → Rule A → Noter A
 read budget g = run readers budget g

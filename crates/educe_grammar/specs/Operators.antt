@@ -6,7 +6,7 @@ use Rattle.educe_grammar.specs.Steps.{Tokens}
 use Rattle.educe_grammar.specs.declared.operator.Operator.{Operator}
 use Rattle.educe_grammar.specs.declared.operator.Operator.TheVariants.{Joins, Compares, Less, ShiftsLeft, Calculates}
 
--- the operator of two puncts
+-- The operator of two puncts.
 abbrev pub pair_of : ℕ → ℕ → Option Operator
 pair_of c d =
     if (c == 38) && (d == 38) then Some Joins
@@ -19,7 +19,7 @@ pair_of c d =
     else if (c == 62) && (d == 62) then Some Calculates
     else None
 
--- the operator of one punct
+-- The operator of one punct.
 abbrev pub single_of : ℕ → Option Operator
 single_of c =
     if c == 60 then Some Less
@@ -34,12 +34,12 @@ single_of c =
     else if c == 124 then Some Calculates
     else None
 
--- the operator of two tokens, the first joint with the second
+-- The operator of two tokens, the first joint with the second.
 abbrev pub pair_operator : TokenKind → TokenKind → Option Operator
 pair_operator (kind.Punct c true) (kind.Punct d joint) = pair_of c d
 pair_operator first second = None
 
--- the operator of one token
+-- The operator of one token.
 abbrev pub single_operator : TokenKind → Option Operator
 single_operator (kind.Punct c joint) = single_of c
 single_operator first = None
@@ -52,7 +52,7 @@ abbrev pub longer_of : Option Operator → Option Operator → Option (Operator 
 longer_of (Some o) single = Some (o, 2)
 longer_of None single = of_length 1 single
 
--- the longest operator that the tokens begin with, and how many tokens it takes
+-- The longest operator that the tokens begin with, and how many tokens it takes.
 unfoldable pub operator_at : Tokens → Option (Operator × ℕ)
 operator_at [] = None
 operator_at (t ∷ []) = of_length 1 (single_operator t.kind)

@@ -13,21 +13,21 @@ use Rattle.educe_grammar.specs.Depth.{counted}
 use Rattle.educe_grammar.specs.Reads.{Reads, read}
 use Rattle.educe_grammar.specs.Rules.{Rule}
 
--- how deep brackets, angle lists, `&`, `*`, `dyn` and `->` may nest
+-- How deep brackets, angle lists, `&`, `*`, `dyn` and `->` may nest.
 abbrev pub depth_limit : ℕ
 depth_limit = NESTING
 
--- the value of the whole list, within the limits
+-- The value of the whole list, within the limits.
 abbrev pub IsWhole : {A : Type 0} → Rule A → Tokens → A → Type 0
 IsWhole g tokens x = Reads depth_limit g tokens x
 
--- the whole list is nothing that the rule allows, within the limits
+-- The whole list is nothing that the rule allows, within the limits.
 abbrev pub HasNoReading : {A : Type 0} → Rule A → Tokens → Type 0
 HasNoReading {A = A} g tokens = (x : A) → IsWhole g tokens x → ⊥
 
 -- ---- places
 
--- the end of the last token, and 0 where there is none
+-- The end of the last token, and 0 where there is none.
 abbrev pub end_of : Tokens → ℕ
 end_of tokens = end_of_last (slice_get tokens (length tokens - 1))
   where
@@ -35,11 +35,11 @@ end_of tokens = end_of_last (slice_get tokens (length tokens - 1))
     end_of_last None = 0
     end_of_last (Some t) = t.span.end
 
--- nothing, at the end of the tokens
+-- Nothing, at the end of the tokens.
 abbrev pub end_place : Tokens → Span
 end_place tokens = record { start = end_of tokens; end = end_of tokens }
 
--- the place of the token at which so many are left; where none is left, the end
+-- The place of the token at which so many are left; where none is left, the end.
 abbrev pub place_at : Tokens → ℕ → Span
 place_at tokens left = place_of (slice_get tokens (length tokens - left))
   where
@@ -49,13 +49,13 @@ place_at tokens left = place_of (slice_get tokens (length tokens - left))
 
 -- ---- rejections
 
--- where the program of the rule stops on a list that it doesn't read to its end
+-- Where the program of the rule stops on a list that it doesn't read to its end.
 abbrev pub stop_of : {A : Type 0} → Outcome A → Option ParseError
 stop_of (Ok (x, [])) = None
 stop_of (Ok (x, t ∷ rest)) = Some (SyntaxAt (length (t ∷ rest)))
 stop_of (Err e) = Some e
 
--- the rejection of the tokens where a program stops so
+-- The rejection of the tokens where a program stops so.
 abbrev pub refusal_of : Tokens → ParseError → EduceError
 refusal_of tokens Memory = placeless Alloc
 refusal_of tokens (SyntaxAt left) = syntax_at (place_at tokens left)
@@ -70,7 +70,7 @@ pub data IsParseCause {A : Type 0} (g : Rule A) (tokens : Tokens) : EduceError �
       → tokens ≡ front ++ t ∷ rest → depth_limit < counted (front ++ t ∷ []) → IsParseCause g tokens (record { kind = TooDeep; span = t.span; words = [] })
   memory : IsParseCause g tokens (placeless Alloc)
 
--- the one value of the whole list, unless memory fails
+-- The one value of the whole list, unless memory fails.
 abbrev pub IsOnly : {A : Type 0} → A → Result A EduceError → Type 0
 IsOnly x (Ok found) = found ≡ x
 IsOnly x (Err e) = e.kind ≡ Alloc

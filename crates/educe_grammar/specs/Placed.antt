@@ -16,7 +16,7 @@ use Rattle.educe_grammar.specs.Naming.{Named, scopes}
 
 -- ---- tokens
 
--- a token of the list stands at this place
+-- A token of the list stands at this place.
 pub record HasPlace (tokens : Tokens) (place : Span) : Type 0 where
   pub front : Tokens
   pub found : Token
@@ -24,17 +24,17 @@ pub record HasPlace (tokens : Tokens) (place : Span) : Type 0 where
   pub is : tokens ≡ front ++ found ∷ rest
   pub at_place : found.span ≡ place
 
--- the place is a token's, or the end of the tokens
+-- The place is a token's, or the end of the tokens.
 abbrev pub IsPlace : Tokens → Span → Type 0
 IsPlace tokens place = HasPlace tokens place ⊎ (place ≡ end_place tokens)
 
 -- ---- what is read
 
--- each token of the second list stands where a token of the first does
+-- Each token of the second list stands where a token of the first does.
 abbrev pub AreWithin : Tokens → Tokens → Type 0
 AreWithin tokens part = AllByRecursion (λ (t : Token). HasPlace tokens t.span) part
 
--- the span starts where a token of the list starts, and ends where a token of the list ends
+-- The span starts where a token of the list starts, and ends where a token of the list ends.
 pub record IsSpan (tokens : Tokens) (span : Span) : Type 0 where
   pub first : Span
   pub last : Span
@@ -42,7 +42,7 @@ pub record IsSpan (tokens : Tokens) (span : Span) : Type 0 where
   pub last_stands : HasPlace tokens last
   pub is : span ≡ record { start = first.start; end = last.end }
 
--- the meta stands among the tokens: its path, what its brackets hold or its value, and its span
+-- The meta stands among the tokens: its path, what its brackets hold or its value, and its span.
 abbrev pub IsMetaPlaced : Tokens → Meta → Type 0
 IsMetaPlaced tokens (said.Word path) = AreWithin tokens path.written.tokens
 IsMetaPlaced tokens (said.List path group span) = AreWithin tokens path.written.tokens × AreWithin tokens group.tokens × IsSpan tokens span
@@ -50,33 +50,33 @@ IsMetaPlaced tokens (said.NameValue path value span) = AreWithin tokens path.wri
 IsMetaPlaced tokens (said.Doc t) = HasPlace tokens t.span
 IsMetaPlaced tokens (said.Unread path value span) = AreWithin tokens path.written.tokens × AreWithin tokens value.tokens × IsSpan tokens span
 
--- each of the metas does
+-- Each of the metas does.
 abbrev pub AreMetasPlaced : Tokens → List Meta → Type 0
 AreMetasPlaced tokens found = AllByRecursion (IsMetaPlaced tokens) found
 
--- what each attribute says does
+-- What each attribute says does.
 abbrev pub AreAttributesPlaced : Tokens → List Attribute → Type 0
 AreAttributesPlaced tokens attrs = AllByRecursion (λ (a : Attribute). IsMetaPlaced tokens a.meta) attrs
 
--- the field stands among the tokens: its span, its name and what its attributes say
+-- The field stands among the tokens: its span, its name and what its attributes say.
 pub record IsFieldPlaced (tokens : Tokens) (field : Field) : Type 0 where
   pub span : IsSpan tokens field.span
   pub name : IfSome field.ident (λ ident. HasPlace tokens ident.span)
   pub attrs : AreAttributesPlaced tokens field.attrs
 
--- each of the fields does
+-- Each of the fields does.
 abbrev pub AreFieldsPlaced : Tokens → List Field → Type 0
 AreFieldsPlaced tokens fields = AllByRecursion (IsFieldPlaced tokens) fields
 
--- the variant stands among the tokens: its span, its name, what its attributes say, and its fields
+-- The variant stands among the tokens: its span, its name, what its attributes say, and its fields.
 pub record IsVariantPlaced (tokens : Tokens) (variant : Variant) : Type 0 where
   pub span : IsSpan tokens variant.span
   pub name : HasPlace tokens variant.ident.span
   pub attrs : AreAttributesPlaced tokens variant.attrs
   pub fields : AreFieldsPlaced tokens variant.fields.fields
 
--- the definition stands among the tokens: its name, each name of its scopes, what its attributes say, its variants, and its
--- fields, those of all variants together
+-- The definition stands among the tokens: its name, each name of its scopes, what its attributes say, its variants, and its
+-- fields, those of all variants together.
 pub record IsDefinitionPlaced (tokens : Tokens) (definition : DeriveInput) : Type 0 where
   pub name : HasPlace tokens definition.ident.span
   pub names : AllByRecursion (AllByRecursion (λ (n : Named). HasPlace tokens n.span)) (scopes definition)

@@ -9,38 +9,38 @@ use Rattle.educe_grammar.specs.Ahead.{sees, opens, closes, begins_pair, begins_l
 use Rattle.educe_grammar.specs.Operators.{operator_at}
 use Rattle.educe_grammar.specs.Rules.{Rule, token, documentation, empty, both, made, checked, either, prefer, operator, lone, binary, nest, angles, under, arrow, list, many, chain, path, sliced, written, part, Part, TreeOf}
 
--- which tokens a thing is
+-- Which tokens a thing is.
 abbrev pub Grammar : Type 0 → Type 1
 Grammar A = Tokens → A → Type 0
 
--- the parts, with each budget
+-- The parts, with each budget.
 abbrev pub Parts : Type 1
 Parts = ℕ → (p : Part) → Grammar (TreeOf p)
 
--- how many links a chain has at most
+-- How many links a chain has at most.
 abbrev pub chain_limit : ℕ
 chain_limit = NESTING
 
 module _ {A : Type 0} (Item : Grammar A) where
-  -- items with separators between, and maybe one after the last
+  -- Items with separators between, and maybe one after the last.
   pub data Listed (separates : Token → Bool) : Tokens → List A → Type 0 where
     none : Listed separates [] []
     last : {x : A} (tokens : Tokens) → Item tokens x → Listed separates tokens (x ∷ [])
     more : {x : A} {xs : List A} (front rest : Tokens) (separator : Token) → Item front x → IsTrue (separates separator) → Listed separates rest xs
         → Listed separates (front ++ separator ∷ rest) (x ∷ xs)
 
-  -- items one behind the other
+  -- Items one behind the other.
   pub data Repeated : Tokens → List A → Type 0 where
     none : Repeated [] []
     more : {x : A} {xs : List A} (front rest : Tokens) → Item front x → Repeated rest xs → Repeated (front ++ rest) (x ∷ xs)
 
-  -- at least one item, with `::` between
+  -- At least one item, with `::` between.
   pub data Linked : Tokens → List A → Type 0 where
     last : {x : A} (tokens : Tokens) → Item tokens x → Linked tokens (x ∷ [])
     more : {x : A} {xs : List A} (front rest : Tokens) (first second : Token) → Item front x → begins_pair 58 58 (first ∷ second ∷ rest) ≡ true → Linked rest xs
         → Linked (front ++ first ∷ second ∷ rest) (x ∷ xs)
 
--- the rule's tokens stand between two tokens, with one less of the budget
+-- The rule's tokens stand between two tokens, with one less of the budget.
 pub record Between {A : Type 0} (Inside : Grammar A) (budget : ℕ) (opening closing : Token → Bool) (tokens : Tokens) (x : A) : Type 0 where
   pub first : Token
   pub inside : Tokens
@@ -51,7 +51,7 @@ pub record Between {A : Type 0} (Inside : Grammar A) (budget : ℕ) (opening clo
   pub closes : IsTrue (closing last)
   pub reads : Inside inside x
 
--- the rule's tokens stand behind a token, with one less of the budget
+-- The rule's tokens stand behind a token, with one less of the budget.
 pub record Under {A : Type 0} (Inside : Grammar A) (budget : ℕ) (opening : Token → Bool) (tokens : Tokens) (x : A) : Type 0 where
   pub first : Token
   pub inside : Tokens

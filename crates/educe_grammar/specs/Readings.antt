@@ -21,43 +21,43 @@ use Rattle.educe_grammar.specs.Types.{any_type}
 
 -- ---- names
 
--- a name, which is no keyword
+-- A name, which is no keyword.
 abbrev pub IsName : List ℕ → Type 0
 IsName text = is_name kind.Ident text ≡ true
 
--- the parameter's name is one
+-- The parameter's name is one.
 abbrev pub IsNamed : GenericParam → Type 0
 IsNamed (param.Lifetime p) = Unit {0}
 IsNamed (param.TypeParam p) = IsName p.ident.text
 IsNamed (param.Const p) = IsName p.ident.text
 
--- the definition's name is one, and so are those of its parameters
+-- The definition's name is one, and so are those of its parameters.
 abbrev pub AreNamed : DeriveInput → Type 0
 AreNamed d = IsName d.ident.text × AllByRecursion IsNamed d.generics.params
 
 -- ---- readings
 
--- the type is the reading of its tokens, within the limits
+-- The type is the reading of its tokens, within the limits.
 abbrev pub IsReadType : Ty → Type 0
 IsReadType ty = IsWhole any_type (out-Ty ty).written.tokens ty
 
--- the path is the reading of its tokens
+-- The path is the reading of its tokens.
 abbrev pub IsReadPath : ExprPath → Type 0
 IsReadPath path = IsWhole expr_path path.written.tokens path
 
--- the parameter, without its default, is the reading of its tokens
+-- The parameter, without its default, is the reading of its tokens.
 abbrev pub IsReadParam : GenericParam → Type 0
 IsReadParam p = IsWhole generic_param (written_of p).tokens p
 
--- the predicate is the reading of its tokens
+-- The predicate is the reading of its tokens.
 abbrev pub IsReadPredicate : WherePredicate → Type 0
 IsReadPredicate p = IsWhole predicate p.written.tokens p
 
--- each parameter and each predicate is the reading of its tokens
+-- Each parameter and each predicate is the reading of its tokens.
 abbrev pub AreReadGenerics : Generics → Type 0
 AreReadGenerics g = AllByRecursion IsReadParam g.params × AllByRecursion IsReadPredicate g.predicates
 
--- the field's type is the reading of its tokens
+-- The field's type is the reading of its tokens.
 abbrev pub IsReadField : Field → Type 0
 IsReadField f = IsReadType f.ty
 

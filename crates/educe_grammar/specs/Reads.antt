@@ -7,27 +7,27 @@ use Rattle.educe_grammar.specs.Rules.{Rule, Part, TreeOf, types, plains, exprs, 
 use Rattle.educe_grammar.specs.Types.{any_type, plain_type}
 use Rattle.educe_grammar.specs.Expressions.{expression, tree}
 
--- the rule of each part
+-- The rule of each part.
 abbrev pub rule_of : (p : Part) → Rule (TreeOf p)
 rule_of types = any_type
 rule_of plains = plain_type
 rule_of exprs = expression
 rule_of trees = tree
 
--- the parts whose budget is below the first number; the parts inside of one have less budget than it
+-- The parts whose budget is below the first number; the parts inside of one have less budget than it.
 unfoldable pub parts_below : ℕ → Parts
 parts_below zero budget p = λ tokens x. ⊥
 parts_below (suc n) budget p = Parses (parts_below n) budget (rule_of p)
 
--- the part, with this budget
+-- The part, with this budget.
 abbrev pub parts : Parts
 parts budget = parts_below (suc budget) budget
 
--- which tokens are the value by the rule, with this budget
+-- Which tokens are the value by the rule, with this budget.
 abbrev pub Reads : ℕ → {A : Type 0} → Rule A → Grammar A
 Reads budget g = Parses parts budget g
 
--- the same as a program
+-- The same as a program.
 unfoldable pub readers_below : ℕ → Readers
 readers_below zero budget p = refuse
 readers_below (suc n) budget p = run (readers_below n) budget (rule_of p)
@@ -35,6 +35,6 @@ readers_below (suc n) budget p = run (readers_below n) budget (rule_of p)
 abbrev pub readers : Readers
 readers budget = readers_below (suc budget) budget
 
--- the program of the rule, with this budget
+-- The program of the rule, with this budget.
 abbrev pub read : ℕ → {A : Type 0} → Rule A → Parser A
 read budget g = run readers budget g

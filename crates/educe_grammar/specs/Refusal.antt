@@ -14,16 +14,16 @@ use Rattle.educe_grammar.specs.Definitions.{visibility, definition}
 use Rattle.educe_grammar.specs.Parsed.{IsWhole, IsParseCause}
 use Rattle.educe_grammar.specs.Naming.{Named, IsRepeatedIn, AreNamesApart, scopes, duplicate_of}
 
--- the tokens are this definition, whose names are apart
+-- The tokens are this definition, whose names are apart.
 pub record IsDefinition (tokens : Tokens) (found : DeriveInput) : Type 0 where
   pub whole : IsWhole definition tokens found
   pub apart : AreNamesApart found
 
--- the identifier `union` (Rust Reference, Keywords: weak keywords)
+-- The identifier `union` (Rust Reference, Keywords: weak keywords).
 abbrev pub IsUnionWord : Token → Type 0
 IsUnionWord t = (t.kind ≡ kind.Ident) × (t.spelling ≡ codes "union")
 
--- behind attributes and a visibility stands this word: no other definition begins so, whatever follows
+-- Behind attributes and a visibility stands this word: no other definition begins so, whatever follows.
 pub record IsUnion (tokens : Tokens) (word : Token) : Type 0 where
   pub front : Tokens
   pub rest : Tokens
@@ -32,7 +32,7 @@ pub record IsUnion (tokens : Tokens) (word : Token) : Type 0 where
   pub reads : IsWhole (both attributes visibility) front read
   pub word_is : IsUnionWord word
 
--- that unions are unsupported
+-- That unions are unsupported.
 abbrev pub union_of : Token → EduceError
 union_of word = citing_at NotCarried word.span word.spelling
 

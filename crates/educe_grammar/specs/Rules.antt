@@ -11,11 +11,11 @@ use Rattle.educe_grammar.specs.Terminals.{accepts}
 use Rattle.educe_grammar.specs.Steps.{Tokens, Found}
 use Rattle.educe_grammar.specs.Ahead.{Look, documents}
 
--- a type with its ending
+-- A type with its ending.
 abbrev pub Typed : Type 0
 Typed = Ty × Ending
 
--- the parts that stand inside one another
+-- The parts that stand inside one another.
 pub data Part : Type 0 where
   types : Part
   plains : Part
@@ -31,46 +31,46 @@ TreeOf trees = Unit {0}
 -- A rule for what a list of tokens may be, and its value. The lists of beginnings say how a program decides; what the
 -- rule allows doesn't depend on them.
 pub data Rule : Type 0 → Type 1 where
-  -- one token
+  -- One token.
   token : (asked : Terminal) → Rule (Found (accepts asked))
-  -- one token of documentation
+  -- One token of documentation.
   documentation : Rule (Found documents)
-  -- no token
+  -- No token.
   empty : {A : Type 0} → A → Rule A
-  -- one rule, and then the other
+  -- One rule, and then the other.
   both : {A B : Type 0} → Rule A → Rule B → Rule (A × B)
-  -- another value
+  -- Another value.
   made : {A B : Type 0} → (A → B) → Rule A → Rule B
-  -- only where the value passes a test
+  -- Only where the value passes a test.
   checked : {A : Type 0} → (A → Bool) → Rule A → Rule A
-  -- one of two; the first where the tokens begin so
+  -- One of two; the first where the tokens begin so.
   either : {A : Type 0} → Look → Rule A → Rule A → Rule A
-  -- one of two, of which the second doesn't begin with such a token
+  -- One of two, of which the second doesn't begin with such a token.
   prefer : {A : Type 0} → Terminal → Rule A → Rule A → Rule A
-  -- an operator of two puncts, such as `::`
+  -- An operator of two puncts, such as `::`.
   operator : (c d : ℕ) → Rule (Unit {0})
-  -- the punct c, which isn't the first half of the operator of c and d, and then the rule
+  -- The punct c, which isn't the first half of the operator of c and d, and then the rule.
   lone : {A : Type 0} → (c d : ℕ) → Rule A → Rule A
-  -- an operator with two operands, the longest that stands here, and then the rule
+  -- An operator with two operands, the longest that stands here, and then the rule.
   binary : {A : Type 0} → Rule A → Rule (Operator × A)
-  -- a bracket pair around the rule, with one less of the budget
+  -- A bracket pair around the rule, with one less of the budget.
   nest : {A : Type 0} → Bracket → Rule A → Rule A
-  -- `<`, not half of `<=`, and `>` around the rule, with one less of the budget
+  -- `<`, not half of `<=`, and `>` around the rule, with one less of the budget.
   angles : {A : Type 0} → Rule A → Rule A
-  -- such a token, and then the rule with one less of the budget
+  -- Such a token, and then the rule with one less of the budget.
   under : {A : Type 0} → Terminal → Rule A → Rule A
-  -- `->`, and then the rule with one less of the budget
+  -- `->`, and then the rule with one less of the budget.
   arrow : {A : Type 0} → Rule A → Rule A
-  -- items with separators between, and maybe one after the last, up to such a beginning
+  -- Items with separators between, and maybe one after the last, up to such a beginning.
   list : {A : Type 0} → Terminal → Look → Rule A → Rule (List A)
-  -- items one behind the other, as long as the tokens begin so
+  -- Items one behind the other, as long as the tokens begin so.
   many : {A : Type 0} → Look → Rule A → Rule (List A)
-  -- the same, but at most 128
+  -- The same, but at most 128.
   chain : {A : Type 0} → Look → Rule A → Rule (List A)
-  -- at least one item, with `::` between
+  -- At least one item, with `::` between.
   path : {A : Type 0} → Rule A → Rule (List A)
-  -- the value with the tokens that were read
+  -- The value with the tokens that were read.
   sliced : {A : Type 0} → Rule A → Rule (A × Tokens)
   written : {A : Type 0} → Rule A → Rule (A × Written)
-  -- a part
+  -- A part.
   part : (p : Part) → Rule (TreeOf p)

@@ -16,35 +16,35 @@ use Rattle.educe_grammar.specs.Operators.{operator_at}
 use Rattle.educe_grammar.specs.Reading.{chain_limit}
 use Rattle.educe_grammar.specs.Rules.{Rule, token, documentation, empty, both, made, checked, either, prefer, operator, lone, binary, nest, angles, under, arrow, list, many, chain, path, sliced, written, part, Part, TreeOf}
 
--- programs for the parts, with each budget
+-- Programs for the parts, with each budget.
 abbrev pub Readers : Type 0
 Readers = ℕ → (p : Part) → Parser (TreeOf p)
 
 abbrev pub pure : {A : Type 0} → A → Parser A
 pure x = λ ts. Ok (x, ts)
 
--- goes on behind so many tokens where the test holds
+-- Goes on behind so many tokens where the test holds.
 abbrev pub skip_if : Bool → ℕ → Parser (Unit {0})
 skip_if passes n = λ ts. if passes then Ok (tt, drop n ts) else Err (Syntax (length ts))
 
--- the items up to such a beginning; the number bounds the turns
+-- The items up to such a beginning; the number bounds the turns.
 unfoldable pub items : {A : Type 0} → (Token → Bool) → Look → Parser A → ℕ → List A → Parser (List A)
 items separates stop item zero found ts = Err (Syntax (length ts))
 items separates stop item (suc turns) found ts =
     if sees_any stop ts then Ok (found, ts) else and_then (item ts) (λ x ts.
     if sees separates ts then items separates stop item turns (found ++ x ∷ []) (drop 1 ts) else Ok (found ++ x ∷ [], ts))
 
--- the items as long as the tokens begin so; the number bounds the turns
+-- The items as long as the tokens begin so; the number bounds the turns.
 unfoldable pub repeat : {A : Type 0} → Look → Parser A → ℕ → List A → Parser (List A)
 repeat look item zero found ts = Err (Syntax (length ts))
 repeat look item (suc turns) found ts = if sees_any look ts then and_then (item ts) (λ x. repeat look item turns (found ++ x ∷ [])) else Ok (found, ts)
 
--- the same, where one more than the number is too deep
+-- The same, where one more than the number is too deep.
 unfoldable pub links : {A : Type 0} → Look → Parser A → ℕ → List A → Parser (List A)
 links look item zero found ts = if sees_any look ts then Err (TooDeep (length ts)) else Ok (found, ts)
 links look item (suc left) found ts = if sees_any look ts then and_then (item ts) (λ x. links look item left (found ++ x ∷ [])) else Ok (found, ts)
 
--- the items with `::` between; the number bounds the turns
+-- The items with `::` between; the number bounds the turns.
 unfoldable pub segments : {A : Type 0} → Parser A → ℕ → List A → Parser (List A)
 segments item zero found ts = Err (Syntax (length ts))
 segments item (suc turns) found ts = and_then (item ts) (λ x ts.
@@ -58,11 +58,11 @@ abbrev pub written_if : {A : Type 0} → A → (tokens rest : Tokens) (b : Bool)
 written_if x tokens rest true stands = Ok ((x, record { tokens = tokens; written = stands }), rest)
 written_if x tokens rest false stands = Err (Syntax (length rest))
 
--- what the program reads, as it was written
+-- What the program reads, as it was written.
 abbrev pub written_by : {A : Type 0} → Parser A → Parser (A × Written)
 written_by read ts = and_then (read ts) (λ x rest. written_if x (since ts rest) rest (may_be_copied (lexemes (since ts rest))) refl)
 
--- what the program reads may be copied
+-- What the program reads may be copied.
 abbrev pub IsCopied : {A : Type 0} → Parser A → Type 0
 IsCopied {A} read = (ts rest : Tokens) (x : A) → read ts ≡ Ok (x, rest) → IsTrue (may_be_copied (lexemes (since ts rest)))
 

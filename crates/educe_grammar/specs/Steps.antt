@@ -9,7 +9,7 @@ use Rattle.educe_grammar.specs.declared.parse_error.ParseError.TheVariants.{Memo
 abbrev pub Tokens : Type 0
 Tokens = List Token
 
--- what was read with the tokens that are left, or a rejection
+-- What was read with the tokens that are left, or a rejection.
 abbrev pub Outcome : Type 0 → Type 0
 Outcome A = Result (A × Tokens) ParseError
 
@@ -20,11 +20,11 @@ abbrev pub and_then : {A B : Type 0} → Outcome A → (A → Parser B) → Outc
 and_then (Ok p) f = f p.0 p.1
 and_then (Err e) f = Err e
 
--- the tokens that are left can't go on
+-- The tokens that are left can't go on.
 abbrev pub refuse : {A : Type 0} → Parser A
 refuse = λ ts. Err (Syntax (length ts))
 
--- a token that passes the test
+-- A token that passes the test.
 pub record Found (test : Token → Bool) : Type 0 where
   pub token : Token
   pub passes : IsTrue (test token)
@@ -33,7 +33,7 @@ abbrev pub found_if : (test : Token → Bool) (t : Token) (ts : Tokens) (b : Boo
 found_if test t ts true passes = Ok (record { token = t; passes = passes }, ts)
 found_if test t ts false fails = Err (Syntax (length (t ∷ ts)))
 
--- takes a token that passes the test, and rejects any other
+-- Takes a token that passes the test, and rejects any other.
 unfoldable pub expect : (test : Token → Bool) → Parser (Found test)
 expect test [] = Err (Syntax 0)
 expect test (t ∷ ts) = found_if test t ts (test t) refl
@@ -44,37 +44,37 @@ unfoldable pub enter : ℕ → ℕ → Parser (Unit {0})
 enter zero left ts = Err (TooDeep left)
 enter (suc budget) left ts = Ok (tt, ts)
 
--- what was read since there were these tokens
+-- What was read since there were these tokens.
 unfoldable pub since : Tokens → Tokens → Tokens
 since start rest = take (length start - length rest) start
 
--- what a function that parses ensures: the outcome, unless memory fails
+-- What a function that parses ensures: the outcome, unless memory fails.
 abbrev pub Gives : {S A : Type 0} → Result (A × S) ParseError → Result A ParseError → S → Type 0
 Gives outcome (Ok a) new = outcome ≡ Ok (a, new)
 Gives outcome (Err e) new = e ≢ Memory → outcome ≡ Err e
 
--- the same of a function that lends a token that passes the test, for which it needs no memory
+-- The same of a function that lends a token that passes the test, for which it needs no memory.
 abbrev pub Lends : {test : Token → Bool} → Outcome (Found test) → Result (Bor Token) ParseError → Tokens → Type 0
 Lends {test = test} outcome (Ok t) new = (passes : IsTrue (test t.now)) × (outcome ≡ Ok (record { token = t.now; passes = passes }, new))
 Lends outcome (Err e) new = outcome ≡ Err e
 
--- what a function ensures that takes such a token where it comes next
+-- What a function ensures that takes such a token where it comes next.
 abbrev pub Eats : {test : Token → Bool} → Outcome (Found test) → Bool → Tokens → Tokens → Type 0
 Eats {test = test} outcome true old new = (found : Found test) × (outcome ≡ Ok (found, new))
 Eats outcome false old new = new ≡ old
 
--- the same of a function that goes on, for which it needs no memory
+-- The same of a function that goes on, for which it needs no memory.
 abbrev pub Passes : {A : Type 0} → Outcome (Unit {0}) → Result A ParseError → Tokens → Type 0
 Passes outcome (Ok a) new = outcome ≡ Ok (tt, new)
 Passes outcome (Err e) new = outcome ≡ Err e
 
--- the same of a function that takes an opener, and answers the budget inside
+-- The same of a function that takes an opener, and answers the budget inside.
 abbrev pub Opens : {A : Type 0} → Outcome A → ℕ → Tokens → Result ℕ ParseError → Tokens → Type 0
 Opens {A = A} opener budget old (Ok below) new = (x : A) × (opener ≡ Ok (x, new)) × (enter budget (length old) new ≡ Ok (tt, new))
 Opens {A = A} opener budget old (Err e) new =
     (opener ≡ Err e) ⊎ ((x : A) × (rest : Tokens) × (opener ≡ Ok (x, rest)) × (enter budget (length old) rest ≡ Err e))
 
--- the same of a function that takes an operator, where these are the longest one that comes next and its length
+-- The same of a function that takes an operator, where these are the longest one that comes next and its length.
 abbrev pub Operates : Option (Operator × ℕ) → Result Operator ParseError → Tokens → Tokens → Type 0
 Operates longest (Ok o) old new = (n : ℕ) × (longest ≡ Some (o, n)) × (new ≡ drop n old)
 Operates longest (Err e) old new = (longest ≡ None) × (e ≡ Syntax (length old))

@@ -13,7 +13,7 @@ use Rattle.educe_grammar.specs.declared.terminal.Keyword.TheVariants.{As, Const,
 use Rattle.educe_grammar.specs.declared.terminal.Terminal.{Terminal}
 use Rattle.educe_grammar.specs.declared.terminal.Terminal.TheVariants as terminal
 
--- how the word is spelled
+-- How the word is spelled.
 abbrev pub text_of : Keyword → List ℕ
 text_of As = codes "as"
 text_of Const = codes "const"
@@ -36,24 +36,24 @@ text_of Underscore = codes "_"
 text_of Unsafe = codes "unsafe"
 text_of Where = codes "where"
 
--- which identifiers: names, these words, or all
+-- Which identifiers: names, these words, or all.
 pub data Words : Type 0 where
   some_words : Bool → List Keyword → Words
   all_words : Words
 
--- which literals
+-- Which literals.
 pub data Literals : Type 0 where
   no_literals : Literals
   ints : Literals
   strs : Literals
   all_literals : Literals
 
--- which punctuation characters
+-- Which punctuation characters.
 pub data Signs : Type 0 where
   these_signs : List ℕ → Signs
   all_signs : Signs
 
--- a set of tokens; no bracket and no documentation is in one
+-- A set of tokens; no bracket and no documentation is in one.
 pub record TokenSet : Type 0 where
   pub words : Words
   pub lifetimes : Bool
@@ -66,23 +66,23 @@ no_words = some_words false []
 abbrev pub no_signs : Signs
 no_signs = these_signs []
 
--- identifiers alone
+-- Identifiers alone.
 abbrev pub only_words : Words → TokenSet
 only_words words = record { words = words; lifetimes = false; literals = no_literals; signs = no_signs }
 
--- literals alone
+-- Literals alone.
 abbrev pub only_literals : Literals → TokenSet
 only_literals literals = record { words = no_words; lifetimes = false; literals = literals; signs = no_signs }
 
--- punctuation alone
+-- Punctuation alone.
 abbrev pub only_signs : List ℕ → TokenSet
 only_signs signs = record { words = no_words; lifetimes = false; literals = no_literals; signs = these_signs signs }
 
--- the words that a segment may be
+-- The words that a segment may be.
 abbrev pub segment_words : Words
 segment_words = some_words true (SelfValue ∷ SelfType ∷ Super ∷ Crate ∷ [])
 
--- what is asked for
+-- What is asked for.
 abbrev pub set_of : Terminal → TokenSet
 set_of (terminal.Word word) = only_words (some_words false (word ∷ []))
 set_of terminal.Name = only_words (some_words true [])
@@ -101,24 +101,24 @@ set_of (terminal.Sign c) = only_signs (c ∷ [])
 set_of terminal.PrefixSign = only_signs (45 ∷ 33 ∷ 42 ∷ [])
 set_of terminal.Leaf = record { words = all_words; lifetimes = true; literals = all_literals; signs = all_signs }
 
--- whether the identifier of this text is among them
+-- Whether the identifier of this text is among them.
 abbrev pub word_in : Words → List ℕ → Bool
 word_in (some_words names words) text = (names && is_name kind.Ident text) || list_any (λ word. bytes_eq (text_of word) text) words
 word_in all_words text = true
 
--- whether a literal of this kind is among them
+-- Whether a literal of this kind is among them.
 abbrev pub literal_in : Literals → LiteralKind → Bool
 literal_in no_literals l = false
 literal_in ints l = elim l [ literal.Int ↦ true | literal.Str ↦ false | literal.ByteStr ↦ false | literal.Char ↦ false | literal.Byte ↦ false ]
 literal_in strs l = elim l [ literal.Int ↦ false | literal.Str ↦ true | literal.ByteStr ↦ false | literal.Char ↦ false | literal.Byte ↦ false ]
 literal_in all_literals l = true
 
--- whether the character is among them
+-- Whether the character is among them.
 abbrev pub sign_in : Signs → ℕ → Bool
 sign_in (these_signs signs) c = list_any (λ d. d == c) signs
 sign_in all_signs c = true
 
--- whether a token of this kind and spelling is in the set
+-- Whether a token of this kind and spelling is in the set.
 abbrev pub token_in : TokenSet → TokenKind → List ℕ → Bool
 token_in set kind.Ident text = word_in set.words text
 token_in set kind.Lifetime text = set.lifetimes
@@ -128,6 +128,6 @@ token_in set (kind.Start b) text = false
 token_in set (kind.Stop b) text = false
 token_in set kind.Doc text = false
 
--- whether the token is what is asked for
+-- Whether the token is what is asked for.
 unfoldable pub accepts : Terminal → Token → Bool
 accepts asked t = token_in (set_of asked) t.kind t.spelling

@@ -20,7 +20,7 @@ use Rattle.educe_grammar.specs.Steps.{Tokens}
 
 -- ---- what holds of each token
 
--- P holds of each token of the meta's list or value; nothing is said of its path, of documentation and of a value that isn't read
+-- P holds of each token of the meta's list or value; nothing is said of its path, of documentation and of a value that isn't read.
 abbrev pub MetaWithin : (Token → Type 0) → Meta → Type 0
 MetaWithin P (said.Word path) = Unit {0}
 MetaWithin P (said.List path tokens place) = AllByRecursion P tokens.tokens
@@ -28,24 +28,24 @@ MetaWithin P (said.NameValue path value place) = AllByRecursion P value.written.
 MetaWithin P (said.Doc t) = Unit {0}
 MetaWithin P (said.Unread path tokens place) = Unit {0}
 
--- P holds of the tokens of each attribute's list or value
+-- P holds of the tokens of each attribute's list or value.
 abbrev pub AttributesWithin : (Token → Type 0) → List Attribute → Type 0
 AttributesWithin P attrs = AllByRecursion (λ (a : Attribute). MetaWithin P a.meta) attrs
 
--- P holds of the tokens in the attributes of the field
+-- P holds of the tokens in the attributes of the field.
 abbrev pub FieldWithin : (Token → Type 0) → Field → Type 0
 FieldWithin P field = AttributesWithin P field.attrs
 
--- P holds of the tokens of a discriminant, if one is written
+-- P holds of the tokens of a discriminant, if one is written.
 abbrev pub WrittenWithin : (Token → Type 0) → Option Expr → Type 0
 WrittenWithin P None = Unit {0}
 WrittenWithin P (Some value) = AllByRecursion P value.written.tokens
 
--- P holds of the tokens in the attributes of the variant and of its fields, and in its discriminant
+-- P holds of the tokens in the attributes of the variant and of its fields, and in its discriminant.
 abbrev pub VariantWithin : (Token → Type 0) → Variant → Type 0
 VariantWithin P variant = AttributesWithin P variant.attrs × AllByRecursion (FieldWithin P) variant.fields.fields × WrittenWithin P variant.discriminant
 
--- P holds of the tokens in each field of a struct, or of each variant of an enum
+-- P holds of the tokens in each field of a struct, or of each variant of an enum.
 abbrev pub ShapeWithin : (Token → Type 0) → Shape → Type 0
 ShapeWithin P (Struct shape) = AllByRecursion (FieldWithin P) shape.fields
 ShapeWithin P (Enum variants) = AllByRecursion (VariantWithin P) variants
@@ -54,14 +54,14 @@ ShapeWithin P (Enum variants) = AllByRecursion (VariantWithin P) variants
 
 -- The tokens of a part are tokens of the whole that it is read from.
 pub record PartLaws : Type 0 where
-  -- the tokens in the attributes of fields and variants, and in discriminants, are tokens of the definition
+  -- The tokens in the attributes of fields and variants, and in discriminants, are tokens of the definition.
   pub definition : (tokens : Tokens) (d : DeriveInput) → IsWhole definitions.definition tokens d → ShapeWithin (λ t. Contains tokens t) d.shape
-  -- so are those in its own attributes
+  -- So are those in its own attributes.
   pub attrs : (tokens : Tokens) (d : DeriveInput) → IsWhole definitions.definition tokens d → AttributesWithin (λ t. Contains tokens t) d.attrs
-  -- a definition keeps the tokens that it is read from
+  -- A definition keeps the tokens that it is read from.
   pub definition_tokens : (tokens : Tokens) (d : DeriveInput) → IsWhole definitions.definition tokens d → d.tokens ≡ tokens
-  -- where metas are read from tokens of a list, the tokens in them are tokens of that list
+  -- Where metas are read from tokens of a list, the tokens in them are tokens of that list.
   pub metas : (all tokens : Tokens) (found : List Meta) → AllByRecursion (λ t. Contains all t) tokens → IsWhole attributes.metas tokens found
       → AllByRecursion (MetaWithin (λ t. Contains all t)) found
-  -- a path keeps the tokens that it is read from
+  -- A path keeps the tokens that it is read from.
   pub path : (tokens : Tokens) (path : ExprPath) → IsWhole expressions.expr_path tokens path → path.written.tokens ≡ tokens

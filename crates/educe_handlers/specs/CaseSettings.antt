@@ -6,6 +6,6 @@ use Rattle.educe_attrs.specs.FieldSettings.{FieldSettings}
 use Rattle.educe_bound_traits.specs.declared.traits.Trait.{Trait}
 use Rattle.educe_laws.specs.Settings.{settings_of}
 
--- the settings of the fields of each of these cases
+-- The settings of the fields of each of these cases.
 abbrev pub settings_in : Trait → DeriveInput → List (List Field) → List (List FieldSettings)
 settings_in which definition cases = map (map (settings_of which definition)) cases

@@ -2,6 +2,6 @@
 use Rattle.educe_laws.specs.Laws.{TraitLaws}
 use Rattle.educe_laws.proofs.Traits as traits
 
--- what holds of every trait
+-- What holds of every trait.
 pub lawful_traits : TraitLaws
 lawful_traits = traits.lawful_traits

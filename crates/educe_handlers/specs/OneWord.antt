@@ -8,19 +8,19 @@ use Rattle.std.proofs.Math.Nat.{ℕ_set}
 use Rattle.educe_tokens.specs.Chars.{is_word_start}
 use Rattle.educe_tokens.specs.Spells.{IsWord}
 
--- equal lists have equal first items
+-- Equal lists have equal first items.
 first_same : (x y : ℕ) (xs ys : List ℕ) → x ∷ xs ≡ y ∷ ys → x ≡ y
 first_same x y xs ys h = cc
 
--- and equal rests
+-- And equal rests.
 rest_same : (x y : ℕ) (xs ys : List ℕ) → x ∷ xs ≡ y ∷ ys → xs ≡ ys
 rest_same x y xs ys h = cc
 
--- that a test holds is one fact
+-- That a test holds is one fact.
 IsTrue-prop : (b : Bool) → IsProp (IsTrue b)
 IsTrue-prop b = hlevel (Bool-set)
 
--- two proofs that a text is a word are equal
+-- Two proofs that a text is a word are equal.
 pub IsWord-prop : (text : List ℕ) → IsProp (IsWord text)
 IsWord-prop text a b =
     let same : a.first ∷ a.more ≡ b.first ∷ b.more = sym a.is ∙ b.is in

@@ -7,22 +7,22 @@ use Rattle.educe_handlers.specs.declared.ranked.Ranked.{Ranked}
 use Rattle.educe_laws.specs.Settings.{Kept, plainly, by_method, by_order}
 use Rattle.educe_laws.specs.Settings as settings
 
--- how a field is treated, by the path behind the reference
+-- How a field is treated, by the path behind the reference.
 abbrev pub how_of : How → settings.How
 how_of Plainly = plainly
 how_of (ByMethod path) = by_method path.now
 how_of (ByOrder path) = by_order path.now
 
--- the path that is called on a field that is treated in this way: its method, or else this one
+-- The path that is called on a field that is treated in this way: its method, or else this one.
 abbrev pub called_by : ExprPath → settings.How → ExprPath
 called_by plain plainly = plain
 called_by plain (by_method path) = path
 called_by plain (by_order path) = path
 
--- the field behind the reference, its place, its rank, where that stands, and how it is treated
+-- The field behind the reference, its place, its rank, where that stands, and how it is treated.
 abbrev pub kept_of : Ranked → Kept
 kept_of ranked = record { field = ranked.field.now; place = ranked.place; rank = ranked.rank; rank_span = ranked.rank_span; how = how_of ranked.how }
 
--- the field after k is written no later than the one after j
+-- The field after k is written no later than the one after j.
 abbrev pub IsNoLater : List Ranked → ℕ → ℕ → Type 0
 IsNoLater sorted k j = (d : Ranked) → (slice_index_or sorted (k + 1) d).place ≤ (slice_index_or sorted (j + 1) d).place

@@ -6,12 +6,12 @@ use Rattle.educe_handlers.specs.declared.reading.Reading.{Reading}
 use Rattle.educe_handlers.specs.declared.reading.Reading.TheVariants.{OfBase, Bound}
 use Rattle.educe_laws.specs.Steps as steps
 
--- how a field is read, by the texts of the names
+-- How a field is read, by the texts of the names.
 abbrev pub reading_of : Reading → steps.Reading
 reading_of (OfBase base copied) = steps.of_base copied base.now.text
 reading_of (Bound prefix) = steps.bound prefix.now
 
--- the name stands at no place; the prefix is a word
+-- The name stands at no place; the prefix is a word.
 abbrev pub CanRead : Reading → Type 0
 CanRead (OfBase base copied) = base.now.span ≡ no_place
 CanRead (Bound prefix) = IsWord prefix.now

@@ -9,21 +9,21 @@ use Rattle.educe_handlers.specs.declared.seen_types.SeenTypes.{SeenTypes}
 use Rattle.educe_laws.specs.Settings.{Kept, How, plainly, by_method, by_order}
 use Rattle.educe_laws.specs.Types.{AreVisited, read_types, touched_types}
 
--- the types of the fields that are read
+-- The types of the fields that are read.
 abbrev pub read_of : SeenTypes → List Ty
 read_of types = behind types.read.items
 
--- the types of those on which the trait's own function is called
+-- The types of those on which the trait's own function is called.
 abbrev pub touched_of : SeenTypes → List Ty
 touched_of types = behind types.touched.items
 
--- the type of a field on which the trait's own function is called, and none where it isn't
+-- The type of a field on which the trait's own function is called, and none where it isn't.
 abbrev pub touched_one : How → Ty → List Ty
 touched_one plainly ty = ty ∷ []
 touched_one (by_method path) ty = []
 touched_one (by_order path) ty = []
 
--- behind what was seen before stand the types of the fields of these cases that take part, in the order of the trait
+-- Behind what was seen before stand the types of the fields of these cases that take part, in the order of the trait.
 pub record Sees (which : Trait) (definition : DeriveInput) (cases : List (List Field)) (before after : SeenTypes) : Type 0 where
   pub own : List Kept
   pub own_are : AreVisited which definition cases own

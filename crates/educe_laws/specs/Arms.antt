@@ -46,8 +46,8 @@ use Rattle.educe_laws.specs.Steps.{bound, AreSteps, IsInOrder}
 
 -- ---- names
 
--- the names that the functions of an enum declare: that of the second value, of the key function, of its parameter, and of the
--- value that a distance is added to; and the prefixes of the variables for the fields of the first value and of the second
+-- The names that the functions of an enum declare: that of the second value, of the key function, of its parameter, and of the
+-- value that a distance is added to; and the prefixes of the variables for the fields of the first value and of the second.
 pub record Names : Type 0 where
   pub other : List ℕ
   pub discriminant : List ℕ
@@ -56,41 +56,41 @@ pub record Names : Type 0 where
   pub own : List ℕ
   pub others : List ℕ
 
--- the names among them, as they are written where nothing is in their way
+-- The names among them, as they are written where nothing is in their way.
 abbrev pub plain_names : List (List ℕ)
 plain_names = codes "other" ∷ codes "discriminant" ∷ codes "this" ∷ codes "base" ∷ []
 
--- the names that are chosen for these
+-- The names that are chosen for these.
 abbrev pub chosen_names : Names → List (List ℕ)
 chosen_names names = names.other ∷ names.discriminant ∷ names.this ∷ names.base ∷ []
 
--- each of these names is chosen for one of the plain ones, in this order, apart from the words of the definition and from the names
--- before it
+-- Each of these names is chosen for one of the plain ones, in this order, apart from the words of the definition and from the names
+-- before it.
 pub record AreChosenFor (definition : DeriveInput) (plain names : List (List ℕ)) : Type 0 where
   pub words : List (List ℕ)
   pub words_are : AreWordsOf definition.tokens words
   pub chosen : AreChosen words plain names
 
--- the names are chosen so; and then the prefixes are chosen apart from the words of the definition and from the names
+-- The names are chosen so; and then the prefixes are chosen apart from the words of the definition and from the names.
 pub record AreNames (definition : DeriveInput) (names : Names) : Type 0 where
   pub are : AreChosenFor definition plain_names (chosen_names names)
   pub own_is : IsPrefix (are.words ++ chosen_names names) (codes "_s_") names.own
   pub others_is : IsPrefix (are.words ++ chosen_names names) (codes "_o_") names.others
 
--- a name that the program makes, at no place
+-- A name that the program makes, at no place.
 pub record IsName (text : List ℕ) (name : Ident) : Type 0 where
   pub is : name.text ≡ text
   pub nowhere : name.span ≡ no_place
 
--- the names of the variables behind a prefix for these fields
+-- The names of the variables behind a prefix for these fields.
 abbrev pub variables_for : List ℕ → List Kept → List (List ℕ)
 variables_for prefix kept = map (λ (k : Kept). prefix ++ binding_key k.place k.field) kept
 
--- those for the fields that take part
+-- Those for the fields that take part.
 abbrev pub variables : List ℕ → Trait → DeriveInput → List Field → List (List ℕ)
 variables prefix which definition fields = variables_for prefix (kept_fields which definition fields)
 
--- no two of the names are the same, none is `self`, and none is a word of the definition
+-- No two of the names are the same, none is `self`, and none is a word of the definition.
 pub record AreScoped (definition : DeriveInput) (names : List (List ℕ)) : Type 0 where
   pub apart : AreApart names
   pub not_self : is_held names (codes "self") ≡ false
@@ -98,25 +98,25 @@ pub record AreScoped (definition : DeriveInput) (names : List (List ℕ)) : Type
 
 -- ---- patterns
 
--- the key of a field in a pattern: its name as it was written, or none
+-- The key of a field in a pattern: its name as it was written, or none.
 abbrev pub IsKey : Option Ident → Option Word → Type 0
 IsKey None None = Unit {0}
 IsKey None (Some key) = ⊥
 IsKey (Some name) None = ⊥
 IsKey (Some name) (Some key) = key.text ≡ name.text
 
--- where the field takes part it is bound to a variable of this name, and else to none
+-- Where the field takes part it is bound to a variable of this name, and else to none.
 abbrev pub IsBound : Bool → List ℕ → Option Ident → Type 0
 IsBound false text name = name ≡ None
 IsBound true text None = ⊥
 IsBound true text (Some name) = IsName text name
 
--- the field of a pattern, with variables behind this prefix, for the field at a place with these settings
+-- The field of a pattern, with variables behind this prefix, for the field at a place with these settings.
 pub record IsPatternField (prefix : List ℕ) (place : ℕ) (field : Field) (settings : FieldSettings) (x : PatternField) : Type 0 where
   pub key_is : IsKey field.ident x.key
   pub name_is : IsBound (keeps settings) (prefix ++ binding_key place field) x.name
 
--- those of a pattern, for fields with these settings, of which the first has this place
+-- Those of a pattern, for fields with these settings, of which the first has this place.
 abbrev pub ArePatternFields : List ℕ → ℕ → List Field → List FieldSettings → List PatternField → Type 0
 ArePatternFields prefix place [] all [] = Unit {0}
 ArePatternFields prefix place [] all (x ∷ xs) = ⊥
@@ -124,32 +124,32 @@ ArePatternFields prefix place (f ∷ fs) [] xs = ⊥
 ArePatternFields prefix place (f ∷ fs) (s ∷ all) [] = ⊥
 ArePatternFields prefix place (f ∷ fs) (s ∷ all) (x ∷ xs) = IsPatternField prefix place f s x × ArePatternFields prefix (place + 1) fs all xs
 
--- the pattern of a variant that binds its fields, where they take part by these settings, to variables behind this prefix
+-- The pattern of a variant that binds its fields, where they take part by these settings, to variables behind this prefix.
 pub record IsPatternBy (prefix : List ℕ) (variant : Variant) (all : List FieldSettings) (pattern : Pattern) : Type 0 where
   pub variant_is : pattern.variant ≡ variant.ident
   pub form_is : pattern.form ≡ variant.fields.form
   pub whole : pattern.rest ≡ false
   pub fields_are : ArePatternFields prefix 0 (fields_in variant) all pattern.fields
 
--- the same by the settings of the fields
+-- The same by the settings of the fields.
 abbrev pub IsPattern : Trait → DeriveInput → List ℕ → Variant → Pattern → Type 0
 IsPattern which definition prefix variant pattern = IsPatternBy prefix variant (map (settings_of which definition) (fields_in variant)) pattern
 
 -- ---- arms
 
--- an arm has braces around its block, or none, and a comma behind it, or none
+-- An arm has braces around its block, or none, and a comma behind it, or none.
 pub record IsSpelled (braced comma : Bool) (arm : Arm) : Type 0 where
   pub braced_is : arm.braced ≡ braced
   pub comma_is : arm.comma ≡ comma
 
--- one arm for each variant, of which the first has this place
+-- One arm for each variant, of which the first has this place.
 abbrev pub AreArms : (ℕ → Variant → Arm → Type 0) → ℕ → List Variant → List Arm → Type 0
 AreArms IsOwn place [] [] = Unit {0}
 AreArms IsOwn place [] (arm ∷ arms) = ⊥
 AreArms IsOwn place (v ∷ vs) [] = ⊥
 AreArms IsOwn place (v ∷ vs) (arm ∷ arms) = IsOwn place v arm × AreArms IsOwn (place + 1) vs arms
 
--- a match on the value of `self`, with one such arm for each variant in written order
+-- A match on the value of `self`, with one such arm for each variant in written order.
 pub record IsMatchOnSelf (IsOwn : Variant → Arm → Type 0) (variants : List Variant) (block : List Form) : Type 0 where
   pub value : Ident
   pub value_is : IsName (codes "self") value
@@ -157,15 +157,15 @@ pub record IsMatchOnSelf (IsOwn : Variant → Arm → Type 0) (variants : List V
   pub arms_are : AllZip IsOwn variants arms
   pub block_is : block ≡ MatchValue value arms ∷ []
 
--- what is done where the other value is of another variant: `eq` returns false, and an order, which is asked after the
--- discriminants, does nothing
+-- What is done where the other value is of another variant: `eq` returns false, and an order, which is asked after the
+-- discriminants, does nothing.
 abbrev pub IsOtherwise : Comparison → Option (List Form) → Type 0
 IsOtherwise PartialEq others = others ≡ Some (Return (form.Known (Truth false)) ∷ [])
 IsOtherwise PartialOrd others = others ≡ None
 IsOtherwise Ord others = others ≡ None
 
--- the arm of a variant: the pattern for the value of `self`; and behind it, if the other value is of this variant, one step for
--- each field that takes part, in the order of the trait, on its two variables; it has braces and no comma
+-- The arm of a variant: the pattern for the value of `self`; and behind it, if the other value is of this variant, one step for
+-- each field that takes part, in the order of the trait, on its two variables; it has braces and no comma.
 pub record IsArm (which : Comparison) (definition : DeriveInput) (names : Names) (variant : Variant) (arm : Arm) : Type 0 where
   pub spelled : IsSpelled true false arm
   pub own_is : IsPattern (trait_of which) definition names.own variant arm.pattern
@@ -181,7 +181,7 @@ pub record IsArm (which : Comparison) (definition : DeriveInput) (names : Names)
   pub others_are : IsOtherwise which others
   pub block_is : arm.block ≡ IfLet inner value steps others ∷ []
 
--- a match on the value of `self`, with one arm for each variant in written order; and then what is answered where no step returned
+-- A match on the value of `self`, with one arm for each variant in written order; and then what is answered where no step returned.
 pub record IsMatch (which : Comparison) (definition : DeriveInput) (names : Names) (variants : List Variant) (block : List Form) : Type 0 where
   pub value : Ident
   pub value_is : IsName (codes "self") value
@@ -191,32 +191,32 @@ pub record IsMatch (which : Comparison) (definition : DeriveInput) (names : Name
 
 -- ---- keys
 
--- whether a pattern of this form has brackets
+-- Whether a pattern of this form has brackets.
 abbrev pub has_brackets : FieldForm → Bool
 has_brackets Named = true
 has_brackets Unnamed = true
 has_brackets NoFields = false
 
--- the pattern of a variant with `..` in place of its fields
+-- The pattern of a variant with `..` in place of its fields.
 pub record IsBarePattern (variant : Variant) (pattern : Pattern) : Type 0 where
   pub variant_is : pattern.variant ≡ variant.ident
   pub form_is : pattern.form ≡ variant.fields.form
   pub rest_is : pattern.rest ≡ has_brackets variant.fields.form
   pub no_fields : pattern.fields ≡ []
 
--- the expression that a constant is counted from: the written one, or `0`
+-- The expression that a constant is counted from: the written one, or `0`.
 abbrev pub IsBase : Option Expr → Expr → Type 0
 IsBase None value = lexemes value.written.tokens ≡ word_lexeme (codes "0") ∷ []
 IsBase (Some written) value = value ≡ written
 
--- the distance of a constant: none, or that many steps
+-- The distance of a constant: none, or that many steps.
 abbrev pub IsDistance : DiscriminantType → List ℕ → ℕ → Option Distance → Type 0
 IsDistance ty base zero None = Unit {0}
 IsDistance ty base zero (Some distance) = ⊥
 IsDistance ty base (suc count) None = ⊥
 IsDistance ty base (suc count) (Some distance) = (distance.steps ≡ suc count) × (distance.ty ≡ ty) × IsName base distance.base
 
--- the constant of a variant
+-- The constant of a variant.
 pub record IsConstant (ty : DiscriminantType) (base : List ℕ) (c : Counted) (constant : Constant) : Type 0 where
   pub value_is : IsBase c.written constant.value
   pub distance_is : IsDistance ty base c.distance constant.distance
@@ -228,16 +228,16 @@ pub record AreConstants (definition : DeriveInput) (ty : DiscriminantType) (cons
   pub names_are : AreNames definition names
   pub each : AllZip (IsConstant ty names.base) (counted definition) constants
 
--- the numbers of the constants, where no name is in scope, are these
+-- The numbers of the constants, where no name is in scope, are these.
 abbrev pub AreNumbers : Answers → List ℤ → List Constant → Type 0
 AreNumbers table numbers constants = map (constant_number table []) constants ≡ map Some numbers
 
--- the arm of a variant in a key function
+-- The arm of a variant in a key function.
 pub record IsKeyArm (ty : DiscriminantType) (base : List ℕ) (c : Counted) (arm : KeyArm) : Type 0 where
   pub pattern_is : IsBarePattern c.variant arm.pattern
   pub constant_is : IsConstant ty base c arm.constant
 
--- the key function: one arm for each variant in written order, with constants of the type of the discriminants
+-- The key function: one arm for each variant in written order, with constants of the type of the discriminants.
 pub record IsKeyFunction (definition : DeriveInput) (names : Names) (x : Form) : Type 0 where
   pub function : Ident
   pub function_is : IsName names.discriminant function
@@ -249,7 +249,7 @@ pub record IsKeyFunction (definition : DeriveInput) (names : Names) (x : Form) :
   pub arms_are : AllZip (IsKeyArm ty names.base) (counted definition) arms
   pub is : x ≡ KeyFunction function this ty arms
 
--- `& discriminant ( value )`
+-- `& discriminant ( value )`.
 pub record IsKeyOf (names : Names) (value : List ℕ) (x : Form) : Type 0 where
   pub function : Ident
   pub function_is : IsName names.discriminant function
@@ -257,7 +257,7 @@ pub record IsKeyOf (names : Names) (value : List ℕ) (x : Form) : Type 0 where
   pub name_is : IsName value name
   pub is : x ≡ Key function name
 
--- the comparison of the keys of both values: `:: core :: cmp :: Ord :: cmp ( & discriminant ( self ) , & discriminant ( other ) )`
+-- The comparison of the keys of both values: `:: core :: cmp :: Ord :: cmp ( & discriminant ( self ) , & discriminant ( other ) )`.
 pub record IsKeyComparison (names : Names) (x : Form) : Type 0 where
   pub path : ExprPath
   pub path_is : IsBuiltIn Cmp path
@@ -269,34 +269,34 @@ pub record IsKeyComparison (names : Names) (x : Form) : Type 0 where
 
 -- ---- blocks
 
--- an order as the trait's function answers it
+-- An order as the trait's function answers it.
 abbrev pub in_answer : Comparison → Form → Form
 in_answer PartialEq x = x
 in_answer PartialOrd x = SomeOf x
 in_answer Ord x = x
 
--- whether the trait's function answers an order in `Some`
+-- Whether the trait's function answers an order in `Some`.
 abbrev pub is_partial : Comparison → Bool
 is_partial PartialEq = false
 is_partial PartialOrd = true
 is_partial Ord = false
 
--- what follows the key function: where no variant has fields, the comparison of the keys is the answer; and else where it is Equal
--- the match on the fields is
+-- What follows the key function: where no variant has fields, the comparison of the keys is the answer; and else where it is Equal
+-- the match on the fields is.
 abbrev pub IsDecision : Comparison → DeriveInput → Names → List Variant → Form → Bool → Form → Type 0
 IsDecision which definition names variants compares true x = x ≡ in_answer which compares
 IsDecision which definition names variants compares false x =
     (block : List Form) × IsMatch which definition names variants block × (x ≡ MatchOrdering compares (is_partial which) (Some block) Greater Less)
 
--- whether a variant has neither brackets nor fields
+-- Whether a variant has neither brackets nor fields.
 abbrev pub is_unit : Variant → Bool
 is_unit variant = not (has_brackets variant.fields.form) && (length (fields_in variant) == 0)
 
--- whether each variant is such a unit
+-- Whether each variant is such a unit.
 abbrev pub are_units : List Variant → Bool
 are_units variants = list_all is_unit variants
 
--- the block of an order of an enum: the key function, and what follows it
+-- The block of an order of an enum: the key function, and what follows it.
 pub record IsKeyed (which : Comparison) (definition : DeriveInput) (names : Names) (variants : List Variant) (block : List Form) : Type 0 where
   pub keys : Form
   pub keys_are : IsKeyFunction definition names keys
@@ -306,7 +306,7 @@ pub record IsKeyed (which : Comparison) (definition : DeriveInput) (names : Name
   pub decision_is : IsDecision which definition names variants compares (are_units variants) decision
   pub block_is : block ≡ keys ∷ decision ∷ []
 
--- the block of a comparison of an enum; without variants there is no value, and nothing is compared
+-- The block of a comparison of an enum; without variants there is no value, and nothing is compared.
 abbrev pub IsEnumBlock : Comparison → DeriveInput → Names → List Variant → List Form → Type 0
 IsEnumBlock which definition names [] block = block ≡ form.Known (neutral which) ∷ []
 IsEnumBlock PartialEq definition names (v ∷ vs) block = IsMatch PartialEq definition names (v ∷ vs) block

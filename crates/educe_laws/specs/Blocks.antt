@@ -55,21 +55,21 @@ use Rattle.educe_laws.specs.Steps.{Reading, of_base, AreSteps, IsInOrder}
 use Rattle.educe_laws.specs.Types.{checked_types}
 use Rattle.educe_laws.specs.Comparing.{neutral, HasShape, Covers, meaning}
 
--- the name is the one that is chosen for this one: it, behind the fewest `_` that make it no word of the input
+-- The name is the one that is chosen for this one: it, behind the fewest `_` that make it no word of the input.
 pub record IsParameter (definition : DeriveInput) (plain name : List ℕ) : Type 0 where
   pub count : ℕ
   pub is : name ≡ underscored count plain
   pub no_word : HasWord definition.tokens name → ⊥
   pub least : (fewer : ℕ) → fewer < count → HasWord definition.tokens (underscored fewer plain)
 
--- one step for each of these fields, and then what is answered where no step returned
+-- One step for each of these fields, and then what is answered where no step returned.
 pub record HasSteps (which : Comparison) (own others : Reading) (ordered : List Kept) (block : List Form) : Type 0 where
   pub steps : List Form
   pub steps_are : AreSteps which own others ordered steps
   pub block_is : block ≡ steps ++ form.Known (neutral which) ∷ []
 
--- the body of a comparison of a struct: its parameter has the chosen name, and its block has one step for each field that takes
--- part, in the order of the trait, which reads the field of `self` and of the parameter, in a packed struct by copies
+-- The body of a comparison of a struct: its parameter has the chosen name, and its block has one step for each field that takes
+-- part, in the order of the trait, which reads the field of `self` and of the parameter, in a packed struct by copies.
 pub record IsStructBody (which : Comparison) (definition : DeriveInput) (fields : List Field) (body : Body) : Type 0 where
   pub param : Word
   pub params_are : body.params ≡ param ∷ []
@@ -80,7 +80,7 @@ pub record IsStructBody (which : Comparison) (definition : DeriveInput) (fields 
   pub copied_are : AreCopied definition copied
   pub block_has : HasSteps which (of_base copied (codes "self")) (of_base copied param.text) ordered body.block
 
--- the body of a comparison of an enum
+-- The body of a comparison of an enum.
 pub record IsEnumBody (which : Comparison) (definition : DeriveInput) (variants : List Variant) (body : Body) : Type 0 where
   pub names : Names
   pub names_are : AreNames definition names
@@ -89,22 +89,22 @@ pub record IsEnumBody (which : Comparison) (definition : DeriveInput) (variants 
   pub param_is : param.text ≡ names.other
   pub block_is : IsEnumBlock which definition names variants body.block
 
--- the body of a comparison
+-- The body of a comparison.
 abbrev pub IsBodyFor : Comparison → DeriveInput → Shape → Body → Type 0
 IsBodyFor which definition (Struct shape) body = IsStructBody which definition shape.fields body
 IsBodyFor which definition (Enum variants) body = IsEnumBody which definition variants body
 
--- the same of the whole definition
+-- The same of the whole definition.
 abbrev pub IsBody : Comparison → DeriveInput → Body → Type 0
 IsBody which definition body = IsBodyFor which definition definition.shape body
 
--- the name of the one function of a comparison's trait
+-- The name of the one function of a comparison's trait.
 abbrev pub function_name : Comparison → List ℕ
 function_name PartialEq = codes "eq"
 function_name PartialOrd = codes "partial_cmp"
 function_name Ord = codes "cmp"
 
--- the functions of an impl: one of this name, whose body is as it is to be
+-- The functions of an impl: one of this name, whose body is as it is to be.
 pub record IsFunction (name : List ℕ) (IsRight : Body → Type 0) (functions : List Function) : Type 0 where
   pub own : Word
   pub body : Body
@@ -112,7 +112,7 @@ pub record IsFunction (name : List ℕ) (IsRight : Body → Type 0) (functions :
   pub name_is : own.text ≡ name
   pub body_is : IsRight body
 
--- an impl of a trait for the defined type, with the attributes of generated impls, the header of the trait, and its functions
+-- An impl of a trait for the defined type, with the attributes of generated impls, the header of the trait, and its functions.
 pub record IsImpl (which : Trait) (definition : DeriveInput) (AreFunctions : List Function → Type 0) (item : ImplItem) : Type 0 where
   pub which_is : item.which ≡ which
   pub attributes_are : written_lexemes item.attributes ≡ impl_attributes definition.attrs
@@ -120,17 +120,17 @@ pub record IsImpl (which : Trait) (definition : DeriveInput) (AreFunctions : Lis
   pub ident_is : item.ident ≡ definition.ident
   pub functions_are : AreFunctions item.functions
 
--- the items of a block: that impl, and nothing else
+-- The items of a block: that impl, and nothing else.
 pub record IsImplBlock (which : Trait) (definition : DeriveInput) (AreFunctions : List Function → Type 0) (items : List Item) : Type 0 where
   pub item : ImplItem
   pub are : items ≡ Impl item ∷ []
   pub impl_is : IsImpl which definition AreFunctions item
 
--- the block of a comparison: one impl with the one function of its trait
+-- The block of a comparison: one impl with the one function of its trait.
 abbrev pub IsComparisonBlock : Comparison → DeriveInput → List Item → Type 0
 IsComparisonBlock which definition items = IsImplBlock (trait_of which) definition (IsFunction (function_name which) (IsBody which definition)) items
 
--- the impl with no trait that holds `new`: it has the lint attributes and the generics of the impl of `Default`
+-- The impl with no trait that holds `new`: it has the lint attributes and the generics of the impl of `Default`.
 pub record IsNew (definition : DeriveInput) (generics : Generics) (item : ImplItem) : Type 0 where
   pub which_is : item.which ≡ trait.Default
   pub attributes_are : written_lexemes item.attributes ≡ lints definition.attrs
@@ -138,16 +138,16 @@ pub record IsNew (definition : DeriveInput) (generics : Generics) (item : ImplIt
   pub ident_is : item.ident ≡ definition.ident
   pub functions_are : IsFunction (codes "new") IsNewBody item.functions
 
--- with true that impl, and else nothing
+-- With true that impl, and else nothing.
 abbrev pub AreNew : Bool → DeriveInput → Generics → List Item → Type 0
 AreNew false definition generics items = items ≡ []
 AreNew true definition generics items = (item : ImplItem) × (items ≡ New item ∷ []) × IsNew definition generics item
 
--- the impl of `Default`: it has the one function `default`
+-- The impl of `Default`: it has the one function `default`.
 abbrev pub IsDefaultImpl : DeriveInput → ImplItem → Type 0
 IsDefaultImpl definition item = IsImpl trait.Default definition (IsFunction (codes "default") (IsDefaultBody definition)) item
 
--- the block of `Default`: that impl, and where the type says so the one that holds `new`
+-- The block of `Default`: that impl, and where the type says so the one that holds `new`.
 pub record IsDefaultBlock (definition : DeriveInput) (items : List Item) : Type 0 where
   pub item : ImplItem
   pub more : List Item
@@ -155,15 +155,15 @@ pub record IsDefaultBlock (definition : DeriveInput) (items : List Item) : Type 
   pub impl_is : IsDefaultImpl definition item
   pub more_are : AreNew (has_new definition) definition item.generics more
 
--- the block of `Hash`: one impl with the one function `hash`
+-- The block of `Hash`: one impl with the one function `hash`.
 abbrev pub IsHashBlock : DeriveInput → List Item → Type 0
 IsHashBlock definition items = IsImplBlock trait.Hash definition (IsFunction (codes "hash") (IsHashBody definition)) items
 
--- no functions
+-- No functions.
 abbrev pub AreNone : List Function → Type 0
 AreNone functions = functions ≡ []
 
--- whether the types of fields are checked: where the bound is the automatic one, and there are such types
+-- Whether the types of fields are checked: where the bound is the automatic one, and there are such types.
 abbrev pub has_check : Bound → List Ty → Bool
 has_check Disabled types = false
 has_check Auto [] = false
@@ -171,7 +171,7 @@ has_check Auto (t ∷ ts) = true
 has_check All types = false
 has_check (Custom predicates) types = false
 
--- the check of the types of fields, with the generics of the impl, and behind it the impl, and nothing else
+-- The check of the types of fields, with the generics of the impl, and behind it the impl, and nothing else.
 pub record IsCheckedBlock (definition : DeriveInput) (items : List Item) : Type 0 where
   pub check : CheckItem
   pub item : ImplItem
@@ -179,24 +179,24 @@ pub record IsCheckedBlock (definition : DeriveInput) (items : List Item) : Type 
   pub check_is : IsCheck definition item.generics (checked_types definition) check
   pub impl_is : IsImpl trait.Eq definition AreNone item
 
--- the items of the block of `Eq`: with true the check and the impl, and else the impl alone
+-- The items of the block of `Eq`: with true the check and the impl, and else the impl alone.
 abbrev pub IsEqBlockWith : Bool → DeriveInput → List Item → Type 0
 IsEqBlockWith true definition items = IsCheckedBlock definition items
 IsEqBlockWith false definition items = IsImplBlock trait.Eq definition AreNone items
 
--- the block of `Eq`: one impl, which has no functions, and before it the check, where types of fields are checked
+-- The block of `Eq`: one impl, which has no functions, and before it the check, where types of fields are checked.
 abbrev pub IsEqBlock : DeriveInput → List Item → Type 0
 IsEqBlock definition items = IsEqBlockWith (has_check (bound_for trait.Eq definition) (checked_types definition)) definition items
 
--- the block of `Copy`: one impl, which has no functions
+-- The block of `Copy`: one impl, which has no functions.
 abbrev pub IsCopyBlock : DeriveInput → List Item → Type 0
 IsCopyBlock definition items = IsImplBlock trait.Copy definition AreNone items
 
--- `clone` alone, which copies the value as a whole: `* self`
+-- `clone` alone, which copies the value as a whole: `* self`.
 abbrev pub AreCopying : List Function → Type 0
 AreCopying functions = IsFunction (codes "clone") (HasOneForm (λ x. x ≡ form.WholeCopy)) functions
 
--- `clone`, and `clone_from`
+-- `clone`, and `clone_from`.
 pub record AreCloning (definition : DeriveInput) (names : CloneNames) (functions : List Function) : Type 0 where
   pub first : List Function
   pub second : List Function
@@ -204,12 +204,12 @@ pub record AreCloning (definition : DeriveInput) (names : CloneNames) (functions
   pub clone_is : IsFunction (codes "clone") (IsCloneBody definition names) first
   pub clone_from_is : IsFunction (codes "clone_from") (IsFromBody definition names) second
 
--- the functions of the impl of `Clone`: with true, where values are copied as a whole, that one, and else both
+-- The functions of the impl of `Clone`: with true, where values are copied as a whole, that one, and else both.
 abbrev pub AreCloneFunctions : Bool → DeriveInput → CloneNames → List Function → Type 0
 AreCloneFunctions true definition names functions = AreCopying functions
 AreCloneFunctions false definition names functions = AreCloning definition names functions
 
--- the block of `Clone`: its impl, and behind it a marker for each field with a method
+-- The block of `Clone`: its impl, and behind it a marker for each field with a method.
 pub record IsCloneBlock (definition : DeriveInput) (items : List Item) : Type 0 where
   pub names : CloneNames
   pub names_are : AreCloneNames definition names
@@ -219,7 +219,7 @@ pub record IsCloneBlock (definition : DeriveInput) (items : List Item) : Type 0 
   pub impl_is : IsImpl trait.Clone definition (AreCloneFunctions (copies_whole definition) definition names) item
   pub markers_are : AreMarkers trait.Clone definition item.generics (names.function ∷ names.value ∷ []) (all_kept trait.Clone definition) markers
 
--- the block of `Debug`: its impl with the one function `fmt`, and behind it a marker for each field with a method that is shown
+-- The block of `Debug`: its impl with the one function `fmt`, and behind it a marker for each field with a method that is shown.
 pub record IsDebugBlock (definition : DeriveInput) (items : List Item) : Type 0 where
   pub names : DebugNames
   pub names_are : AreDebugNames definition names
@@ -229,7 +229,7 @@ pub record IsDebugBlock (definition : DeriveInput) (items : List Item) : Type 0 
   pub impl_is : IsImpl trait.Debug definition (IsFunction (codes "fmt") (IsDebugBody definition names)) item
   pub markers_are : AreMarkers trait.Debug definition item.generics (marker_names names) (all_shown definition) markers
 
--- the items of the block of a trait
+-- The items of the block of a trait.
 abbrev pub IsBlock : Trait → DeriveInput → List Item → Type 0
 IsBlock trait.Clone definition items = IsCloneBlock definition items
 IsBlock trait.Copy definition items = IsCopyBlock definition items
@@ -241,57 +241,57 @@ IsBlock trait.Hash definition items = IsHashBlock definition items
 IsBlock trait.Debug definition items = IsDebugBlock definition items
 IsBlock trait.Default definition items = IsDefaultBlock definition items
 
--- the blocks of these traits, one behind the other, and nothing else
+-- The blocks of these traits, one behind the other, and nothing else.
 abbrev pub Blocks : List Trait → DeriveInput → List Item → Type 0
 Blocks [] definition items = items ≡ []
 Blocks (which ∷ traits) definition items =
     (own : List Item) × (rest : List Item) × (items ≡ own ++ rest) × IsBlock which definition own × Blocks traits definition rest
 
--- one block for each listed trait, in the fixed order, and nothing else
+-- One block for each listed trait, in the fixed order, and nothing else.
 abbrev pub OneEach : DeriveInput → List Item → Type 0
 OneEach definition items = Blocks (listed_in_order definition) definition items
 
--- `self` is the first value, the parameter the second
+-- `self` is the first value, the parameter the second.
 abbrev pub scene_of : DeriveInput → Value → Value → Answers → Scene
 scene_of definition a b table = record { definition = definition; this = Some a; other = Some b; answers = table; field = None }
 
--- over each table and any two values that it covers, the function evaluates to what the comparison means
+-- Over each table and any two values that it covers, the function evaluates to what the comparison means.
 abbrev pub Compares : Comparison → DeriveInput → Body → Type 0
 Compares which definition body =
     (table : Answers) (a b : Value) → Covers which table definition a b → value body (scene_of definition a b table) ≡ meaning which table definition a b
 
--- `self` is the value, whatever the other one is
+-- `self` is the value, whatever the other one is.
 abbrev pub scene_with : DeriveInput → Value → Option Value → Answers → Scene
 scene_with definition a other table = record { definition = definition; this = Some a; other = other; answers = table; field = None }
 
--- over each table and any value that it covers, the function feeds what the value feeds to a hasher
+-- Over each table and any value that it covers, the function feeds what the value feeds to a hasher.
 abbrev pub Hashes : DeriveInput → Body → Type 0
 Hashes definition body =
     (table : Answers) (a : Value) (other : Option Value) → HashCovers table definition a → value body (scene_with definition a other table) ≡ Parts (hash_of table definition a)
 
--- over each table by which each of its calls makes a value, the function evaluates to what `clone` means of a value of the
--- definition's shape
+-- Over each table by which each of its calls makes a value, the function evaluates to what `clone` means of a value of the
+-- definition's shape.
 abbrev pub Clones : DeriveInput → Body → Type 0
 Clones definition body =
     (table : Answers) (a : Value) (other : Option Value) (outcome : Outcome) → HasShape definition a → clone_of table definition a ≡ Some outcome
     → value body (scene_with definition a other table) ≡ outcome
 
--- so it does to what `clone_from` means of two such values, where fields are read by copies or not
+-- So it does to what `clone_from` means of two such values, where fields are read by copies or not.
 abbrev pub ClonesFrom : DeriveInput → Body → Type 0
 ClonesFrom definition body =
     (table : Answers) (a b : Value) (copied : Bool) (outcome : Outcome) → AreCopied definition copied → HasShape definition a → HasShape definition b
     → clone_from_of table copied definition a b ≡ Some outcome → value body (scene_of definition a b table) ≡ outcome
 
--- over each table and any value of the definition's shape, the function shows what `fmt` shows of it
+-- Over each table and any value of the definition's shape, the function shows what `fmt` shows of it.
 abbrev pub Shows : DeriveInput → Body → Type 0
 Shows definition body =
     (table : Answers) (a : Value) (other : Option Value) → HasShape definition a → value body (scene_with definition a other table) ≡ outcome.Shape (shape_of definition a)
 
--- the function evaluates to what one of this name means, if it has this name
+-- The function evaluates to what one of this name means, if it has this name.
 abbrev pub MeansIfNamed : List ℕ → (Body → Type 0) → Function → Type 0
 MeansIfNamed name Means f = f.name.text ≡ name → Means f.body
 
--- the function evaluates to what the trait means by it; `Copy` and `Eq` have none
+-- The function evaluates to what the trait means by it; `Copy` and `Eq` have none.
 abbrev pub Evaluates : Trait → DeriveInput → Function → Type 0
 Evaluates trait.Clone definition f = MeansIfNamed (codes "clone") (Clones definition) f × MeansIfNamed (codes "clone_from") (ClonesFrom definition) f
 Evaluates trait.PartialEq definition f = Compares PartialEq definition f.body
@@ -302,16 +302,16 @@ Evaluates trait.Debug definition f = Shows definition f.body
 Evaluates trait.Default definition f = MakesDefault definition f.body
 Evaluates _ definition f = ⊥
 
--- each function of the item evaluates to what the item's trait means, or `new` to what the call of `default` makes; the functions of
--- checks and of markers are never called
+-- Each function of the item evaluates to what the item's trait means, or `new` to what the call of `default` makes; the functions of
+-- checks and of markers are never called.
 abbrev pub EachEvaluates : DeriveInput → Item → Type 0
 EachEvaluates definition (Impl item) = AllByRecursion (Evaluates item.which definition) item.functions
 EachEvaluates definition (New item) = AllByRecursion (λ f. MakesNew definition f.body) item.functions
 EachEvaluates definition (FieldCheck check) = Unit {0}
 EachEvaluates definition (Marker marker) = Unit {0}
 
--- where the bound of the item's trait is the automatic one, its own predicates suffice, and none of them can be dropped; checks and
--- markers have those of their impls
+-- Where the bound of the item's trait is the automatic one, its own predicates suffice, and none of them can be dropped; checks and
+-- markers have those of their impls.
 abbrev pub HasTightBounds : DeriveInput → Item → Type 0
 HasTightBounds definition (Impl item) = bound_for item.which definition ≡ Auto → AreTight item.which definition (keys_of item.generics.predicates)
 HasTightBounds definition (New item) = bound_for item.which definition ≡ Auto → AreTight item.which definition (keys_of item.generics.predicates)

@@ -9,37 +9,37 @@ use Rattle.educe_syntax.specs.Shape.TheVariants.{Struct, Enum}
 use Rattle.educe_syntax.specs.Variant.{Variant}
 use Rattle.educe_body_values.specs.declared.value.Value.{Value}
 
--- a struct, of any form
+-- A struct, of any form.
 abbrev pub is_struct : Shape → Bool
 is_struct (Struct shape) = true
 is_struct (Enum variants) = false
 
--- an enum
+-- An enum.
 abbrev pub is_enum : Shape → Bool
 is_enum (Struct shape) = false
 is_enum (Enum variants) = true
 
--- the fields of a variant, in written order
+-- The fields of a variant, in written order.
 abbrev pub fields_in : Variant → List Field
 fields_in variant = variant.fields.fields
 
--- the fields of each case: those of a struct, or those of each variant of an enum
+-- The fields of each case: those of a struct, or those of each variant of an enum.
 abbrev pub shape_cases : Shape → List (List Field)
 shape_cases (Struct shape) = shape.fields ∷ []
 shape_cases (Enum variants) = map fields_in variants
 
--- the fields of each case of a definition, in written order
+-- The fields of each case of a definition, in written order.
 abbrev pub cases_of : DeriveInput → List (List Field)
 cases_of definition = shape_cases definition.shape
 
--- the fields of the case of a value; none where the definition has no such case
+-- The fields of the case of a value; none where the definition has no such case.
 abbrev pub case_of : DeriveInput → Value → List Field
 case_of definition value = unwrap_or (slice_get (cases_of definition) value.variant) []
 
--- the attributes of each variant
+-- The attributes of each variant.
 abbrev pub variant_attributes : DeriveInput → List (List Attribute)
 variant_attributes definition = map (λ (v : Variant). v.attrs) (variants_of definition)
 
--- the attributes of each field, those of all variants together
+-- The attributes of each field, those of all variants together.
 abbrev pub field_attributes : DeriveInput → List (List Attribute)
 field_attributes definition = map (λ (f : Field). f.attrs) (all_fields definition)

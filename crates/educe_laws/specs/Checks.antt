@@ -17,18 +17,18 @@ use Rattle.educe_laws.specs.Arms.{AreChosenFor}
 
 -- ---- names
 
--- the names that a check declares, as they are written where nothing is in their way: its function, the inner one, and the
--- parameter of that
+-- The names that a check declares, as they are written where nothing is in their way: its function, the inner one, and the
+-- parameter of that.
 abbrev pub plain_names : List (List ℕ)
 plain_names = codes "__educe_eq_fields" ∷ codes "__educe_assert_eq" ∷ codes "T" ∷ []
 
--- the texts of words
+-- The texts of words.
 abbrev pub texts_of : List Word → List (List ℕ)
 texts_of words = map (λ (w : Word). w.text) words
 
 -- ---- in place of `Self`
 
--- the name of the definition with its parameters as arguments, at no place
+-- The name of the definition with its parameters as arguments, at no place.
 pub record IsHeadFor (definition : DeriveInput) (head : Tokens) : Type 0 where
   pub is : lexemes head ≡ head_for definition
   pub nowhere : LieNowhere head

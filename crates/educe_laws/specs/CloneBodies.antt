@@ -29,8 +29,8 @@ use Rattle.educe_laws.specs.Steps.{Reading, of_base, bound, IsRead, IsCalled}
 
 -- ---- names
 
--- the names that the block declares: the parameter of `clone_from`; the function of a marker, and its parameter; the prefix of the
--- variables for the fields that are read; and that of the variables for the fields of `self` in `clone_from`
+-- The names that the block declares: the parameter of `clone_from`; the function of a marker, and its parameter; the prefix of the
+-- variables for the fields that are read; and that of the variables for the fields of `self` in `clone_from`.
 pub record CloneNames : Type 0 where
   pub source : List ℕ
   pub function : List ℕ
@@ -38,15 +38,15 @@ pub record CloneNames : Type 0 where
   pub sources : List ℕ
   pub own : List ℕ
 
--- the names among them, as they are written where nothing is in their way
+-- The names among them, as they are written where nothing is in their way.
 abbrev pub plain_clone_names : List (List ℕ)
 plain_clone_names = codes "source" ∷ codes "__educe_clone_method_used" ∷ codes "educe__value" ∷ []
 
--- the names that are chosen for these
+-- The names that are chosen for these.
 abbrev pub chosen_clone_names : CloneNames → List (List ℕ)
 chosen_clone_names names = names.source ∷ names.function ∷ names.value ∷ []
 
--- the names are chosen in this order; the prefixes are chosen apart from the words of the definition and from the first of the names
+-- The names are chosen in this order; the prefixes are chosen apart from the words of the definition and from the first of the names.
 pub record AreCloneNames (definition : DeriveInput) (names : CloneNames) : Type 0 where
   pub are : AreChosenFor definition plain_clone_names (chosen_clone_names names)
   pub sources_are : IsPrefix (are.words ++ names.source ∷ []) (codes "_s_") names.sources
@@ -54,7 +54,7 @@ pub record AreCloneNames (definition : DeriveInput) (names : CloneNames) : Type 
 
 -- ---- `clone`
 
--- the initializer of a field: its key, and a call of `Clone::clone`, or of its method, on the field, which is read so
+-- The initializer of a field: its key, and a call of `Clone::clone`, or of its method, on the field, which is read so.
 pub record IsCloneInit (reading : Reading) (kept : Kept) (init : Init) : Type 0 where
   pub key_is : IsKey kept.field.ident init.key
   pub path : ExprPath
@@ -63,7 +63,7 @@ pub record IsCloneInit (reading : Reading) (kept : Kept) (init : Init) : Type 0 
   pub own_is : IsRead reading kept own
   pub is : init.value ≡ Call path (own ∷ [])
 
--- `Self`, or with a name that variant of it, with one initializer for each field, in written order
+-- `Self`, or with a name that variant of it, with one initializer for each field, in written order.
 pub record IsCloneConstruct (definition : DeriveInput) (reading : Reading) (name : Option (List ℕ)) (shape : FieldShape) (x : Form) : Type 0 where
   pub variant : Option Ident
   pub variant_is : option_map (λ (ident : Ident). ident.text) variant ≡ name
@@ -71,7 +71,7 @@ pub record IsCloneConstruct (definition : DeriveInput) (reading : Reading) (name
   pub is : x ≡ Construct variant shape.form inits
   pub inits_are : AllZip (IsCloneInit reading) (kept_fields trait.Clone definition shape.fields) inits
 
--- the block of `clone` for a struct: it reads the fields of `self`, in a packed struct by copies
+-- The block of `clone` for a struct: it reads the fields of `self`, in a packed struct by copies.
 pub record IsCloneStruct (definition : DeriveInput) (shape : FieldShape) (block : List Form) : Type 0 where
   pub copied : Bool
   pub copied_are : AreCopied definition copied
@@ -79,7 +79,7 @@ pub record IsCloneStruct (definition : DeriveInput) (shape : FieldShape) (block 
   pub form_is : IsCloneConstruct definition (of_base copied (codes "self")) None shape form
   pub block_is : block ≡ form ∷ []
 
--- the arm of a variant in `clone`: the variant, of its variables, without braces and with a comma behind it
+-- The arm of a variant in `clone`: the variant, of its variables, without braces and with a comma behind it.
 pub record IsCloneArm (definition : DeriveInput) (names : CloneNames) (variant : Variant) (arm : Arm) : Type 0 where
   pub spelled : IsSpelled false true arm
   pub pattern_is : IsPattern trait.Clone definition names.sources variant arm.pattern
@@ -87,35 +87,35 @@ pub record IsCloneArm (definition : DeriveInput) (names : CloneNames) (variant :
   pub form_is : IsCloneConstruct definition (bound names.sources) (Some variant.ident.text) variant.fields form
   pub block_is : arm.block ≡ form ∷ []
 
--- the block of `clone` for an enum; without variants there is no value
+-- The block of `clone` for an enum; without variants there is no value.
 abbrev pub IsCloneEnum : DeriveInput → CloneNames → List Variant → List Form → Type 0
 IsCloneEnum definition names [] block = block ≡ Unreachable ∷ []
 IsCloneEnum definition names (v ∷ vs) block = IsMatchOnSelf (IsCloneArm definition names) (v ∷ vs) block
 
--- the block of `clone` for what stands behind the name of a definition
+-- The block of `clone` for what stands behind the name of a definition.
 abbrev pub IsCloneBlockFor : DeriveInput → CloneNames → Shape → List Form → Type 0
 IsCloneBlockFor definition names (Struct shape) block = IsCloneStruct definition shape block
 IsCloneBlockFor definition names (Enum variants) block = IsCloneEnum definition names variants block
 
--- the body of `clone`
+-- The body of `clone`.
 pub record IsCloneBody (definition : DeriveInput) (names : CloneNames) (body : Body) : Type 0 where
   pub params_are : body.params ≡ []
   pub block_is : IsCloneBlockFor definition names definition.shape body.block
 
 -- ---- `clone_from`
 
--- whether a call is handed the field that it changes: without a method, and where fields are not read by copies
+-- Whether a call is handed the field that it changes: without a method, and where fields are not read by copies.
 abbrev pub hands_over : Bool → How → Bool
 hands_over copied plainly = not copied
 hands_over copied (by_method path) = false
 hands_over copied (by_order path) = false
 
--- the function that is called without a method
+-- The function that is called without a method.
 abbrev pub assigning : Bool → BuiltIn
 assigning false = CloneFrom
 assigning true = Clone
 
--- the step on a field of a struct: it changes the field of `self`, and reads that of the source, in a packed struct by a copy
+-- The step on a field of a struct: it changes the field of `self`, and reads that of the source, in a packed struct by a copy.
 pub record IsAssignment (copied : Bool) (source : List ℕ) (kept : Kept) (x : Form) : Type 0 where
   pub key : Word
   pub key_is : key.text ≡ key_of kept.place kept.field
@@ -125,24 +125,24 @@ pub record IsAssignment (copied : Bool) (source : List ℕ) (kept : Kept) (x : F
   pub read_is : IsRead (of_base copied source) kept read
   pub is : x ≡ AssignField key path read (hands_over copied kept.how)
 
--- `let _ = source ;`
+-- `let _ = source ;`.
 pub record IsDiscard (source : List ℕ) (block : List Form) : Type 0 where
   pub name : Ident
   pub name_is : IsName source name
   pub block_is : block ≡ Discard name ∷ []
 
--- one step for each field, in written order; without fields the source is discarded
+-- One step for each field, in written order; without fields the source is discarded.
 abbrev pub AreAssignments : Bool → List ℕ → List Kept → List Form → Type 0
 AreAssignments copied source [] block = IsDiscard source block
 AreAssignments copied source (k ∷ ks) block = AllZip (IsAssignment copied source) (k ∷ ks) block
 
--- the block of `clone_from` for a struct
+-- The block of `clone_from` for a struct.
 pub record IsFromStruct (definition : DeriveInput) (names : CloneNames) (shape : FieldShape) (block : List Form) : Type 0 where
   pub copied : Bool
   pub copied_are : AreCopied definition copied
   pub steps_are : AreAssignments copied names.source (kept_fields trait.Clone definition shape.fields) block
 
--- the step on a field of a variant: it changes what its variable for `self` stands for, and reads that for the source
+-- The step on a field of a variant: it changes what its variable for `self` stands for, and reads that for the source.
 pub record IsThrough (names : CloneNames) (kept : Kept) (x : Form) : Type 0 where
   pub target : Ident
   pub target_is : IsName (names.own ++ binding_key kept.place kept.field) target
@@ -152,7 +152,7 @@ pub record IsThrough (names : CloneNames) (kept : Kept) (x : Form) : Type 0 wher
   pub read_is : IsRead (bound names.sources) kept read
   pub is : x ≡ AssignThrough target path read (hands_over false kept.how)
 
--- `* self = :: core :: clone :: Clone :: clone ( source ) ;`
+-- `* self = :: core :: clone :: Clone :: clone ( source ) ;`.
 pub record IsWhole (source : List ℕ) (x : Form) : Type 0 where
   pub target : Ident
   pub target_is : IsName (codes "self") target
@@ -162,8 +162,8 @@ pub record IsWhole (source : List ℕ) (x : Form) : Type 0 where
   pub name_is : IsName source name
   pub is : x ≡ AssignThrough target path (Local name) false
 
--- the arm of a variant in `clone_from`: if the source is of this variant, one step for each field, in written order; else `self`
--- becomes a clone of the source as a whole; it has braces and a comma
+-- The arm of a variant in `clone_from`: if the source is of this variant, one step for each field, in written order; else `self`
+-- becomes a clone of the source as a whole; it has braces and a comma.
 pub record IsFromArm (definition : DeriveInput) (names : CloneNames) (variant : Variant) (arm : Arm) : Type 0 where
   pub spelled : IsSpelled true true arm
   pub own_is : IsPattern trait.Clone definition names.own variant arm.pattern
@@ -177,17 +177,17 @@ pub record IsFromArm (definition : DeriveInput) (names : CloneNames) (variant : 
   pub whole_is : IsWhole names.source whole
   pub block_is : arm.block ≡ IfLet inner value steps (Some (whole ∷ [])) ∷ []
 
--- the block of `clone_from` for an enum; without variants there is no value
+-- The block of `clone_from` for an enum; without variants there is no value.
 abbrev pub IsFromEnum : DeriveInput → CloneNames → List Variant → List Form → Type 0
 IsFromEnum definition names [] block = IsDiscard names.source block
 IsFromEnum definition names (v ∷ vs) block = IsMatchOnSelf (IsFromArm definition names) (v ∷ vs) block
 
--- the block of `clone_from` for what stands behind the name of a definition
+-- The block of `clone_from` for what stands behind the name of a definition.
 abbrev pub IsFromBlockFor : DeriveInput → CloneNames → Shape → List Form → Type 0
 IsFromBlockFor definition names (Struct shape) block = IsFromStruct definition names shape block
 IsFromBlockFor definition names (Enum variants) block = IsFromEnum definition names variants block
 
--- the body of `clone_from`: its parameter has the chosen name
+-- The body of `clone_from`: its parameter has the chosen name.
 pub record IsFromBody (definition : DeriveInput) (names : CloneNames) (body : Body) : Type 0 where
   pub param : Word
   pub params_are : body.params ≡ param ∷ []

@@ -18,19 +18,19 @@ use Rattle.educe_laws.specs.Settings.{is_kept}
 
 -- What holds of the blocks of `Clone` and of `Copy`.
 pub record CloneLaws : Type 0 where
-  -- where no field of a definition says something wrong of `Clone`, each takes part
+  -- Where no field of a definition says something wrong of `Clone`, each takes part.
   pub kept : (definition : DeriveInput) → HaveNoCauses Clone (field_row Clone) (listed definition) (all_fields definition)
       → AllByRecursion (λ field. is_kept Clone definition field ≡ true) (all_fields definition)
-  -- of the names in the scope of an arm of an enum's `clone_from` no two are the same, and none but `self` is a word of the input:
-  -- `self`, the source, and the variables of the variant's fields; so it is of those in the scope of a struct's function
+  -- Of the names in the scope of an arm of an enum's `clone_from` no two are the same, and none but `self` is a word of the input:
+  -- `self`, the source, and the variables of the variant's fields; so it is of those in the scope of a struct's function.
   pub arm_scope : (definition : DeriveInput) (names : CloneNames) (fields : List Field) → AreCloneNames definition names → AreApart (field_names fields)
       → length fields ≤ 2 ^ 64
       → AreScoped definition (names.source ∷ variables names.own Clone definition fields ++ variables names.sources Clone definition fields)
-  -- the function of a marker and its parameter have two names, and neither is a word of the input
+  -- The function of a marker and its parameter have two names, and neither is a word of the input.
   pub marker_scope : (definition : DeriveInput) (names : CloneNames) → AreCloneNames definition names → AreScoped definition (names.function ∷ names.value ∷ [])
-  -- where no field says something wrong of `Clone`, the functions of its block evaluate to what they mean
+  -- Where no field says something wrong of `Clone`, the functions of its block evaluate to what they mean.
   pub evaluates : (definition : DeriveInput) (items : List Item) → IsDefinition definition.tokens definition → length definition.tokens ≤ 2 ^ 64
       → HaveNoCauses Clone (field_row Clone) (listed definition) (all_fields definition)
       → IsCloneBlock definition items → AllByRecursion (EachEvaluates definition) items
-  -- the block of `Copy` has no function
+  -- The block of `Copy` has no function.
   pub copy_evaluates : (definition : DeriveInput) (items : List Item) → IsCopyBlock definition items → AllByRecursion (EachEvaluates definition) items

@@ -34,14 +34,14 @@ use Rattle.educe_laws.specs.Settings.{Kept, How, plainly, by_method, by_order, i
 
 -- ---- values that have the shape of a definition
 
--- one value for each of these fields, of its type's place among all fields
+-- One value for each of these fields, of its type's place among all fields.
 abbrev pub HaveTypes : List Field → List Field → List FieldValue → Type 0
 HaveTypes all [] [] = Unit {0}
 HaveTypes all [] (x ∷ xs) = ⊥
 HaveTypes all (f ∷ fs) [] = ⊥
 HaveTypes all (f ∷ fs) (x ∷ xs) = (x.ty ≡ first_place all (type_spellings f)) × HaveTypes all fs xs
 
--- the case of the value exists, and the value has a value of its type for each of its fields
+-- The case of the value exists, and the value has a value of its type for each of its fields.
 pub record HasShape (definition : DeriveInput) (value : Value) : Type 0 where
   pub fields : List Field
   pub exists : slice_get (cases_of definition) value.variant ≡ Some fields
@@ -49,13 +49,13 @@ pub record HasShape (definition : DeriveInput) (value : Value) : Type 0 where
 
 -- ---- what a field says
 
--- a field that takes part, with its values in two values
+-- A field that takes part, with its values in two values.
 pub record Compared : Type 0 where
   pub kept : Kept
   pub first : FieldValue
   pub second : FieldValue
 
--- those that take part among fields of which the first has this place, with their values, in written order
+-- Those that take part among fields of which the first has this place, with their values, in written order.
 abbrev pub paired_from : Trait → DeriveInput → ℕ → List Field → List FieldValue → List FieldValue → List Compared
 paired_from which definition place [] xs ys = []
 paired_from which definition place (f ∷ fs) [] ys = []
@@ -64,48 +64,48 @@ paired_from which definition place (f ∷ fs) (x ∷ xs) (y ∷ ys) =
     if is_kept which definition f then record { kept = kept_at which definition place f; first = x; second = y } ∷ paired_from which definition (place + 1) fs xs ys
     else paired_from which definition (place + 1) fs xs ys
 
--- the fields that take part in what a trait does with two values of one case, with their values
+-- The fields that take part in what a trait does with two values of one case, with their values.
 abbrev pub paired : Trait → DeriveInput → Value → Value → List Compared
 paired which definition a b = paired_from which definition 0 (case_of definition a) a.fields b.fields
 
--- those that take part in a comparison
+-- Those that take part in a comparison.
 abbrev pub compared : Comparison → DeriveInput → Value → Value → List Compared
 compared which definition a b = paired (trait_of which) definition a b
 
--- the function of the core library by which a trait compares two values of a field
+-- The function of the core library by which a trait compares two values of a field.
 abbrev pub comparison : Comparison → BuiltIn
 comparison PartialEq = Ne
 comparison PartialOrd = PartialCmp
 comparison Ord = Cmp
 
--- what is called on a field: this function of the core library, or the method
+-- What is called on a field: this function of the core library, or the method.
 abbrev pub asked : BuiltIn → How → Callee
 asked function plainly = as_callee function
 asked function (by_method path) = callee_of path
 asked function (by_order path) = callee_of path
 
--- whether an answer means that two values are equal; with true, the answer is negated
+-- Whether an answer means that two values are equal; with true, the answer is negated.
 abbrev pub said_truth : Bool → Option Answer → Option Known
 said_truth opposite (Some (AnswerTruth b)) = Some (Truth (if opposite then not b else b))
 said_truth opposite answer = None
 
--- the order that is answered
+-- The order that is answered.
 abbrev pub said_order : Option Answer → Option Known
 said_order (Some (AnswerOrder o)) = Some (Order o)
 said_order answer = None
 
--- the partial order that is answered
+-- The partial order that is answered.
 abbrev pub said_partial_order : Option Answer → Option Known
 said_partial_order (Some (AnswerPartialOrder p)) = Some (PartialOrder p)
 said_partial_order answer = None
 
--- the order that is answered, in `Some`
+-- The order that is answered, in `Some`.
 abbrev pub said_in_some : Option Answer → Option Known
 said_in_some (Some (AnswerOrder o)) = Some (PartialOrder (Some o))
 said_in_some answer = None
 
--- what a field says by an answer: to `PartialEq` the opposite of what `ne` answers, or what its method does; to `Ord` the order
--- that is answered; to `PartialOrd` the partial order, or in `Some` the order that a method of `Ord` answers
+-- What a field says by an answer: to `PartialEq` the opposite of what `ne` answers, or what its method does; to `Ord` the order
+-- that is answered; to `PartialOrd` the partial order, or in `Some` the order that a method of `Ord` answers.
 abbrev pub said : Comparison → How → Option Answer → Option Known
 said PartialEq plainly answer = said_truth true answer
 said PartialEq (by_method path) answer = said_truth false answer
@@ -115,12 +115,12 @@ said PartialOrd (by_method path) answer = said_partial_order answer
 said PartialOrd (by_order path) answer = said_in_some answer
 said Ord how answer = said_order answer
 
--- what a field says to a trait, if it says something
+-- What a field says to a trait, if it says something.
 abbrev pub says : Comparison → Answers → Compared → Option Known
 says which table c = said which c.kept.how (answer_of table (asked (comparison which) c.kept.how) (Some c.first) (Some c.second))
 
--- both values have the definition's shape; where they are of one case, by the table each field that takes part says something;
--- and for an order, by the table the variants have discriminants, which are numbers of their type and differ
+-- Both values have the definition's shape; where they are of one case, by the table each field that takes part says something;
+-- and for an order, by the table the variants have discriminants, which are numbers of their type and differ.
 pub record Covers (which : Comparison) (table : Answers) (definition : DeriveInput) (a b : Value) : Type 0 where
   pub first : HasShape definition a
   pub second : HasShape definition b
@@ -129,17 +129,17 @@ pub record Covers (which : Comparison) (table : Answers) (definition : DeriveInp
 
 -- ---- what a derived function means
 
--- the result where no field differs
+-- The result where no field differs.
 abbrev pub neutral : Comparison → Known
 neutral PartialEq = Truth true
 neutral PartialOrd = PartialOrder (Some Equal)
 neutral Ord = Order Equal
 
--- what a field says, or `neutral` where it says nothing
+-- What a field says, or `neutral` where it says nothing.
 abbrev pub word_of : Comparison → Answers → Compared → Known
 word_of which table c = unwrap_or (says which table c) (neutral which)
 
--- whether what is said means that the two values differ
+-- Whether what is said means that the two values differ.
 abbrev pub is_apart : Known → Bool
 is_apart (Truth b) = not b
 is_apart (Order Less) = true
@@ -150,65 +150,65 @@ is_apart (PartialOrder (Some Less)) = true
 is_apart (PartialOrder (Some Equal)) = false
 is_apart (PartialOrder (Some Greater)) = true
 
--- whether a field's two values differ, by what it says
+-- Whether a field's two values differ, by what it says.
 abbrev pub differs : Comparison → Answers → Compared → Bool
 differs which table c = is_apart (word_of which table c)
 
--- whether it is said that two values are equal
+-- Whether it is said that two values are equal.
 abbrev pub says_true : Option Known → Bool
 says_true None = false
 says_true (Some (Truth b)) = b
 says_true (Some (Order o)) = false
 says_true (Some (PartialOrder p)) = false
 
--- every field that takes part is equal in both
+-- Every field that takes part is equal in both.
 abbrev pub equal : Answers → List Compared → Bool
 equal table cs = list_all (λ c. says_true (says PartialEq table c)) cs
 
--- the field that decides: of those whose values differ the one of least rank
+-- The field that decides: of those whose values differ the one of least rank.
 abbrev pub deciding : Comparison → Answers → List Compared → Option Compared
 deciding which table cs = least_by (λ c. c.kept.rank) (filter (differs which table) cs)
 
--- what the deciding field says, or `neutral` without one
+-- What the deciding field says, or `neutral` without one.
 abbrev pub answered : Comparison → Answers → Option Compared → Known
 answered which table None = neutral which
 answered which table (Some c) = word_of which table c
 
--- the order, or partial order, of two values of one case: what the field says that decides
+-- The order, or partial order, of two values of one case: what the field says that decides.
 abbrev pub order : Comparison → Answers → List Compared → Known
 order which table cs = answered which table (deciding which table cs)
 
--- the order of two discriminants, where there are such
+-- The order of two discriminants, where there are such.
 abbrev pub number_order : Option ℤ → Option ℤ → Ordering
 number_order None n = Equal
 number_order (Some m) None = Equal
 number_order (Some m) (Some n) = int_cmp m n
 
--- an order as the answer of a comparison; `partial_cmp` has it in `Some`
+-- An order as the answer of a comparison; `partial_cmp` has it in `Some`.
 abbrev pub as_answer : Comparison → Ordering → Known
 as_answer PartialEq o = Truth true
 as_answer PartialOrd o = PartialOrder (Some o)
 as_answer Ord o = Order o
 
--- the order of the discriminants, or where that is Equal what else is answered
+-- The order of the discriminants, or where that is Equal what else is answered.
 abbrev pub discriminants_first : Comparison → Ordering → Known → Known
 discriminants_first which Less answer = as_answer which Less
 discriminants_first which Equal answer = answer
 discriminants_first which Greater answer = as_answer which Greater
 
--- the order of the discriminants of two values where these differ, or else that of their fields
+-- The order of the discriminants of two values where these differ, or else that of their fields.
 abbrev pub whole_order : Comparison → Answers → DeriveInput → Value → Value → Known
 whole_order which table definition a b =
     discriminants_first which (number_order (discriminant_of table definition a) (discriminant_of table definition b)) (order which table (compared which definition a b))
 
--- an answer as what a function evaluates to
+-- An answer as what a function evaluates to.
 abbrev pub outcome : Known → Outcome
 outcome (Truth b) = OutcomeTruth b
 outcome (Order o) = OutcomeOrder o
 outcome (PartialOrder p) = OutcomePartialOrder p
 
--- what the function of a trait means of two values: whether they are of one case and every field that takes part is equal in
--- both; or their order
+-- What the function of a trait means of two values: whether they are of one case and every field that takes part is equal in
+-- both; or their order.
 abbrev pub meaning : Comparison → Answers → DeriveInput → Value → Value → Outcome
 meaning PartialEq table definition a b = OutcomeTruth ((a.variant == b.variant) && equal table (compared PartialEq definition a b))
 meaning PartialOrd table definition a b = outcome (whole_order PartialOrd table definition a b)

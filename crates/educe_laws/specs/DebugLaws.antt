@@ -12,14 +12,14 @@ use Rattle.educe_laws.specs.ShownBodies.{DebugNames, AreDebugNames, chosen_fmt_n
 
 -- What holds of the block of `Debug`.
 pub record DebugLaws : Type 0 where
-  -- of the names in the scope of a struct's function no two are the same, and none but `self` is a word of the input: `self`, and
-  -- those that `fmt` declares
+  -- Of the names in the scope of a struct's function no two are the same, and none but `self` is a word of the input: `self`, and
+  -- those that `fmt` declares.
   pub scope : (definition : DeriveInput) (names : DebugNames) → AreDebugNames definition names → AreScoped definition (chosen_fmt_names names)
-  -- so it is of those in the scope of an arm of an enum's function: these, and the variables of the variant's fields that are shown
+  -- So it is of those in the scope of an arm of an enum's function: these, and the variables of the variant's fields that are shown.
   pub arm_scope : (definition : DeriveInput) (names : DebugNames) (case : ShownCase) → AreDebugNames definition names → AreApart (field_names case.fields)
       → length case.fields ≤ 2 ^ 64 → AreScoped definition (chosen_fmt_names names ++ variables_for names.prefix (shown_fields definition case))
-  -- the function of a marker and its two parameters have three names, and none is a word of the input
+  -- The function of a marker and its two parameters have three names, and none is a word of the input.
   pub marker_scope : (definition : DeriveInput) (names : DebugNames) → AreDebugNames definition names → AreScoped definition (marker_names names)
-  -- where no field says something wrong of `Debug`, the function of its block shows what `fmt` shows of a value
+  -- Where no field says something wrong of `Debug`, the function of its block shows what `fmt` shows of a value.
   pub evaluates : (definition : DeriveInput) (items : List Item) → IsDefinition definition.tokens definition → length definition.tokens ≤ 2 ^ 64
       → AreCasesRead definition → IsDebugBlock definition items → AllByRecursion (EachEvaluates definition) items

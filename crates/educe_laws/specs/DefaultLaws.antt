@@ -8,7 +8,7 @@ use Rattle.educe_laws.specs.Blocks.{IsDefaultBlock, EachEvaluates}
 
 -- What holds of the block of `Default`.
 pub record DefaultLaws : Type 0 where
-  -- over each table by which each of its calls makes a value, `default` evaluates to the value that the attributes determine, and
-  -- `new` to what the call of `default` makes
+  -- Over each table by which each of its calls makes a value, `default` evaluates to the value that the attributes determine, and
+  -- `new` to what the call of `default` makes.
   pub evaluates : (definition : DeriveInput) (items : List Item) → IsDefinition definition.tokens definition → IsDefaultBlock definition items
       → AllByRecursion (EachEvaluates definition) items

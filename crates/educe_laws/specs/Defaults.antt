@@ -28,57 +28,58 @@ use Rattle.educe_laws.specs.Settings.{type_settings, AreSettings}
 
 -- ---- the forms of the attribute
 
--- at a variant the trait alone, which marks it, where the type has no value of its own; else nothing
+-- At a variant the trait alone, which marks it, where the type has no value of its own; else nothing.
 abbrev pub mark_row : Bool → Row
 mark_row bare = default.type_row (record { enable_flag = bare; enable_new = false; enable_expression = false; enable_bound = false })
 
--- at a field that `default` writes: its value, also behind `=`; at any other nothing
+-- At a field that `default` writes: its value, also behind `=`; at any other nothing.
 abbrev pub value_row : Bool → Row
 value_row written = default.field_row (record { enable_flag = false; enable_expression = written })
 
 -- ---- what is said
 
--- what the attributes of the type say
+-- What the attributes of the type say.
 abbrev pub type_values : DeriveInput → Values
 type_values definition = type_settings Default definition
 
--- the type has no value of its own, so that fields are written
+-- The type has no value of its own, so that fields are written.
 abbrev pub is_open : DeriveInput → Bool
 is_open definition = is_none (type_values definition).expression
 
--- what the attributes of a variant say
+-- What the attributes of a variant say.
 abbrev pub mark_values : DeriveInput → Variant → Values
 mark_values definition variant = place_settings Default (mark_row (is_open definition)) (listed definition) variant.attrs
 
--- the variant is marked
+-- The variant is marked.
 abbrev pub is_marked : DeriveInput → Variant → Bool
 is_marked definition variant = (mark_values definition variant).flag
 
--- there is one, and only one
+-- There is one, and only one.
 abbrev pub is_one : {X : Type 0} → List X → Bool
 is_one [] = false
 is_one (x ∷ []) = true
 is_one (x ∷ y ∷ more) = false
 
--- `default` writes the fields of a variant: where the type has no value of its own, and the variant is the only one of these or is marked
+-- `default` writes the fields of a variant: where the type has no value of its own, and the variant is the only one of these or is marked.
 abbrev pub is_written : DeriveInput → List Variant → Variant → Bool
 is_written definition variants variant = is_open definition && (is_one variants || is_marked definition variant)
 
--- the value that the attributes of a field say, if `default` writes it or not
+-- The value that the attributes of a field say, if `default` writes it or not.
 abbrev pub value_at : Bool → DeriveInput → Field → Option Expr
 value_at written definition field = (settings_at Default (value_row written) (listed definition) field).values.expression
 
--- each of these fields has the settings that its attributes say, where `default` writes them or does not
+-- Each of these fields has the settings that its attributes say, where `default` writes them or does not.
 abbrev pub AreFieldsSaid : Bool → DeriveInput → List Field → Type 0
 AreFieldsSaid written definition fields =
     AllByRecursion (λ (field : Field). IsFieldSaid Default (value_row written) (listed definition) field.attrs (settings_at Default (value_row written) (listed definition) field)) fields
 
--- so it is of the fields of a struct, or of each variant
+-- So it is of the fields of a struct, or of each variant.
 abbrev pub AreShapeSaid : DeriveInput → Shape → Type 0
 AreShapeSaid definition (Struct shape) = AreFieldsSaid (is_open definition) definition shape.fields
 AreShapeSaid definition (Enum variants) = AllByRecursion (λ variant. AreFieldsSaid (is_written definition variants variant) definition (fields_in variant)) variants
 
--- The settings of the type, of each variant and of each field are what their attributes say of `Default`, by the forms that are allowed there.
+-- The settings of the type, of each variant and of each field are what their attributes say of `Default`, by the forms
+-- that are allowed there.
 pub record AreDefaultsSaid (definition : DeriveInput) : Type 0 where
   pub type_said : IsSaid Default (type_row Default definition) definition.attrs (type_values definition)
   pub variants_said : AllByRecursion (λ (variant : Variant). IsSaid Default (mark_row (is_open definition)) variant.attrs (mark_values definition variant)) (variants_of definition)
@@ -86,96 +87,96 @@ pub record AreDefaultsSaid (definition : DeriveInput) : Type 0 where
 
 -- ---- which value is made
 
--- the value that the type says for itself; a struct, with its fields; or the variant at a place
+-- The value that the type says for itself; a struct, with its fields; or the variant at a place.
 pub data Choice : Type 0 where
   by_value : Expr → Choice
   of_struct : FieldShape → Choice
   of_variant : ℕ → Variant → Choice
 
--- the variants that are marked, of those that begin at a place, with their places
+-- The variants that are marked, of those that begin at a place, with their places.
 abbrev pub marked_from : DeriveInput → ℕ → List Variant → List (ℕ × Variant)
 marked_from definition place [] = []
 marked_from definition place (v ∷ vs) =
     if is_marked definition v then (place, v) ∷ marked_from definition (place + 1) vs else marked_from definition (place + 1) vs
 
--- the one that is marked; none where none is, or two are
+-- The one that is marked; none where none is, or two are.
 abbrev pub only_one : List (ℕ × Variant) → Option Choice
 only_one [] = None
 only_one (found ∷ []) = Some (of_variant found.0 found.1)
 only_one (found ∷ other ∷ more) = None
 
--- the only variant, or else the one that is marked
+-- The only variant, or else the one that is marked.
 abbrev pub chosen_variant : DeriveInput → List Variant → Option Choice
 chosen_variant definition [] = None
 chosen_variant definition (v ∷ []) = Some (of_variant 0 v)
 chosen_variant definition (v ∷ w ∷ more) = only_one (marked_from definition 0 (v ∷ w ∷ more))
 
--- by the value that the type says for itself
+-- By the value that the type says for itself.
 abbrev pub choice_by : DeriveInput → Option Expr → Shape → Option Choice
 choice_by definition (Some value) shape = Some (by_value value)
 choice_by definition None (Struct shape) = Some (of_struct shape)
 choice_by definition None (Enum variants) = chosen_variant definition variants
 
--- what `default` makes, where that is determined
+-- What `default` makes, where that is determined.
 abbrev pub choice_of : DeriveInput → Option Choice
 choice_of definition = choice_by definition (type_values definition).expression definition.shape
 
--- the fields that `default` writes
+-- The fields that `default` writes.
 abbrev pub written_fields : Option Choice → List Field
 written_fields None = []
 written_fields (Some (by_value value)) = []
 written_fields (Some (of_struct shape)) = shape.fields
 written_fields (Some (of_variant place variant)) = fields_in variant
 
--- the value that the attributes of a field say that `default` writes
+-- The value that the attributes of a field say that `default` writes.
 abbrev pub field_value : DeriveInput → Field → Option Expr
 field_value definition field = value_at true definition field
 
--- the type of a field whose attributes say no value
+-- The type of a field whose attributes say no value.
 abbrev pub type_without : Field → Option Expr → Option Ty
 type_without field None = Some field.ty
 type_without field (Some value) = None
 
--- the types of those that are written by `Default` of their type
+-- The types of those that are written by `Default` of their type.
 abbrev pub default_types : DeriveInput → List Ty
 default_types definition = filter_map (λ field. type_without field (field_value definition field)) (written_fields (choice_of definition))
 
 -- ---- why it is rejected
 
--- the attributes of the type have no cause of a rejection, and they say this
+-- The attributes of the type have no cause of a rejection, and they say this.
 abbrev pub AreTypeSettings : DeriveInput → Values → Type 0
 AreTypeSettings definition values = AreSettings Default (type_row Default definition) definition definition.attrs values
 
--- so it is of those of a variant of a type with these settings
+-- So it is of those of a variant of a type with these settings.
 abbrev pub AreMarkSettings : DeriveInput → Values → Variant → Values → Type 0
 AreMarkSettings definition own variant values = AreSettings Default (mark_row (is_none own.expression)) definition variant.attrs values
 
--- the fields of a case, and whether `default` writes them: those of a struct, or of a variant
+-- The fields of a case, and whether `default` writes them: those of a struct, or of a variant.
 pub data IsCase (definition : DeriveInput) : List Field → Bool → Type 0 where
   of_struct : (own : Values) (shape : FieldShape) → AreTypeSettings definition own → definition.shape ≡ Struct shape → IsCase definition shape.fields (is_none own.expression)
   of_variant : (own mark : Values) (variants : List Variant) (variant : Variant) → AreTypeSettings definition own → definition.shape ≡ Enum variants → IsAmong variant variants
       → AreMarkSettings definition own variant mark → IsCase definition (fields_in variant) (is_none own.expression && (is_one variants || mark.flag))
 
--- the definition is an enum of these variants, whose attributes, with these settings, say no value of the whole type
+-- The definition is an enum of these variants, whose attributes, with these settings, say no value of the whole type.
 pub record IsOpenEnum (definition : DeriveInput) (own : Values) (variants : List Variant) : Type 0 where
   pub settings : AreTypeSettings definition own
   pub no_value : own.expression ≡ None
   pub is : definition.shape ≡ Enum variants
 
--- the attributes of a variant mark it, and this is where the mark stands
+-- The attributes of a variant mark it, and this is where the mark stands.
 pub record IsMarkedAt (definition : DeriveInput) (own : Values) (variant : Variant) (place : Span) : Type 0 where
   pub mark : Values
   pub settings : AreMarkSettings definition own variant mark
   pub flag : mark.flag ≡ true
   pub place_is : place ≡ mark.span
 
--- the attributes of a variant do not mark it
+-- The attributes of a variant do not mark it.
 pub record IsUnmarked (definition : DeriveInput) (own : Values) (variant : Variant) : Type 0 where
   pub mark : Values
   pub settings : AreMarkSettings definition own variant mark
   pub flag : mark.flag ≡ false
 
--- two variants are marked, and this is where the mark of the later one stands
+-- Two variants are marked, and this is where the mark of the later one stands.
 pub record AreMarkedTwice (definition : DeriveInput) (place : Span) : Type 0 where
   pub own : Values
   pub variants : List Variant
@@ -190,7 +191,7 @@ pub record AreMarkedTwice (definition : DeriveInput) (place : Span) : Type 0 whe
   pub first_marked : IsMarkedAt definition own first first_place
   pub later_marked : IsMarkedAt definition own later place
 
--- no variant is marked, and there is not only one; this is where the attribute of the type stands
+-- No variant is marked, and there is not only one; this is where the attribute of the type stands.
 pub record IsNoneMarked (definition : DeriveInput) (place : Span) : Type 0 where
   pub own : Values
   pub variants : List Variant
@@ -199,16 +200,16 @@ pub record IsNoneMarked (definition : DeriveInput) (place : Span) : Type 0 where
   pub unmarked : AllByRecursion (IsUnmarked definition own) variants
   pub place_is : place ≡ own.span
 
--- the error for a second mark
+-- The error for a second mark.
 abbrev pub marked_again : Span → EduceError
 marked_again place = record { kind = MultipleDefaultVariants; span = place; words = [] }
 
--- the error for no mark
+-- The error for no mark.
 abbrev pub none_marked : Span → EduceError
 none_marked place = record { kind = NoDefaultVariant; span = place; words = [] }
 
--- why `Default` is rejected: what the type says of it is; what a variant or a field says of it is, by the forms that are allowed there; or,
--- of an enum whose attributes say no value of the whole type, two variants are marked, or none is and there is not only one
+-- Why `Default` is rejected: what the type says of it is; what a variant or a field says of it is, by the forms that are allowed there; or,
+-- of an enum whose attributes say no value of the whole type, two variants are marked, or none is and there is not only one.
 pub data IsDefaultCause (definition : DeriveInput) : EduceError → Type 0 where
   by_type : {e : EduceError} → IsSaidCause Default (type_row Default definition) definition.attrs e → IsDefaultCause definition e
   by_variant : {e : EduceError} (own : Values) (variant : Variant) → AreTypeSettings definition own → IsAmong variant (variants_of definition)

@@ -14,14 +14,14 @@ use Rattle.educe_body_values.specs.Constants.{number_of}
 use Rattle.educe_body_values.specs.declared.answers.Answers.{Answers}
 use Rattle.educe_body_values.specs.declared.value.Value.{Value}
 
--- what a variant's discriminant is counted from: the nearest expression that is written at it or before it, if there is one, and
--- how many variants it stands behind that one; without one, how many stand before it
+-- What a variant's discriminant is counted from: the nearest expression that is written at it or before it, if there is one, and
+-- how many variants it stands behind that one; without one, how many stand before it.
 pub record Counted : Type 0 where
   pub variant : Variant
   pub written : Option Expr
   pub distance : ℕ
 
--- those of variants, where the nearest expression before them and the distance of the first of them to it are these
+-- Those of variants, where the nearest expression before them and the distance of the first of them to it are these.
 abbrev pub counted_from : Option Expr → ℕ → List Variant → List Counted
 counted_from near distance [] = []
 counted_from near distance (v ∷ vs) =
@@ -30,38 +30,38 @@ counted_from near distance (v ∷ vs) =
       | Some value ↦ record { variant = v; written = Some value; distance = 0 } ∷ counted_from (Some value) 1 vs
     ]
 
--- those of the variants of a definition
+-- Those of the variants of a definition.
 abbrev pub counted : DeriveInput → List Counted
 counted definition = counted_from None 0 (variants_of definition)
 
--- the number of the expression that is counted from; without one it is 0
+-- The number of the expression that is counted from; without one it is 0.
 abbrev pub base_number : Answers → Option Expr → Option ℤ
 base_number table None = Some (pos 0)
 base_number table (Some value) = number_of table value
 
--- the discriminant of a variant: that number, and the distance
+-- The discriminant of a variant: that number, and the distance.
 abbrev pub discriminant : Answers → Counted → Option ℤ
 discriminant table c = option_map (λ n. n +ℤ pos c.distance) (base_number table c.written)
 
--- the discriminants of a definition, in written order; a struct has none
+-- The discriminants of a definition, in written order; a struct has none.
 abbrev pub discriminants : Answers → DeriveInput → List (Option ℤ)
 discriminants table definition = map (discriminant table) (counted definition)
 
--- the number in an option of an option
+-- The number in an option of an option.
 abbrev pub flat : Option (Option ℤ) → Option ℤ
 flat None = None
 flat (Some number) = number
 
--- the discriminant of a value's variant, where it has one
+-- The discriminant of a value's variant, where it has one.
 abbrev pub discriminant_of : Answers → DeriveInput → Value → Option ℤ
 discriminant_of table definition value = flat (slice_get (discriminants table definition) value.variant)
 
--- by the table each variant has a discriminant, and these are they; all are numbers of the discriminants' type
+-- By the table each variant has a discriminant, and these are they; all are numbers of the discriminants' type.
 pub record HaveNumbers (table : Answers) (definition : DeriveInput) (numbers : List ℤ) : Type 0 where
   pub are : discriminants table definition ≡ map Some numbers
   pub in_range : (ty : DiscriminantType) → IsDiscriminantType definition.attrs ty → AllByRecursion (IsInRange ty) numbers
 
--- and no two of them are the same
+-- And no two of them are the same.
 pub record HaveDiscriminants (table : Answers) (definition : DeriveInput) : Type 0 where
   pub numbers : List ℤ
   pub have : HaveNumbers table definition numbers

@@ -12,11 +12,11 @@ use Rattle.educe_laws.specs.Types.{checked_types}
 
 -- What holds of the block of `Eq`.
 pub record EqLaws : Type 0 where
-  -- of the names that a check declares no two are the same, and none is a word of the input, such as the name of a parameter
+  -- Of the names that a check declares no two are the same, and none is a word of the input, such as the name of a parameter.
   pub scope : (definition : DeriveInput) (names : List (List ℕ)) → AreChosenFor definition plain_names names → AreScoped definition names
-  -- the name of a definition and those of its parameters are names, which may stand in place of `Self`
+  -- The name of a definition and those of its parameters are names, which may stand in place of `Self`.
   pub named : (definition : DeriveInput) → IsDefinition definition.tokens definition → AreNamed definition
-  -- the types that are checked are readings of their tokens, so that `Self` may be replaced in them
+  -- The types that are checked are readings of their tokens, so that `Self` may be replaced in them.
   pub visits : (definition : DeriveInput) → IsDefinition definition.tokens definition → AllByRecursion IsReadType (checked_types definition)
-  -- no function of the block is called, so that there is nothing to evaluate
+  -- No function of the block is called, so that there is nothing to evaluate.
   pub evaluates : (definition : DeriveInput) (items : List Item) → IsEqBlock definition items → AllByRecursion (EachEvaluates definition) items

@@ -26,36 +26,36 @@ use Rattle.educe_laws.specs.Rows.{is_order, type_row, variant_row, field_row}
 use Rattle.educe_laws.specs.Settings.{Kept, kept_fields, ReusesARank}
 use Rattle.educe_laws.specs.Shown.{IsShownCause}
 
--- the error for a repeated rank
+-- The error for a repeated rank.
 abbrev pub reuse_of : ℤ → Span → EduceError
 reuse_of rank place = record { kind = ReuseARank rank; span = place; words = [] }
 
--- the attributes of the places of a definition: of the type, of each variant, and of each field
+-- The attributes of the places of a definition: of the type, of each variant, and of each field.
 abbrev pub places : DeriveInput → List (List Attribute)
 places definition = definition.attrs ∷ variant_attributes definition ++ field_attributes definition
 
--- the `educe` lists of a place are rejected, whatever the trait
+-- The `educe` lists of a place are rejected, whatever the trait.
 pub record IsListsCause (definition : DeriveInput) (e : EduceError) : Type 0 where
   pub attributes : List Attribute
   pub stand : IsAmong attributes (places definition)
   pub cause : IsPlaceCause (listed definition) attributes e
 
--- two of these fields have one rank
+-- Two of these fields have one rank.
 pub record IsReuse (kept : List Kept) (e : EduceError) : Type 0 where
   pub rank : ℤ
   pub place : Span
   pub reuses : ReusesARank kept rank place
   pub is : e ≡ reuse_of rank place
 
--- two of these fields that take part in an order have one rank, and no field of them says something wrong of it
+-- Two of these fields that take part in an order have one rank, and no field of them says something wrong of it.
 pub record IsRankCause (which : Trait) (definition : DeriveInput) (fields : List Field) (e : EduceError) : Type 0 where
   pub orders : IsTrue (is_order which)
   pub read : HaveNoCauses which (field_row which) (listed definition) fields
   pub reuse : IsReuse (kept_fields which definition fields) e
 
--- why a trait is rejected whose attributes are read field by field: what the type says of it is; what a variant says of it is; what a
+-- Why a trait is rejected whose attributes are read field by field: what the type says of it is; what a variant says of it is; what a
 -- field says of it is; where it is an order, two fields of one case that take part have one rank; or where it is `Clone`, what the
--- type says of `Copy` is, if that is listed
+-- type says of `Copy` is, if that is listed.
 pub data IsFieldwiseCause (which : Trait) (definition : DeriveInput) : EduceError → Type 0 where
   by_type : {e : EduceError} → IsSaidCause which (type_row which definition) definition.attrs e → IsFieldwiseCause which definition e
   by_variant : {e : EduceError} (variant : Variant) → IsAmong variant (variants_of definition)
@@ -67,21 +67,21 @@ pub data IsFieldwiseCause (which : Trait) (definition : DeriveInput) : EduceErro
   by_copy : {e : EduceError} → which ≡ trait.Clone → is_listed (listed definition) trait.Copy ≡ true
       → IsSaidCause trait.Copy (type_row trait.Copy definition) definition.attrs e → IsFieldwiseCause which definition e
 
--- why the fields of a case are rejected: one of them is, or a rank
+-- Why the fields of a case are rejected: one of them is, or a rank.
 abbrev pub OfCase : Trait → DeriveInput → List Field → Cause
 OfCase which definition fields = λ e. OfFields which (field_row which) (listed definition) fields e ⊎ IsRankCause which definition fields e
 
--- why a variant is rejected: its own attributes are, or its fields
+-- Why a variant is rejected: its own attributes are, or its fields.
 abbrev pub OfVariant : Trait → DeriveInput → Variant → Cause
 OfVariant which definition variant =
     λ e. OfPlace which (variant_row which) (listed definition) variant.attrs e ⊎ OfCase which definition (fields_in variant) e
 
--- why what stands behind the name of a definition is rejected: the fields of a struct are, or one of the variants of an enum
+-- Why what stands behind the name of a definition is rejected: the fields of a struct are, or one of the variants of an enum.
 abbrev pub OfShape : Trait → DeriveInput → Shape → Cause
 OfShape which definition (Struct shape) = OfCase which definition shape.fields
 OfShape which definition (Enum variants) = λ e. (variant : Variant) × IsAmong variant variants × OfVariant which definition variant e
 
--- why a trait is rejected
+-- Why a trait is rejected.
 abbrev pub IsTraitCause : DeriveInput → Trait → Cause
 IsTraitCause definition trait.Clone = IsFieldwiseCause trait.Clone definition
 IsTraitCause definition trait.Copy = IsFieldwiseCause trait.Copy definition
@@ -93,10 +93,10 @@ IsTraitCause definition trait.Hash = IsFieldwiseCause trait.Hash definition
 IsTraitCause definition trait.Debug = IsShownCause definition
 IsTraitCause definition trait.Default = IsDefaultCause definition
 
--- what is asked of the handlers
+-- What is asked of the handlers.
 abbrev pub handling : DeriveInput → Handling
 handling definition = record { InLists = IsListsCause definition; Own = IsTraitCause definition }
 
--- why a listed trait is rejected: the `educe` lists of a place are, whatever the trait; or the trait is
+-- Why a listed trait is rejected: the `educe` lists of a place are, whatever the trait; or the trait is.
 abbrev pub IsListedCause : DeriveInput → Cause
 IsListedCause definition = OfLast (handling definition) (listed definition)

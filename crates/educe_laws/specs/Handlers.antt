@@ -15,51 +15,51 @@ use Rattle.educe_laws.specs.Handled.{handling}
 use Rattle.educe_laws.specs.Headers.{ImplAdds}
 use Rattle.educe_laws.specs.Listed.{listed}
 
--- the traits that are handled before this one
+-- The traits that are handled before this one.
 abbrev pub traits_before : Trait → List Trait
 traits_before which = before_first (same_trait which) variants
 
--- those, and this one
+-- Those, and this one.
 abbrev pub traits_through : Trait → List Trait
 traits_through which = traits_before which ++ which ∷ []
 
--- of the traits that are done those that are listed, where the first list has the listed ones
+-- Of the traits that are done those that are listed, where the first list has the listed ones.
 abbrev pub handled_of : List Trait → List Trait → List Trait
 handled_of traits done = filter (is_listed traits) done
 
--- what a handler notes for later ones: its trait, and the predicates that its impl adds
+-- What a handler notes for later ones: its trait, and the predicates that its impl adds.
 pub record Noted : Type 0 where
   pub which : Trait
   pub added : List WherePredicate
 
--- what is noted of a trait
+-- What is noted of a trait.
 pub record IsNoted (definition : DeriveInput) (which : Trait) (noted : Noted) : Type 0 where
   pub which_is : noted.which ≡ which
   pub adds : ImplAdds definition which noted.added
 
--- the handlers of those of these traits that are listed noted this, in their order
+-- The handlers of those of these traits that are listed noted this, in their order.
 abbrev pub AreNoted : DeriveInput → List Trait → List Noted → Type 0
 AreNoted definition done noted = AllZip (IsNoted definition) (handled_of (listed definition) done) noted
 
--- each predicate that is noted is the reading of its tokens
+-- Each predicate that is noted is the reading of its tokens.
 abbrev pub AreNotedRead : List Noted → Type 0
 AreNotedRead noted = AllByRecursion (λ n. AreRead n.added) noted
 
--- the predicates that are noted of a trait, by their tokens; none where it was not handled
+-- The predicates that are noted of a trait, by their tokens; none where it was not handled.
 abbrev pub noted_of : Trait → List Noted → List Key
 noted_of which [] = []
 noted_of which (n ∷ ns) = if same_trait n.which which then keys_of n.added else noted_of which ns
 
--- those that are noted of these traits, one behind the other
+-- Those that are noted of these traits, one behind the other.
 abbrev pub inherited_from : List Noted → List Trait → List Key
 inherited_from noted traits = flat_map (λ which. noted_of which noted) traits
 
--- the handlers of those of these traits that are listed have no cause
+-- The handlers of those of these traits that are listed have no cause.
 abbrev pub AreUncaused : DeriveInput → List Trait → Type 0
 AreUncaused definition done = AllByRecursion (λ which. is_listed (listed definition) which ≡ true → NoCause (OfHandler (handling definition) which)) done
 
--- the definition is ready for the handler of this trait: it is the value of its tokens; it lists the traits, and this one among them;
--- and the handlers before this one have no cause, and the context holds what they noted
+-- The definition is ready for the handler of this trait: it is the value of its tokens; it lists the traits, and this one among them;
+-- and the handlers before this one have no cause, and the context holds what they noted.
 pub record IsReady (which : Trait) (definition : DeriveInput) (traits : List Trait) (noted : List Noted) : Type 0 where
   pub is_read : IsDefinition definition.tokens definition
   pub traits_are : traits ≡ listed definition
@@ -67,13 +67,13 @@ pub record IsReady (which : Trait) (definition : DeriveInput) (traits : List Tra
   pub uncaused : AreUncaused definition (traits_before which)
   pub noted_are : AreNoted definition (traits_before which) noted
 
--- the items before are kept, and behind them stands the block of the trait
+-- The items before are kept, and behind them stands the block of the trait.
 pub record AddsBlock (which : Trait) (definition : DeriveInput) (before after : List Item) : Type 0 where
   pub own : List Item
   pub is : after ≡ before ++ own
   pub block : IsBlock which definition own
 
--- the items before are kept, and the functions of those behind them evaluate to what their traits mean
+-- The items before are kept, and the functions of those behind them evaluate to what their traits mean.
 pub record AddsMeaning (definition : DeriveInput) (before after : List Item) : Type 0 where
   pub own : List Item
   pub is : after ≡ before ++ own

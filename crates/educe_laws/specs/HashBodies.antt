@@ -25,26 +25,26 @@ use Rattle.educe_laws.specs.Steps.{Reading, of_base, bound, IsRead, IsCalled}
 
 -- ---- names
 
--- the names that `hash` declares: its hasher, and the type of that; and the prefix of the variables for the fields of the value
+-- The names that `hash` declares: its hasher, and the type of that; and the prefix of the variables for the fields of the value.
 pub record HashNames : Type 0 where
   pub state : List ℕ
   pub hasher : List ℕ
   pub prefix : List ℕ
 
--- the names among them, as they are written where nothing is in their way
+-- The names among them, as they are written where nothing is in their way.
 abbrev pub plain_params : List (List ℕ)
 plain_params = codes "state" ∷ codes "H" ∷ []
 
--- the names that are chosen for these
+-- The names that are chosen for these.
 abbrev pub chosen_params : HashNames → List (List ℕ)
 chosen_params names = names.state ∷ names.hasher ∷ []
 
--- the names are chosen in this order, and then the prefix is chosen apart from the words of the definition and from the names
+-- The names are chosen in this order, and then the prefix is chosen apart from the words of the definition and from the names.
 pub record AreHashNames (definition : DeriveInput) (names : HashNames) : Type 0 where
   pub are : AreChosenFor definition plain_params (chosen_params names)
   pub prefix_is : IsPrefix (are.words ++ chosen_params names) (codes "_v_") names.prefix
 
--- the parameters of the function have these names
+-- The parameters of the function have these names.
 pub record AreHashParams (names : HashNames) (params : List Word) : Type 0 where
   pub state : Word
   pub hasher : Word
@@ -54,7 +54,7 @@ pub record AreHashParams (names : HashNames) (params : List Word) : Type 0 where
 
 -- ---- steps
 
--- a call that feeds what this form gives to the hasher of this name: `path ( x , state ) ;`
+-- A call that feeds what this form gives to the hasher of this name: `path ( x , state ) ;`.
 pub record Feeds (state : List ℕ) (how : How) (fed x : Form) : Type 0 where
   pub path : ExprPath
   pub path_is : IsCalled Hash how path
@@ -62,17 +62,17 @@ pub record Feeds (state : List ℕ) (how : How) (fed x : Form) : Type 0 where
   pub hasher_is : IsName state hasher
   pub is : x ≡ HashPart (Call path (fed ∷ Local hasher ∷ []))
 
--- the step on a field, which is read so, and no other
+-- The step on a field, which is read so, and no other.
 pub record IsHashStep (state : List ℕ) (reading : Reading) (kept : Kept) (x : Form) : Type 0 where
   pub fed : Form
   pub fed_is : IsRead reading kept fed
   pub is : Feeds state kept.how fed x
 
--- one step for each of these fields, in their order
+-- One step for each of these fields, in their order.
 abbrev pub AreHashSteps : List ℕ → Reading → List Kept → List Form → Type 0
 AreHashSteps state reading kept steps = AllZip (IsHashStep state reading) kept steps
 
--- the step on the place of a variant: `:: core :: hash :: Hash :: hash ( & 3usize , state ) ;`
+-- The step on the place of a variant: `:: core :: hash :: Hash :: hash ( & 3usize , state ) ;`.
 pub record IsPlaceStep (state : List ℕ) (place : ℕ) (x : Form) : Type 0 where
   pub position : Position
   pub position_is : position.place ≡ place
@@ -80,15 +80,15 @@ pub record IsPlaceStep (state : List ℕ) (place : ℕ) (x : Form) : Type 0 wher
 
 -- ---- bodies
 
--- the block for a struct: one step for each field that takes part, in written order, which reads the field of `self`, in a packed
--- struct by a copy
+-- The block for a struct: one step for each field that takes part, in written order, which reads the field of `self`, in a packed
+-- struct by a copy.
 pub record IsHashStructBlock (definition : DeriveInput) (names : HashNames) (fields : List Field) (block : List Form) : Type 0 where
   pub copied : Bool
   pub copied_are : AreCopied definition copied
   pub steps_are : AreHashSteps names.state (of_base copied (codes "self")) (kept_fields trait.Hash definition fields) block
 
--- the arm of the variant at a place: the step on the place, and then one for each field that takes part, in written order, on its
--- variable; it has braces and no comma
+-- The arm of the variant at a place: the step on the place, and then one for each field that takes part, in written order, on its
+-- variable; it has braces and no comma.
 pub record IsHashArm (definition : DeriveInput) (names : HashNames) (place : ℕ) (variant : Variant) (arm : Arm) : Type 0 where
   pub spelled : IsSpelled true false arm
   pub pattern_is : IsPattern trait.Hash definition names.prefix variant arm.pattern
@@ -98,7 +98,7 @@ pub record IsHashArm (definition : DeriveInput) (names : HashNames) (place : ℕ
   pub steps_are : AreHashSteps names.state (bound names.prefix) (kept_fields trait.Hash definition (fields_in variant)) steps
   pub block_is : arm.block ≡ first ∷ steps
 
--- a match on the value of `self`, with one arm for each variant in written order
+-- A match on the value of `self`, with one arm for each variant in written order.
 pub record IsHashMatch (definition : DeriveInput) (names : HashNames) (variants : List Variant) (block : List Form) : Type 0 where
   pub value : Ident
   pub value_is : IsName (codes "self") value
@@ -106,17 +106,17 @@ pub record IsHashMatch (definition : DeriveInput) (names : HashNames) (variants 
   pub arms_are : AreArms (IsHashArm definition names) 0 variants arms
   pub block_is : block ≡ MatchValue value arms ∷ []
 
--- the block for an enum; without variants there is no value, and nothing is fed
+-- The block for an enum; without variants there is no value, and nothing is fed.
 abbrev pub IsHashEnumBlock : DeriveInput → HashNames → List Variant → List Form → Type 0
 IsHashEnumBlock definition names [] block = block ≡ []
 IsHashEnumBlock definition names (v ∷ vs) block = IsHashMatch definition names (v ∷ vs) block
 
--- the block for what stands behind the name of a definition
+-- The block for what stands behind the name of a definition.
 abbrev pub IsHashForms : DeriveInput → HashNames → Shape → List Form → Type 0
 IsHashForms definition names (Struct shape) block = IsHashStructBlock definition names shape.fields block
 IsHashForms definition names (Enum variants) block = IsHashEnumBlock definition names variants block
 
--- the body of `hash`
+-- The body of `hash`.
 pub record IsHashBody (definition : DeriveInput) (body : Body) : Type 0 where
   pub names : HashNames
   pub names_are : AreHashNames definition names

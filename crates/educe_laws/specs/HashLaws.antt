@@ -17,13 +17,13 @@ use Rattle.educe_laws.specs.Rows.{field_row}
 
 -- What holds of the block of `Hash`.
 pub record HashLaws : Type 0 where
-  -- of the names in the scope of a struct's function no two are the same, and none but `self` is a word of the input: `self`, the
-  -- hasher, and the type of that
+  -- Of the names in the scope of a struct's function no two are the same, and none but `self` is a word of the input: `self`, the
+  -- hasher, and the type of that.
   pub scope : (definition : DeriveInput) (names : HashNames) → AreHashNames definition names → AreScoped definition (chosen_params names)
-  -- so it is of those in the scope of an arm of an enum's function: these, and the variables of the variant's fields that take part
+  -- So it is of those in the scope of an arm of an enum's function: these, and the variables of the variant's fields that take part.
   pub arm_scope : (definition : DeriveInput) (names : HashNames) (fields : List Field) → AreHashNames definition names → AreApart (field_names fields)
       → length fields ≤ 2 ^ 64 → AreScoped definition (chosen_params names ++ variables names.prefix Hash definition fields)
-  -- where no field of a definition says something wrong of `Hash`, the function of its block feeds what a value feeds to a hasher
+  -- Where no field of a definition says something wrong of `Hash`, the function of its block feeds what a value feeds to a hasher.
   pub evaluates : (definition : DeriveInput) (items : List Item) → IsDefinition definition.tokens definition → length definition.tokens ≤ 2 ^ 64
       → HaveNoCauses Hash (field_row Hash) (listed definition) (all_fields definition)
       → IsHashBlock definition items → AllByRecursion (EachEvaluates definition) items

@@ -20,12 +20,12 @@ use Rattle.educe_laws.specs.Settings.{Kept, is_kept, kept_at}
 
 -- ---- the fields of one value
 
--- a field that takes part, with its value
+-- A field that takes part, with its value.
 pub record Valued : Type 0 where
   pub kept : Kept
   pub value : FieldValue
 
--- those that take part among fields of which the first has this place, with their values, in written order
+-- Those that take part among fields of which the first has this place, with their values, in written order.
 abbrev pub valued_from : Trait → DeriveInput → ℕ → List Field → List FieldValue → List Valued
 valued_from which definition place [] xs = []
 valued_from which definition place (f ∷ fs) [] = []
@@ -33,42 +33,42 @@ valued_from which definition place (f ∷ fs) (x ∷ xs) =
     if is_kept which definition f then record { kept = kept_at which definition place f; value = x } ∷ valued_from which definition (place + 1) fs xs
     else valued_from which definition (place + 1) fs xs
 
--- the fields of a value that take part in what a trait does, with their values
+-- The fields of a value that take part in what a trait does, with their values.
 abbrev pub valued : Trait → DeriveInput → Value → List Valued
 valued which definition a = valued_from which definition 0 (case_of definition a) a.fields
 
 -- ---- what a field feeds to a hasher
 
--- the part that is answered
+-- The part that is answered.
 abbrev pub part_said : Option Answer → Option ℤ
 part_said (Some (Part n)) = Some n
 part_said answer = None
 
--- what a field feeds, if it feeds something: the part that `Hash::hash`, or the field's method, answers on its value
+-- What a field feeds, if it feeds something: the part that `Hash::hash`, or the field's method, answers on its value.
 abbrev pub feeds : Answers → Valued → Option ℤ
 feeds table v = part_said (answer_of table (asked Hash v.kept.how) (Some v.value) None)
 
--- by the table each of these fields feeds something
+-- By the table each of these fields feeds something.
 abbrev pub AllFeed : Answers → List Valued → Type 0
 AllFeed table vs = AllByRecursion (λ v. IsSome (feeds table v)) vs
 
--- what they feed, in their order
+-- What they feed, in their order.
 abbrev pub fed_by : Answers → List Valued → List ℤ
 fed_by table vs = map (λ v. unwrap_or (feeds table v) (pos 0)) vs
 
 -- ---- what the derived function means
 
--- what stands before the fields: of a value of an enum the place of its variant
+-- What stands before the fields: of a value of an enum the place of its variant.
 abbrev pub variant_parts : Shape → Value → List ℤ
 variant_parts (Struct shape) a = []
 variant_parts (Enum variants) a = pos a.variant ∷ []
 
--- what a value feeds to a hasher: the place of its variant, if it is one of an enum; and then what its fields feed that take part, in
--- written order
+-- What a value feeds to a hasher: the place of its variant, if it is one of an enum; and then what its fields feed that take part, in
+-- written order.
 abbrev pub hash_of : Answers → DeriveInput → Value → List ℤ
 hash_of table definition a = variant_parts definition.shape a ++ fed_by table (valued trait.Hash definition a)
 
--- the value has the definition's shape, and by the table each of its fields that take part feeds something
+-- The value has the definition's shape, and by the table each of its fields that take part feeds something.
 pub record HashCovers (table : Answers) (definition : DeriveInput) (a : Value) : Type 0 where
   pub shape : HasShape definition a
   pub each : AllFeed table (valued trait.Hash definition a)

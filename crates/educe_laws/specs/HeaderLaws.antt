@@ -13,8 +13,8 @@ use Rattle.educe_laws.specs.Headers.{IsHeader}
 use Rattle.educe_laws.specs.Settings.{bound_said}
 
 pub record HeaderLaws : Type 0 where
-  -- the parameters and predicates of a header are readings of their tokens, where those of the definition are
+  -- The parameters and predicates of a header are readings of their tokens, where those of the definition are.
   pub generics : (which : Trait) (definition : DeriveInput) (header : Generics) → HasReadParts definition → IsHeader which definition header → AreReadGenerics header
-  -- so are the predicates that a bound lists, where the attributes of its place have no cause of a rejection
+  -- So are the predicates that a bound lists, where the attributes of its place have no cause of a rejection.
   pub bounds : (which : Trait) (row : Row) (listed : List Trait) (attributes : List Attribute) → NoCause (OfPlace which row listed attributes)
       → IsReadBound (bound_said (place_settings which row listed attributes).bound)

@@ -21,16 +21,16 @@ use Rattle.educe_laws.specs.Types.{AreTypes}
 
 -- ---- the predicates that are added
 
--- whether fields are read by copies: in a packed struct
+-- Whether fields are read by copies: in a packed struct.
 pub record AreCopied (definition : DeriveInput) (copied : Bool) : Type 0 where
   pub is : IsTrue copied ↔ (IsTrue (is_struct definition.shape) × IsPacked definition.attrs)
 
--- the predicates for copies, where fields are read by copies
+-- The predicates for copies, where fields are read by copies.
 abbrev pub ArePacked : Bool → Bound → DeriveInput → List Ty → List Key → Type 0
 ArePacked false bound definition types found = found ≡ []
 ArePacked true bound definition types found = AreCopies bound definition.generics.params definition.ident.text types found
 
--- inherited predicates are added, where they are not there yet, under the automatic bound alone
+-- Inherited predicates are added, where they are not there yet, under the automatic bound alone.
 abbrev pub Inherits : Bound → List Key → List Key → List Key → Type 0
 Inherits Disabled own inherited all = all ≡ own
 Inherits Auto own inherited all = Extends own inherited all
@@ -54,7 +54,7 @@ pub record AreAdded (which : Trait) (definition : DeriveInput) (inherited own al
 
 -- ---- inheritance
 
--- the traits whose added predicates an impl inherits, where they are listed
+-- The traits whose added predicates an impl inherits, where they are listed.
 abbrev pub prerequisites : Trait → List Trait
 prerequisites trait.Copy = trait.Clone ∷ []
 prerequisites trait.Eq = trait.PartialEq ∷ []
@@ -63,12 +63,12 @@ prerequisites trait.Ord = trait.Eq ∷ trait.PartialOrd ∷ []
 prerequisites _ = []
 
 mutual
-  -- the predicates that the impl of a trait adds
+  -- The predicates that the impl of a trait adds.
   pub data AreOf (definition : DeriveInput) : Trait → List Key → Type 0 where
     added : (which : Trait) (inherited own : List Key) {all : List Key} → AreInherited definition (prerequisites which) inherited
         → AreAdded which definition inherited own all → AreOf definition which all
 
-  -- those that it inherits of these traits: of those that are listed, one behind the other
+  -- Those that it inherits of these traits: of those that are listed, one behind the other.
   pub data AreInherited (definition : DeriveInput) : List Trait → List Key → Type 0 where
     from_none : AreInherited definition [] []
     unlisted : (which : Trait) {traits : List Trait} {more : List Key} → is_listed (listed definition) which ≡ false → AreInherited definition traits more
@@ -76,7 +76,7 @@ mutual
     from_listed : (which : Trait) {traits : List Trait} (own : List Key) {more : List Key} → is_listed (listed definition) which ≡ true
         → AreOf definition which own → AreInherited definition traits more → AreInherited definition (which ∷ traits) (own ++ more)
 
--- the impl of a trait adds these predicates, and each is the reading of its tokens
+-- The impl of a trait adds these predicates, and each is the reading of its tokens.
 pub record ImplAdds (definition : DeriveInput) (which : Trait) (predicates : List WherePredicate) : Type 0 where
   pub are : AreOf definition which (keys_of predicates)
   pub read : AreRead predicates

@@ -8,14 +8,14 @@ use Rattle.educe_bound_traits.specs.Traits.{variants, is_listed}
 use Rattle.educe_attrs.specs.Causes.{Cause}
 use Rattle.educe_attrs.specs.Listing.{listed_traits, OfListing}
 
--- the traits that a definition lists, as they are written
+-- The traits that a definition lists, as they are written.
 abbrev pub listed : DeriveInput → List Trait
 listed definition = listed_traits definition.attrs
 
--- the listed traits in the fixed order, in which items are written
+-- The listed traits in the fixed order, in which items are written.
 abbrev pub listed_in_order : DeriveInput → List Trait
 listed_in_order definition = filter (is_listed (listed definition)) variants
 
--- why what a definition lists is rejected
+-- Why what a definition lists is rejected.
 abbrev pub IsListingCause : DeriveInput → Cause
 IsListingCause definition = OfListing definition.attrs (end_of definition.tokens)

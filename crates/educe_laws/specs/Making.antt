@@ -38,88 +38,88 @@ use Rattle.educe_laws.specs.Defaults.{Choice, by_value, of_struct, of_variant, c
 
 -- ---- what is called
 
--- the spellings of tokens
+-- The spellings of tokens.
 abbrev pub spelled : List Lexeme → List (List ℕ)
 spelled tokens = map (λ (x : Lexeme). x.spelling) tokens
 
--- the text of tokens, as what is called
+-- The text of tokens, as what is called.
 abbrev pub text_called : List Lexeme → Option Callee
 text_called tokens = Some (callee.Written (text_of tokens))
 
--- `Default::default` of the type of a field
+-- `Default::default` of the type of a field.
 abbrev pub type_called : DeriveInput → Field → Option Callee
 type_called definition field = default_of (type_place definition (type_spellings field))
 
--- what tokens call for a field: `Default::default` of its type where they are spelled so, else their text
+-- What tokens call for a field: `Default::default` of its type where they are spelled so, else their text.
 abbrev pub called_by : DeriveInput → Field → List Lexeme → Option Callee
 called_by definition field tokens =
     if pointwise bytes_eq (spelled tokens) (default_call (type_spellings field)) then type_called definition field else text_called tokens
 
--- what is called for a field: `Default::default` of its type, or what the value calls that its attributes say, as it is written for
--- that type
+-- What is called for a field: `Default::default` of its type, or what the value calls that its attributes say, as it is written for
+-- that type.
 abbrev pub called_for : DeriveInput → Field → Option Expr → Option Callee
 called_for definition field None = type_called definition field
 called_for definition field (Some said) = called_by definition field (adjusted said.written (Some field.ty))
 
 -- ---- the meaning
 
--- the value that is made, if an answer is one
+-- The value that is made, if an answer is one.
 abbrev pub value_made : Option Answer → Option FieldValue
 value_made (Some (answer.Made x)) = Some x
 value_made found = None
 
--- the value that a call with no arguments makes, by the table
+-- The value that a call with no arguments makes, by the table.
 abbrev pub made_by : Answers → Option Callee → Option FieldValue
 made_by table None = None
 made_by table (Some called) = value_made (answer_of table called None None)
 
--- a value and more of them, where all are made
+-- A value and more of them, where all are made.
 abbrev pub made_with : Option FieldValue → Option (List FieldValue) → Option (List FieldValue)
 made_with None values = None
 made_with (Some x) None = None
 made_with (Some x) (Some values) = Some (x ∷ values)
 
--- the values of fields in written order, where each call makes one
+-- The values of fields in written order, where each call makes one.
 abbrev pub fields_made : Answers → DeriveInput → List Field → Option (List FieldValue)
 fields_made table definition [] = Some []
 fields_made table definition (f ∷ fs) = made_with (made_by table (called_for definition f (field_value definition f))) (fields_made table definition fs)
 
--- the value of the variant at a place and these fields; of a struct it is 0
+-- The value of the variant at a place and these fields; of a struct it is 0.
 abbrev pub value_of : ℕ → Option (List FieldValue) → Option Outcome
 value_of place None = None
 value_of place (Some values) = Some (Made (record { variant = place; fields = values }))
 
--- the same where the place is below 2^32, as that of each value is
+-- The same where the place is below 2^32, as that of each value is.
 abbrev pub placed_value : ℕ → Option (List FieldValue) → Option Outcome
 placed_value place values = if nat_lt place (2 ^ 32) then value_of place values else None
 
--- the same of a case with its place
+-- The same of a case with its place.
 abbrev pub case_made : Answers → DeriveInput → Option (ℕ × List Field) → Option Outcome
 case_made table definition None = None
 case_made table definition (Some case) = value_of case.0 (fields_made table definition case.1)
 
--- the value as a whole
+-- The value as a whole.
 abbrev pub whole_of : Option FieldValue → Option Outcome
 whole_of None = None
 whole_of (Some x) = Some (Whole x)
 
--- what a choice makes: what the type's own value is; or a struct or a variant, each field of which has the value that its attributes
--- say, or the default one of its type
+-- What a choice makes: what the type's own value is; or a struct or a variant, each field of which has the value that its attributes
+-- say, or the default one of its type.
 abbrev pub outcome_by : Answers → DeriveInput → Option Choice → Option Outcome
 outcome_by table definition None = None
 outcome_by table definition (Some (by_value said)) = whole_of (made_by table (text_called (adjusted said.written None)))
 outcome_by table definition (Some (of_struct shape)) = case_made table definition (Some (0, shape.fields))
 outcome_by table definition (Some (of_variant place variant)) = case_made table definition (case_at place (fields_in variant))
 
--- what `default` means by a table, where each of its calls makes a value
+-- What `default` means by a table, where each of its calls makes a value.
 abbrev pub default_outcome : Answers → DeriveInput → Option Outcome
 default_outcome table definition = outcome_by table definition (choice_of definition)
 
--- the values of `self` and of the parameter, whichever they are, and the table
+-- The values of `self` and of the parameter, whichever they are, and the table.
 abbrev pub scene_without : DeriveInput → Option Value → Option Value → Answers → Scene
 scene_without definition this other table = record { definition = definition; this = this; other = other; answers = table; field = None }
 
--- over each table by which each of its calls makes a value, the function evaluates to what `default` means
+-- Over each table by which each of its calls makes a value, the function evaluates to what `default` means.
 abbrev pub MakesDefault : DeriveInput → Body → Type 0
 MakesDefault definition body =
     (table : Answers) (this other : Option Value) (outcome : Outcome) → default_outcome table definition ≡ Some outcome
@@ -127,27 +127,27 @@ MakesDefault definition body =
 
 -- ---- the forms
 
--- `< T as :: core :: default :: Default > :: default ( )`
+-- `< T as :: core :: default :: Default > :: default ( )`.
 abbrev pub default_tokens : Ty → List Lexeme
 default_tokens ty = quoted (codes "<") ++ (written_lexemes ty.written ++ quoted (codes "as :: core :: default :: Default > :: default ( )"))
 
--- the tokens for a field: `Default` of its type, or the value that its attributes say, as it is written for that type
+-- The tokens for a field: `Default` of its type, or the value that its attributes say, as it is written for that type.
 abbrev pub field_tokens : Field → Option Expr → List Lexeme
 field_tokens field None = default_tokens field.ty
 field_tokens field (Some said) = adjusted said.written (Some field.ty)
 
--- the form has these tokens
+-- The form has these tokens.
 pub record IsPasted (tokens : List Lexeme) (x : Form) : Type 0 where
   pub text : Written
   pub is : x ≡ Pasted text
   pub tokens_are : written_lexemes text ≡ tokens
 
--- the initializer of a field: its key, as it is written, and its tokens
+-- The initializer of a field: its key, as it is written, and its tokens.
 pub record IsInit (definition : DeriveInput) (field : Field) (init : Init) : Type 0 where
   pub key_is : IsKey field.ident init.key
   pub value_is : IsPasted (field_tokens field (field_value definition field)) init.value
 
--- `Self`, or with a name that variant of it, with one initializer for each field, in written order
+-- `Self`, or with a name that variant of it, with one initializer for each field, in written order.
 pub record IsConstruct (definition : DeriveInput) (name : Option (List ℕ)) (shape : FieldShape) (x : Form) : Type 0 where
   pub variant : Option Ident
   pub variant_is : option_map (λ (ident : Ident). ident.text) variant ≡ name
@@ -155,20 +155,20 @@ pub record IsConstruct (definition : DeriveInput) (name : Option (List ℕ)) (sh
   pub is : x ≡ Construct variant shape.form inits
   pub inits_are : AllZip (IsInit definition) shape.fields inits
 
--- the form that makes what is chosen
+-- The form that makes what is chosen.
 abbrev pub IsMaking : DeriveInput → Choice → Form → Type 0
 IsMaking definition (by_value said) x = IsPasted (adjusted said.written None) x
 IsMaking definition (of_struct shape) x = IsConstruct definition None shape x
 IsMaking definition (of_variant place variant) x = IsConstruct definition (Some variant.ident.text) variant.fields x
 
--- the body has no parameter, and its block is one form
+-- The body has no parameter, and its block is one form.
 pub record HasOneForm (IsRight : Form → Type 0) (body : Body) : Type 0 where
   pub params_are : body.params ≡ []
   pub form : Form
   pub block_is : body.block ≡ form ∷ []
   pub form_is : IsRight form
 
--- the body of `default`: the form that makes what is chosen
+-- The body of `default`: the form that makes what is chosen.
 pub record IsDefaultBody (definition : DeriveInput) (body : Body) : Type 0 where
   pub choice : Choice
   pub choice_is : choice_of definition ≡ Some choice
@@ -176,19 +176,19 @@ pub record IsDefaultBody (definition : DeriveInput) (body : Body) : Type 0 where
 
 -- ---- `new`
 
--- whether the type has a function `new`
+-- Whether the type has a function `new`.
 abbrev pub has_new : DeriveInput → Bool
 has_new definition = unwrap_or (type_values definition).new false
 
--- `< Self as :: core :: default :: Default > :: default ( )`
+-- `< Self as :: core :: default :: Default > :: default ( )`.
 abbrev pub self_tokens : List Lexeme
 self_tokens = quoted (codes "< Self as :: core :: default :: Default > :: default ( )")
 
--- the body of `new`: the default value of the type
+-- The body of `new`: the default value of the type.
 abbrev pub IsNewBody : Body → Type 0
 IsNewBody body = HasOneForm (IsPasted self_tokens) body
 
--- over each table by which that call makes a value, the function evaluates to this value
+-- Over each table by which that call makes a value, the function evaluates to this value.
 abbrev pub MakesNew : DeriveInput → Body → Type 0
 MakesNew definition body =
     (table : Answers) (this other : Option Value) (outcome : Outcome) → whole_of (made_by table (text_called self_tokens)) ≡ Some outcome

@@ -14,18 +14,18 @@ use Rattle.educe_body_items.specs.declared.items.MarkerItem.{MarkerItem}
 use Rattle.educe_laws.specs.Checks.{IsHeadFor, texts_of}
 use Rattle.educe_laws.specs.Settings.{Kept, How, plainly, by_method, by_order}
 
--- the type of a field, and its method
+-- The type of a field, and its method.
 pub record Marked : Type 0 where
   pub ty : Ty
   pub method : ExprPath
 
--- the type of a field that is treated so, with the method, if there is one
+-- The type of a field that is treated so, with the method, if there is one.
 abbrev pub marked_by : How → Ty → Option Marked
 marked_by plainly ty = None
 marked_by (by_method path) ty = Some (record { ty = ty; method = path })
 marked_by (by_order path) ty = Some (record { ty = ty; method = path })
 
--- those of these fields that have a method, in their order
+-- Those of these fields that have a method, in their order.
 abbrev pub marked_fields : List Kept → List Marked
 marked_fields kept = filter_map (λ (k : Kept). marked_by k.how k.field.ty) kept
 
@@ -41,6 +41,6 @@ pub record IsMarker (which : Trait) (definition : DeriveInput) (generics : Gener
   pub method_is : IsVisitedPath head marked.method marker.method
   pub names_are : texts_of marker.names ≡ names
 
--- one marker for each of these fields that has a method, in their order
+-- One marker for each of these fields that has a method, in their order.
 abbrev pub AreMarkers : Trait → DeriveInput → Generics → List (List ℕ) → List Kept → List MarkerItem → Type 0
 AreMarkers which definition generics names kept markers = AllZip (IsMarker which definition generics names) (marked_fields kept) markers

@@ -23,8 +23,8 @@ use Rattle.educe_laws.specs.Listed.{listed}
 use Rattle.educe_laws.specs.Rows.{field_row}
 use Rattle.educe_laws.specs.Settings.{plainly}
 
--- both orders are listed, no field has an attribute of `PartialOrd`, and none says something wrong of one of them: so `PartialOrd` takes
--- what the fields say of `Ord`
+-- Both orders are listed, no field has an attribute of `PartialOrd`, and none says something wrong of one of them: so `PartialOrd` takes
+-- what the fields say of `Ord`.
 pub record TakesFromOrd (definition : DeriveInput) : Type 0 where
   pub partial_listed : is_listed (listed definition) trait.PartialOrd ≡ true
   pub ord_listed : is_listed (listed definition) trait.Ord ≡ true
@@ -32,27 +32,27 @@ pub record TakesFromOrd (definition : DeriveInput) : Type 0 where
   pub partial_uncaused : HaveNoCauses trait.PartialOrd (field_row trait.PartialOrd) (listed definition) (all_fields definition)
   pub ord_uncaused : HaveNoCauses trait.Ord (field_row trait.Ord) (listed definition) (all_fields definition)
 
--- if the field has no method, the table answers to `partial_cmp` of its two values in `Some` what it answers to `cmp`
+-- If the field has no method, the table answers to `partial_cmp` of its two values in `Some` what it answers to `cmp`.
 abbrev pub IsAnsweredAlike : Answers → Compared → Type 0
 IsAnsweredAlike table c =
     c.kept.how ≡ plainly → (o : Ordering) → answer_of table (as_callee Cmp) (Some c.first) (Some c.second) ≡ Some (AnswerOrder o)
     → answer_of table (as_callee PartialCmp) (Some c.first) (Some c.second) ≡ Some (AnswerPartialOrder (Some o))
 
--- the table covers two values for `Ord`; and if they are of one case, it answers alike for each field that takes part
+-- The table covers two values for `Ord`; and if they are of one case, it answers alike for each field that takes part.
 pub record CoversAlike (table : Answers) (definition : DeriveInput) (a b : Value) : Type 0 where
   pub covers : Covers Ord table definition a b
   pub alike : a.variant ≡ b.variant → AllByRecursion (IsAnsweredAlike table) (compared Ord definition a b)
 
--- an order as `partial_cmp` answers it: in `Some`
+-- An order as `partial_cmp` answers it: in `Some`.
 abbrev pub in_some : Outcome → Outcome
 in_some (OutcomeOrder o) = OutcomePartialOrder (Some o)
 in_some outcome = outcome
 
 -- What holds of both orders of a definition.
 pub record OrderLaws : Type 0 where
-  -- where `PartialOrd` takes what fields say of `Ord`, each table that covers two values for `Ord` and answers alike covers them for
-  -- `PartialOrd`
+  -- Where `PartialOrd` takes what fields say of `Ord`, each table that covers two values for `Ord` and answers alike covers them for
+  -- `PartialOrd`.
   pub covers : (table : Answers) (definition : DeriveInput) (a b : Value) → TakesFromOrd definition → CoversAlike table definition a b → Covers PartialOrd table definition a b
-  -- and then `partial_cmp` means in `Some` what `cmp` means
+  -- And then `partial_cmp` means in `Some` what `cmp` means.
   pub agree : (table : Answers) (definition : DeriveInput) (a b : Value) → TakesFromOrd definition → CoversAlike table definition a b
       → meaning PartialOrd table definition a b ≡ in_some (meaning Ord table definition a b)

@@ -16,13 +16,13 @@ use Rattle.educe_attrs.specs.declared.debug.TypeName.{TypeName}
 use Rattle.educe_attrs.specs.declared.debug.TypeName.TheVariants as type_name
 use Rattle.educe_attrs.specs.Default as default
 
--- one of the two orders
+-- One of the two orders.
 abbrev pub is_order : Trait → Bool
 is_order trait.PartialOrd = true
 is_order trait.Ord = true
 is_order _ = false
 
--- what the trait allows at variants and at fields is the same in all definitions, so that its attributes are read field by field
+-- What the trait allows at variants and at fields is the same in all definitions, so that its attributes are read field by field.
 abbrev pub is_fieldwise : Trait → Bool
 is_fieldwise trait.Clone = true
 is_fieldwise trait.Copy = true
@@ -33,50 +33,50 @@ is_fieldwise trait.Ord = true
 is_fieldwise trait.Hash = true
 is_fieldwise _ = false
 
--- whether the functions of the trait read fields, which in a packed struct they do by copies
+-- Whether the functions of the trait read fields, which in a packed struct they do by copies.
 abbrev pub reads_fields : Trait → Bool
 reads_fields trait.Copy = false
 reads_fields trait.Eq = false
 reads_fields trait.Default = false
 reads_fields _ = true
 
--- whether the names of the fields of a struct are shown, where nothing is said of that: in all but one with round brackets
+-- Whether the names of the fields of a struct are shown, where nothing is said of that: in all but one with round brackets.
 abbrev pub struct_names : FieldForm → Bool
 struct_names Named = true
 struct_names Unnamed = false
 struct_names NoFields = true
 
--- so it is of a variant: where its fields have names
+-- So it is of a variant: where its fields have names.
 abbrev pub variant_names : FieldForm → Bool
 variant_names Named = true
 variant_names Unnamed = false
 variant_names NoFields = false
 
--- the name of the type that is shown, where nothing is said of that: of a struct its own, of an enum none
+-- The name of the type that is shown, where nothing is said of that: of a struct its own, of an enum none.
 abbrev pub own_type_name : Shape → TypeName
 own_type_name (Struct shape) = type_name.Default
 own_type_name (Enum variants) = type_name.Disable
 
--- the forms of the attribute of `Debug` at a type: the trait alone, a name, also behind `=`, and `bound`; and at a struct whether the
--- names of fields are shown
+-- The forms of the attribute of `Debug` at a type: the trait alone, a name, also behind `=`, and `bound`; and at a struct whether the
+-- names of fields are shown.
 abbrev pub debug_row : Shape → Row
 debug_row (Struct shape) =
     debug.type_row (record { enable_flag = true; enable_name = true; enable_named_field = true; enable_bound = true; name = own_type_name (Struct shape); named_field = struct_names shape.form })
 debug_row (Enum variants) =
     debug.type_row (record { enable_flag = true; enable_name = true; enable_named_field = false; enable_bound = true; name = own_type_name (Enum variants); named_field = false })
 
--- the forms of the attribute of a trait at a type: those of `Debug`; for any other trait the trait alone, and `bound`, and for `Default`
--- also `new` and a value
+-- The forms of the attribute of a trait at a type: those of `Debug`; for any other trait the trait alone, and `bound`, and for `Default`
+-- also `new` and a value.
 abbrev pub type_row : Trait → DeriveInput → Row
 type_row trait.Debug definition = debug_row definition.shape
 type_row trait.Default definition = default.type_row (record { enable_flag = true; enable_new = true; enable_expression = true; enable_bound = true })
 type_row _ definition = bound_row true true
 
--- at a variant of a trait that is read field by field nothing may be said
+-- At a variant of a trait that is read field by field nothing may be said.
 abbrev pub variant_row : Trait → Row
 variant_row which = bound_row false false
 
--- at a field of such a trait: `ignore` and `method`, for the orders also `rank`; for `Clone` `method` alone, for `Copy` and `Eq` nothing
+-- At a field of such a trait: `ignore` and `method`, for the orders also `rank`; for `Clone` `method` alone, for `Copy` and `Eq` nothing.
 abbrev pub field_row : Trait → Row
 field_row trait.Clone = clone_row true
 field_row trait.PartialEq = compared_row true true false

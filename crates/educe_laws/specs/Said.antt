@@ -9,7 +9,7 @@ use Rattle.educe_laws.specs.Listed.{listed}
 use Rattle.educe_laws.specs.Settings.{AreSaid}
 use Rattle.educe_laws.specs.Shown.{AreShownSaid}
 
--- the settings of a trait are what the attributes say of it
+-- The settings of a trait are what the attributes say of it.
 abbrev pub AreSaidOf : Trait → DeriveInput → Type 0
 AreSaidOf trait.Clone definition = AreSaid trait.Clone definition
 AreSaidOf trait.Copy definition = AreSaid trait.Copy definition
@@ -21,6 +21,6 @@ AreSaidOf trait.Hash definition = AreSaid trait.Hash definition
 AreSaidOf trait.Debug definition = AreShownSaid definition
 AreSaidOf trait.Default definition = AreDefaultsSaid definition
 
--- so it is for each listed trait
+-- So it is for each listed trait.
 abbrev pub AreAllSaid : DeriveInput → Type 0
 AreAllSaid definition = (which : Trait) → is_listed (listed definition) which ≡ true → AreSaidOf which definition

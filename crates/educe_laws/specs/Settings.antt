@@ -28,28 +28,28 @@ use Rattle.educe_laws.specs.Rows.{type_row, variant_row, field_row}
 
 -- ---- settings
 
--- the settings of the type
+-- The settings of the type.
 abbrev pub type_settings : Trait → DeriveInput → Values
 type_settings which definition = place_settings which (type_row which definition) (listed definition) definition.attrs
 
--- those of a variant
+-- Those of a variant.
 abbrev pub variant_settings : Trait → DeriveInput → Variant → Values
 variant_settings which definition variant = place_settings which (variant_row which) (listed definition) variant.attrs
 
--- those of a field
+-- Those of a field.
 abbrev pub settings_of : Trait → DeriveInput → Field → FieldSettings
 settings_of which definition = settings_at which (field_row which) (listed definition)
 
--- the bound that is said; where nothing is, the automatic one
+-- The bound that is said; where nothing is, the automatic one.
 abbrev pub bound_said : Option WherePredicatesOrBool → Bound
 bound_said None = Auto
 bound_said (Some value) = bound_of value
 
--- the bound that the type says for a trait
+-- The bound that the type says for a trait.
 abbrev pub bound_for : Trait → DeriveInput → Bound
 bound_for which definition = bound_said (type_settings which definition).bound
 
--- the bound is the one that the type says for a trait, and the predicates that it lists are readings of their tokens
+-- The bound is the one that the type says for a trait, and the predicates that it lists are readings of their tokens.
 pub record IsBoundOf (which : Trait) (definition : DeriveInput) (bound : Bound) : Type 0 where
   pub is : bound ≡ bound_for which definition
   pub read : IsReadBound bound
@@ -61,60 +61,60 @@ pub record AreSaid (which : Trait) (definition : DeriveInput) : Type 0 where
   pub variants_said : AllByRecursion (λ (variant : Variant). IsSaid which (variant_row which) variant.attrs (variant_settings which definition variant)) (variants_of definition)
   pub fields_said : AllByRecursion (λ field. IsFieldSaid which (field_row which) (listed definition) field.attrs (settings_of which definition field)) (all_fields definition)
 
--- the attributes of a place have no cause of a rejection by the forms of this row, and they say this
+-- The attributes of a place have no cause of a rejection by the forms of this row, and they say this.
 pub record AreSettings (which : Trait) (row : Row) (definition : DeriveInput) (attributes : List Attribute) (values : Values) : Type 0 where
   pub read : NoCause (OfPlace which row (listed definition) attributes)
   pub said : IsSaid which row attributes values
 
--- so it is of those of a field
+-- So it is of those of a field.
 pub record AreFieldSettings (which : Trait) (row : Row) (definition : DeriveInput) (field : Field) (settings : FieldSettings) : Type 0 where
   pub read : NoCause (OfField which row (listed definition) field.attrs)
   pub said : IsFieldSaid which row (listed definition) field.attrs settings
 
--- whether a field with these settings takes part
+-- Whether a field with these settings takes part.
 abbrev pub keeps : FieldSettings → Bool
 keeps settings = not (unwrap_or settings.values.ignore false)
 
--- the rank at a place where none is set
+-- The rank at a place where none is set.
 abbrev pub default_rank : ℕ → ℤ
 default_rank place = pos place -ℤ pos (2 ^ 63)
 
--- the rank that these settings give at a place, or else the default one
+-- The rank that these settings give at a place, or else the default one.
 abbrev pub rank_by : ℕ → FieldSettings → ℤ
 rank_by place settings = number_of settings.values.rank (default_rank place)
 
--- the span of the rank that these settings give, or else the other span
+-- The span of the rank that these settings give, or else the other span.
 abbrev pub rank_span_by : FieldSettings → Span → Span
 rank_span_by settings other = unwrap_or (place_of settings.values.rank) other
 
--- how a field is treated: by the trait's own function; by a method; or, where `PartialOrd` takes the method of `Ord`, by
--- one that returns an `Ordering`
+-- How a field is treated: by the trait's own function; by a method; or, where `PartialOrd` takes the method of `Ord`, by
+-- one that returns an `Ordering`.
 pub data How : Type 0 where
   plainly : How
   by_method : ExprPath → How
   by_order : ExprPath → How
 
--- by this method, if there is one; with true it returns an `Ordering`
+-- By this method, if there is one; with true it returns an `Ordering`.
 abbrev pub how_with : Bool → Option ExprPath → How
 how_with ordering None = plainly
 how_with false (Some path) = by_method path
 how_with true (Some path) = by_order path
 
--- how a field with these settings is treated
+-- How a field with these settings is treated.
 abbrev pub how_by : FieldSettings → How
 how_by settings = how_with settings.method_returns_ordering settings.values.method
 
 -- ---- fields
 
--- the field takes part in what the trait does
+-- The field takes part in what the trait does.
 abbrev pub is_kept : Trait → DeriveInput → Field → Bool
 is_kept which definition field = keeps (settings_of which definition field)
 
--- where the rank stands: the parameter, or the field where it has none
+-- Where the rank stands: the parameter, or the field where it has none.
 abbrev pub rank_span_of : Trait → DeriveInput → Field → Span
 rank_span_of which definition field = rank_span_by (settings_of which definition field) field.span
 
--- a field that takes part, its place among the fields of its case, counted from 0, its rank, where that stands, and how it is treated
+-- A field that takes part, its place among the fields of its case, counted from 0, its rank, where that stands, and how it is treated.
 pub record Kept : Type 0 where
   pub field : Field
   pub place : ℕ
@@ -122,7 +122,7 @@ pub record Kept : Type 0 where
   pub rank_span : Span
   pub how : How
 
--- the field at a place, as it takes part with these settings
+-- The field at a place, as it takes part with these settings.
 abbrev pub kept_with : FieldSettings → ℕ → Field → Kept
 kept_with settings place field = record {
   field = field;
@@ -132,39 +132,39 @@ kept_with settings place field = record {
   how = how_by settings;
 }
 
--- those that take part among fields with these settings, of which the first has this place
+-- Those that take part among fields with these settings, of which the first has this place.
 abbrev pub kept_by : ℕ → List Field → List FieldSettings → List Kept
 kept_by place [] all = []
 kept_by place (f ∷ fs) [] = []
 kept_by place (f ∷ fs) (s ∷ all) = if keeps s then kept_with s place f ∷ kept_by (place + 1) fs all else kept_by (place + 1) fs all
 
--- the field at a place, as it takes part
+-- The field at a place, as it takes part.
 abbrev pub kept_at : Trait → DeriveInput → ℕ → Field → Kept
 kept_at which definition place field = kept_with (settings_of which definition field) place field
 
--- those that take part among fields of which the first has this place
+-- Those that take part among fields of which the first has this place.
 abbrev pub kept_from : Trait → DeriveInput → ℕ → List Field → List Kept
 kept_from which definition place fields = kept_by place fields (map (settings_of which definition) fields)
 
--- those that take part among the fields of one case, in written order
+-- Those that take part among the fields of one case, in written order.
 abbrev pub kept_fields : Trait → DeriveInput → List Field → List Kept
 kept_fields which definition fields = kept_from which definition 0 fields
 
--- those of all cases
+-- Those of all cases.
 abbrev pub all_kept : Trait → DeriveInput → List Kept
 all_kept which definition = flat_map (kept_fields which definition) (cases_of definition)
 
--- no two of the fields have one rank
+-- No two of the fields have one rank.
 abbrev pub RanksDiffer : List Kept → Type 0
 RanksDiffer kept = AreRanksApart (λ k. k.rank) kept
 
--- where two of the fields have one rank, the later of them is not written before this place
+-- Where two of the fields have one rank, the later of them is not written before this place.
 abbrev pub IsEarliest : List Kept → ℕ → Type 0
 IsEarliest kept place =
     (first later : Kept) → Contains kept first → Contains kept later → first.place < later.place → first.rank ≡ later.rank → place ≤ later.place
 
--- two of the fields have this rank, and this is the place of the later one's; of such later fields it is the one that is written
--- first
+-- Two of the fields have this rank, and this is the place of the later one's; of such later fields it is the one that is written
+-- first.
 pub record ReusesARank (kept : List Kept) (rank : ℤ) (place : Span) : Type 0 where
   pub first : Kept
   pub later : Kept

@@ -39,42 +39,42 @@ use Rattle.educe_laws.specs.Settings.{Kept, kept_by, keeps, type_settings, AreSe
 
 -- ---- the forms of the attribute
 
--- at a variant a name, also behind `=`, and whether the names of its fields are shown
+-- At a variant a name, also behind `=`, and whether the names of its fields are shown.
 abbrev pub naming_row : Variant → Row
 naming_row variant =
     debug.type_row (record { enable_flag = false; enable_name = true; enable_named_field = true; enable_bound = false; name = type_name.Default; named_field = variant_names variant.fields.form })
 
--- at a field `ignore` and `method`, and where the names of fields are shown its name
+-- At a field `ignore` and `method`, and where the names of fields are shown its name.
 abbrev pub entry_row : Bool → Row
 entry_row named = debug.field_row (record { enable_name = named; enable_ignore = true; enable_method = true; name = field_name.Default })
 
 -- ---- what is said
 
--- what the attributes of a variant say
+-- What the attributes of a variant say.
 abbrev pub naming_values : DeriveInput → Variant → Values
 naming_values definition variant = place_settings Debug (naming_row variant) (listed definition) variant.attrs
 
--- what the attributes of a field say, where the names of fields are shown or not
+-- What the attributes of a field say, where the names of fields are shown or not.
 abbrev pub entry_settings : Bool → DeriveInput → Field → FieldSettings
 entry_settings named definition = settings_at Debug (entry_row named) (listed definition)
 
 -- ---- names
 
--- the text of a name: its own, the given one, or none
+-- The text of a name: its own, the given one, or none.
 abbrev pub name_text : Ident → TypeName → List ℕ
 name_text own type_name.Disable = []
 name_text own type_name.Default = own.text
 name_text own (type_name.Custom name) = name.text
 
--- the name of the type that is shown, where it says this: of a struct its own if nothing else is said, of an enum none
+-- The name of the type that is shown, where it says this: of a struct its own if nothing else is said, of an enum none.
 abbrev pub type_text : DeriveInput → Values → List ℕ
 type_text definition own = name_text definition.ident (debug.type_name_of (own_type_name definition.shape) own.name)
 
--- the name of a variant that is shown, where it says this: its own if nothing else is said
+-- The name of a variant that is shown, where it says this: its own if nothing else is said.
 abbrev pub variant_text : Variant → Values → List ℕ
 variant_text variant values = name_text variant.ident (debug.type_name_of type_name.Default values.name)
 
--- two names, with `::` between where both are shown
+-- Two names, with `::` between where both are shown.
 abbrev pub path_text : List ℕ → List ℕ → List ℕ
 path_text [] last = last
 path_text (c ∷ first) [] = c ∷ first
@@ -82,15 +82,15 @@ path_text (c ∷ first) (d ∷ last) = (c ∷ first) ++ codes "::" ++ d ∷ last
 
 -- ---- cases
 
--- how the values of a case are shown: whether it is a unit variant, which name is shown, which may be empty, whether the names of its
--- fields are, and its fields
+-- How the values of a case are shown: whether it is a unit variant, which name is shown, which may be empty, whether the names of its
+-- fields are, and its fields.
 pub record ShownCase : Type 0 where
   pub unit : Bool
   pub name : List ℕ
   pub named : Bool
   pub fields : List Field
 
--- those of a struct, where the type says this
+-- Those of a struct, where the type says this.
 abbrev pub struct_case : DeriveInput → Values → FieldShape → ShownCase
 struct_case definition own shape = record {
   unit = false;
@@ -99,7 +99,7 @@ struct_case definition own shape = record {
   fields = shape.fields;
 }
 
--- those of a variant, where the type and the variant say this
+-- Those of a variant, where the type and the variant say this.
 abbrev pub variant_case : DeriveInput → Values → Variant → Values → ShownCase
 variant_case definition own variant values = record {
   unit = is_unit variant;
@@ -108,92 +108,93 @@ variant_case definition own variant values = record {
   fields = fields_in variant;
 }
 
--- the case of a struct
+-- The case of a struct.
 abbrev pub struct_shown : DeriveInput → FieldShape → ShownCase
 struct_shown definition shape = struct_case definition (type_settings Debug definition) shape
 
--- the case of a variant
+-- The case of a variant.
 abbrev pub variant_shown : DeriveInput → Variant → ShownCase
 variant_shown definition variant = variant_case definition (type_settings Debug definition) variant (naming_values definition variant)
 
--- the case of a struct, or that of each variant of an enum
+-- The case of a struct, or that of each variant of an enum.
 abbrev pub cases_for : DeriveInput → Shape → List ShownCase
 cases_for definition (Struct shape) = struct_shown definition shape ∷ []
 cases_for definition (Enum variants) = map (variant_shown definition) variants
 
--- those of a definition, in written order
+-- Those of a definition, in written order.
 abbrev pub shown_cases : DeriveInput → List ShownCase
 shown_cases definition = cases_for definition definition.shape
 
--- the form by whether a case is a unit, whether the names of its fields are shown, and its name: the name of a unit alone; else
--- without names of fields a tuple, and with them a struct, or a map where there is no name
+-- The form by whether a case is a unit, whether the names of its fields are shown, and its name: the name of a unit alone; else
+-- without names of fields a tuple, and with them a struct, or a map where there is no name.
 abbrev pub form_by : Bool → Bool → List ℕ → ShapeForm
 form_by true named name = form.Word
 form_by false false name = form.Tuple
 form_by false true [] = form.Map
 form_by false true (c ∷ name) = form.Struct
 
--- that of a case
+-- That of a case.
 abbrev pub form_of : ShownCase → ShapeForm
 form_of case = form_by case.unit case.named case.name
 
 -- ---- fields
 
--- the fields of a case that are shown, in written order
+-- The fields of a case that are shown, in written order.
 abbrev pub shown_fields : DeriveInput → ShownCase → List Kept
 shown_fields definition case = kept_by 0 case.fields (map (entry_settings case.named definition) case.fields)
 
--- those of all cases
+-- Those of all cases.
 abbrev pub all_shown : DeriveInput → List Kept
 all_shown definition = flat_map (shown_fields definition) (shown_cases definition)
 
--- the text of the name of the field at a place: the given one, or its own, or its index
+-- The text of the name of the field at a place: the given one, or its own, or its index.
 abbrev pub key_text : Option IdentOrBool → ℕ → Field → List ℕ
 key_text None place field = key_of place field
 key_text (Some (said.Ident name)) place field = name.text
 key_text (Some (said.Bool b)) place field = key_of place field
 
--- the text of the name of a field, where names of fields are shown; else none
+-- The text of the name of a field, where names of fields are shown; else none.
 abbrev pub shown_key : Bool → DeriveInput → Kept → List ℕ
 shown_key false definition kept = []
 shown_key true definition kept = key_text (entry_settings true definition kept.field).values.name kept.place kept.field
 
 -- ---- what the settings are
 
--- each of the fields of a case has the settings that its attributes say
+-- Each of the fields of a case has the settings that its attributes say.
 abbrev pub IsCaseSaid : DeriveInput → ShownCase → Type 0
 IsCaseSaid definition case =
     AllByRecursion (λ (field : Field). IsFieldSaid Debug (entry_row case.named) (listed definition) field.attrs (entry_settings case.named definition field)) case.fields
 
--- The settings of the type, of each variant and of each field are what their attributes say of `Debug`, by the forms that are allowed there.
+-- The settings of the type, of each variant and of each field are what their attributes say of `Debug`, by the forms
+-- that are allowed there.
 pub record AreShownSaid (definition : DeriveInput) : Type 0 where
   pub type_said : IsSaid Debug (type_row Debug definition) definition.attrs (type_settings Debug definition)
   pub variants_said : AllByRecursion (λ (variant : Variant). IsSaid Debug (naming_row variant) variant.attrs (naming_values definition variant)) (variants_of definition)
   pub fields_said : AllByRecursion (IsCaseSaid definition) (shown_cases definition)
 
--- no field of the case says something wrong
+-- No field of the case says something wrong.
 abbrev pub IsCaseRead : DeriveInput → ShownCase → Type 0
 IsCaseRead definition case = HaveNoCauses Debug (entry_row case.named) (listed definition) case.fields
 
--- so it is of all cases
+-- So it is of all cases.
 abbrev pub AreCasesRead : DeriveInput → Type 0
 AreCasesRead definition = AllByRecursion (IsCaseRead definition) (shown_cases definition)
 
 -- ---- why it is rejected
 
--- the attributes of the type have no cause of a rejection, and they say this
+-- The attributes of the type have no cause of a rejection, and they say this.
 abbrev pub AreTypeSettings : DeriveInput → Values → Type 0
 AreTypeSettings definition own = AreSettings Debug (type_row Debug definition) definition definition.attrs own
 
--- so it is of those of a variant
+-- So it is of those of a variant.
 abbrev pub AreNamingSettings : DeriveInput → Variant → Values → Type 0
 AreNamingSettings definition variant values = AreSettings Debug (naming_row variant) definition variant.attrs values
 
--- and of those of a field, where the names of fields are shown or not
+-- And of those of a field, where the names of fields are shown or not.
 abbrev pub AreEntrySettings : DeriveInput → Bool → Field → FieldSettings → Type 0
 AreEntrySettings definition named field settings = AreFieldSettings Debug (entry_row named) definition field settings
 
--- this is the case of a struct
+-- This is the case of a struct.
 pub record IsStructCase (definition : DeriveInput) (case : ShownCase) : Type 0 where
   pub own : Values
   pub shape : FieldShape
@@ -201,7 +202,7 @@ pub record IsStructCase (definition : DeriveInput) (case : ShownCase) : Type 0 w
   pub is : definition.shape ≡ Struct shape
   pub case_is : case ≡ struct_case definition own shape
 
--- this is the case of a variant of an enum
+-- This is the case of a variant of an enum.
 pub record IsVariantCase (definition : DeriveInput) (variant : Variant) (case : ShownCase) : Type 0 where
   pub own : Values
   pub values : Values
@@ -212,36 +213,36 @@ pub record IsVariantCase (definition : DeriveInput) (variant : Variant) (case : 
   pub variant_settings : AreNamingSettings definition variant values
   pub case_is : case ≡ variant_case definition own variant values
 
--- the case of a struct, or of a variant
+-- The case of a struct, or of a variant.
 pub data IsCase (definition : DeriveInput) (case : ShownCase) : Type 0 where
   of_struct : IsStructCase definition case → IsCase definition case
   of_variant : (variant : Variant) → IsVariantCase definition variant case → IsCase definition case
 
--- the field is not shown
+-- The field is not shown.
 pub record IsIgnored (definition : DeriveInput) (named : Bool) (field : Field) : Type 0 where
   pub all : FieldSettings
   pub settings : AreEntrySettings definition named field all
   pub ignored : keeps all ≡ false
 
--- no name is shown of the case, and none of its fields is
+-- No name is shown of the case, and none of its fields is.
 pub record IsNameless (definition : DeriveInput) (case : ShownCase) : Type 0 where
   pub nameless : case.name ≡ []
   pub fieldless : AllByRecursion (IsIgnored definition case.named) case.fields
 
--- no name is shown of an enum without variants
+-- No name is shown of an enum without variants.
 pub record IsNamelessEnum (definition : DeriveInput) : Type 0 where
   pub own : Values
   pub settings : AreTypeSettings definition own
   pub is : definition.shape ≡ Enum []
   pub nameless : type_text definition own ≡ []
 
--- the error for a name that is needed
+-- The error for a name that is needed.
 abbrev pub name_needed : Kind → Span → EduceError
 name_needed kind place = record { kind = kind; span = place; words = [] }
 
--- why `Debug` is rejected: what the type says of it is; what a variant or a field says of it is, by the forms that are allowed there;
+-- Why `Debug` is rejected: what the type says of it is; what a variant or a field says of it is, by the forms that are allowed there;
 -- neither a name nor a field is shown of a struct, or of a variant that has brackets; or no name is shown of a unit variant, or of an
--- enum without variants
+-- enum without variants.
 pub data IsShownCause (definition : DeriveInput) : EduceError → Type 0 where
   by_type : {e : EduceError} → IsSaidCause Debug (type_row Debug definition) definition.attrs e → IsShownCause definition e
   by_variant : {e : EduceError} (variant : Variant) → IsAmong variant (variants_of definition) → IsSaidCause Debug (naming_row variant) variant.attrs e

@@ -32,9 +32,9 @@ use Rattle.educe_laws.specs.Steps.{Reading, of_base, bound, IsRead}
 
 -- ---- names
 
--- the names that the block declares: the formatter; the builder; the argument of a method; the type that wraps a field and its
+-- The names that the block declares: the formatter; the builder; the argument of a method; the type that wraps a field and its
 -- method; the type of the keys of a map; the two parameters of the wrapper; the value and the formatter that the method is called
--- on; the function of a marker, and its formatter; and the prefix of the variables for the fields of the value
+-- on; the function of a marker, and its formatter; and the prefix of the variables for the fields of the value.
 pub record DebugNames : Type 0 where
   pub formatter : List ℕ
   pub builder : List ℕ
@@ -49,49 +49,49 @@ pub record DebugNames : Type 0 where
   pub marker_formatter : List ℕ
   pub prefix : List ℕ
 
--- those among them that `fmt` declares, as they are written where nothing is in their way
+-- Those among them that `fmt` declares, as they are written where nothing is in their way.
 abbrev pub plain_fmt_names : List (List ℕ)
 plain_fmt_names =
     codes "f" ∷ codes "builder" ∷ codes "arg" ∷ codes "Educe__DebugField" ∷ codes "Educe__RawString" ∷ codes "V" ∷ codes "F" ∷ codes "educe__value"
     ∷ codes "educe__formatter" ∷ []
 
--- the names that are chosen for these
+-- The names that are chosen for these.
 abbrev pub chosen_fmt_names : DebugNames → List (List ℕ)
 chosen_fmt_names names =
     names.formatter ∷ names.builder ∷ names.argument ∷ names.wrapper ∷ names.helper ∷ names.value_type ∷ names.function_type ∷ names.value
     ∷ names.value_formatter ∷ []
 
--- those that a marker declares besides
+-- Those that a marker declares besides.
 abbrev pub plain_marker_names : List (List ℕ)
 plain_marker_names = codes "__educe_debug_method_used" ∷ codes "educe__f" ∷ []
 
--- the names that are chosen for these
+-- The names that are chosen for these.
 abbrev pub chosen_marker_names : DebugNames → List (List ℕ)
 chosen_marker_names names = names.function ∷ names.marker_formatter ∷ []
 
--- the names of a marker: its function, and the parameters of that
+-- The names of a marker: its function, and the parameters of that.
 abbrev pub marker_names : DebugNames → List (List ℕ)
 marker_names names = names.function ∷ names.value ∷ names.marker_formatter ∷ []
 
--- the names are chosen in this order; the prefix is chosen apart from the words of the definition and from those that `fmt` declares
+-- The names are chosen in this order; the prefix is chosen apart from the words of the definition and from those that `fmt` declares.
 pub record AreDebugNames (definition : DeriveInput) (names : DebugNames) : Type 0 where
   pub are : AreChosenFor definition (plain_fmt_names ++ plain_marker_names) (chosen_fmt_names names ++ chosen_marker_names names)
   pub prefix_is : IsPrefix (are.words ++ chosen_fmt_names names) (codes "_") names.prefix
 
 -- ---- entries
 
--- the literal has this text
+-- The literal has this text.
 pub record IsText (text : List ℕ) (literal : LiteralText) : Type 0 where
   pub is : literal.text ≡ text
 
--- the key of an entry of what is shown so: in a struct this text, in a tuple none, in a map this text as a value of the helper type
+-- The key of an entry of what is shown so: in a struct this text, in a tuple none, in a map this text as a value of the helper type.
 abbrev pub IsEntryKey : DebugNames → ShapeForm → List ℕ → EntryKey → Type 0
 IsEntryKey names form.Word text key = ⊥
 IsEntryKey names form.Struct text key = (literal : LiteralText) × IsText text literal × (key ≡ entry.Named literal)
 IsEntryKey names form.Tuple text key = key ≡ entry.Unnamed
 IsEntryKey names form.Map text key = (helper : Ident) × (literal : LiteralText) × IsName names.helper helper × IsText text literal × (key ≡ entry.Mapped helper literal)
 
--- the entry of what this form gives, before which `&` stands or not
+-- The entry of what this form gives, before which `&` stands or not.
 pub record IsEntry (names : DebugNames) (form : ShapeForm) (text : List ℕ) (by_reference : Bool) (held x : Form) : Type 0 where
   pub builder : Ident
   pub builder_is : IsName names.builder builder
@@ -99,7 +99,7 @@ pub record IsEntry (names : DebugNames) (form : ShapeForm) (text : List ℕ) (by
   pub key_is : IsEntryKey names form text key
   pub is : x ≡ BuilderEntry builder key held by_reference
 
--- the names of an argument
+-- The names of an argument.
 pub record AreArgumentNames (names : DebugNames) (own : ArgumentNames) : Type 0 where
   pub argument_is : IsName names.argument own.argument
   pub wrapper_is : IsName names.wrapper own.wrapper
@@ -109,18 +109,18 @@ pub record AreArgumentNames (names : DebugNames) (own : ArgumentNames) : Type 0 
   pub own_value_is : IsName names.value own.own_value
   pub own_formatter_is : IsName names.value_formatter own.own_formatter
 
--- the argument of the method of a field on what this form gives, with the type of the field as it was written
+-- The argument of the method of a field on what this form gives, with the type of the field as it was written.
 pub record IsArgument (names : DebugNames) (field : Field) (path : ExprPath) (held x : Form) : Type 0 where
   pub own : ArgumentNames
   pub own_are : AreArgumentNames names own
   pub is : x ≡ MethodArgument own held field.ty.written path
 
--- a field of a struct is handed to the builder behind a further `&`, but not a variable
+-- A field of a struct is handed to the builder behind a further `&`, but not a variable.
 abbrev pub is_lent : Reading → Bool
 is_lent (of_base copied base) = true
 is_lent (bound prefix) = false
 
--- the forms on a field without a method: the entry of what is read
+-- The forms on a field without a method: the entry of what is read.
 pub record ArePlain (names : DebugNames) (form : ShapeForm) (text : List ℕ) (reading : Reading) (kept : Kept) (forms : List Form) : Type 0 where
   pub read : Form
   pub read_is : IsRead reading kept read
@@ -128,7 +128,7 @@ pub record ArePlain (names : DebugNames) (form : ShapeForm) (text : List ℕ) (r
   pub entry_is : IsEntry names form text (is_lent reading) read entry
   pub are : forms ≡ entry ∷ []
 
--- those on a field with this method: the argument on what is read, and the entry of the argument
+-- Those on a field with this method: the argument on what is read, and the entry of the argument.
 pub record AreByMethod (names : DebugNames) (form : ShapeForm) (text : List ℕ) (reading : Reading) (kept : Kept) (path : ExprPath) (forms : List Form) : Type 0 where
   pub read : Form
   pub read_is : IsRead reading kept read
@@ -140,13 +140,13 @@ pub record AreByMethod (names : DebugNames) (form : ShapeForm) (text : List ℕ)
   pub entry_is : IsEntry names form text true (Local local) entry
   pub are : forms ≡ argument ∷ entry ∷ []
 
--- the forms on a field that is treated so
+-- The forms on a field that is treated so.
 abbrev pub AreFormsBy : DebugNames → ShapeForm → List ℕ → Reading → Kept → How → List Form → Type 0
 AreFormsBy names form text reading kept plainly forms = ArePlain names form text reading kept forms
 AreFormsBy names form text reading kept (by_method path) forms = AreByMethod names form text reading kept path forms
 AreFormsBy names form text reading kept (by_order path) forms = AreByMethod names form text reading kept path forms
 
--- the forms on each of these fields of a case, in their order
+-- The forms on each of these fields of a case, in their order.
 abbrev pub AreEntries : DeriveInput → DebugNames → ShownCase → Reading → List Kept → List Form → Type 0
 AreEntries definition names case reading [] forms = forms ≡ []
 AreEntries definition names case reading (k ∷ kept) forms =
@@ -155,14 +155,14 @@ AreEntries definition names case reading (k ∷ kept) forms =
 
 -- ---- blocks
 
--- the call that begins the builder, by the form and the name of what is shown
+-- The call that begins the builder, by the form and the name of what is shown.
 abbrev pub IsOpening : ShapeForm → List ℕ → Opening → Type 0
 IsOpening form.Word name begins = ⊥
 IsOpening form.Struct name begins = (literal : LiteralText) × IsText name literal × (begins ≡ opening.Struct literal)
 IsOpening form.Tuple name begins = (literal : LiteralText) × IsText name literal × (begins ≡ opening.Tuple literal)
 IsOpening form.Map name begins = begins ≡ opening.Map
 
--- a builder is begun, has an entry for each field of the case that is shown, in written order, which is read so, and is finished
+-- A builder is begun, has an entry for each field of the case that is shown, in written order, which is read so, and is finished.
 pub record IsBuilt (definition : DeriveInput) (names : DebugNames) (reading : Reading) (case : ShownCase) (block : List Form) : Type 0 where
   pub builder : Ident
   pub builder_is : IsName names.builder builder
@@ -176,7 +176,7 @@ pub record IsBuilt (definition : DeriveInput) (names : DebugNames) (reading : Re
   pub last_is : IsName names.builder last
   pub block_is : block ≡ Builder builder formatter begins ∷ (entries ++ Finish last ∷ [])
 
--- a name is written
+-- A name is written.
 pub record IsWritten (names : DebugNames) (name : List ℕ) (block : List Form) : Type 0 where
   pub formatter : Ident
   pub formatter_is : IsName names.formatter formatter
@@ -184,53 +184,53 @@ pub record IsWritten (names : DebugNames) (name : List ℕ) (block : List Form) 
   pub literal_is : IsText name literal
   pub block_is : block ≡ WriteText formatter literal ∷ []
 
--- the block for a struct: it reads the fields of `self`, in a packed struct by copies
+-- The block for a struct: it reads the fields of `self`, in a packed struct by copies.
 pub record IsDebugStruct (definition : DeriveInput) (names : DebugNames) (shape : FieldShape) (block : List Form) : Type 0 where
   pub copied : Bool
   pub copied_are : AreCopied definition copied
   pub built : IsBuilt definition names (of_base copied (codes "self")) (struct_shown definition shape) block
 
--- the block in the arm of a variant: with true it writes the name; and else it has a builder, which reads the variables
+-- The block in the arm of a variant: with true it writes the name; and else it has a builder, which reads the variables.
 abbrev pub IsArmBlock : Bool → DeriveInput → DebugNames → ShownCase → List Form → Type 0
 IsArmBlock true definition names case block = IsWritten names case.name block
 IsArmBlock false definition names case block = IsBuilt definition names (bound names.prefix) case block
 
--- the arm of a variant: it has a comma, and braces where it does not only write the name
+-- The arm of a variant: it has a comma, and braces where it does not only write the name.
 pub record IsDebugArm (definition : DeriveInput) (names : DebugNames) (variant : Variant) (arm : Arm) : Type 0 where
   pub spelled : IsSpelled (not (variant_shown definition variant).unit) true arm
   pub pattern_is : IsPatternBy names.prefix variant (map (entry_settings (variant_shown definition variant).named definition) (fields_in variant)) arm.pattern
   pub block_is : IsArmBlock (variant_shown definition variant).unit definition names (variant_shown definition variant) arm.block
 
--- the block for an enum; without variants its name is written
+-- The block for an enum; without variants its name is written.
 abbrev pub IsDebugEnum : DeriveInput → DebugNames → List Variant → List Form → Type 0
 IsDebugEnum definition names [] block = IsWritten names (type_text definition (type_settings Debug definition)) block
 IsDebugEnum definition names (v ∷ vs) block = IsMatchOnSelf (IsDebugArm definition names) (v ∷ vs) block
 
--- the block for what stands behind the name of a definition
+-- The block for what stands behind the name of a definition.
 abbrev pub IsDebugBlockFor : DeriveInput → DebugNames → Shape → List Form → Type 0
 IsDebugBlockFor definition names (Struct shape) block = IsDebugStruct definition names shape block
 IsDebugBlockFor definition names (Enum variants) block = IsDebugEnum definition names variants block
 
 -- ---- the body
 
--- it is a map
+-- It is a map.
 abbrev pub is_map : ShapeForm → Bool
 is_map form.Word = false
 is_map form.Struct = false
 is_map form.Tuple = false
 is_map form.Map = true
 
--- the values of a case are shown as a map
+-- The values of a case are shown as a map.
 abbrev pub uses_map : DeriveInput → Bool
 uses_map definition = list_any (λ case. is_map (form_of case)) (shown_cases definition)
 
--- with true the type of the keys of a map, and behind it these forms; else these alone
+-- With true the type of the keys of a map, and behind it these forms; else these alone.
 abbrev pub HasHelper : Bool → DebugNames → List Form → List Form → Type 0
 HasHelper false names forms block = block ≡ forms
 HasHelper true names forms block =
     (helper : Ident) × (formatter : Ident) × IsName names.helper helper × IsName names.formatter formatter × (block ≡ HelperType helper formatter ∷ forms)
 
--- the body of `fmt`: its parameter is the formatter, and the type of the keys of a map stands in front, where a case is shown as a map
+-- The body of `fmt`: its parameter is the formatter, and the type of the keys of a map stands in front, where a case is shown as a map.
 pub record IsDebugBody (definition : DeriveInput) (names : DebugNames) (body : Body) : Type 0 where
   pub param : Word
   pub params_are : body.params ≡ param ∷ []

@@ -22,12 +22,12 @@ use Rattle.educe_laws.specs.Comparing.{comparison}
 
 -- ---- how a field is read
 
--- `& base . key`, or with true `& { base . key }`, which reads a copy
+-- `& base . key`, or with true `& { base . key }`, which reads a copy.
 abbrev pub reference_form : Bool → Ident → Word → Form
 reference_form false base key = Reference base key
 reference_form true base key = BracedCopy base key
 
--- the reference to the field at a place, or with true to a copy of it: the key is its name, or its place where it has none
+-- The reference to the field at a place, or with true to a copy of it: the key is its name, or its place where it has none.
 pub record IsReference (copied : Bool) (base : List ℕ) (place : ℕ) (field : Field) (x : Form) : Type 0 where
   pub base_name : Ident
   pub key : Word
@@ -36,26 +36,26 @@ pub record IsReference (copied : Bool) (base : List ℕ) (place : ℕ) (field : 
   pub nowhere : base_name.span ≡ no_place
   pub key_is : key.text ≡ key_of place field
 
--- the local variable of the field at a place: its name is the prefix, and behind it the field's key without `r#`
+-- The local variable of the field at a place: its name is the prefix, and behind it the field's key without `r#`.
 pub record IsVariable (prefix : List ℕ) (place : ℕ) (field : Field) (x : Form) : Type 0 where
   pub name : Ident
   pub is : x ≡ Local name
   pub name_is : name.text ≡ prefix ++ binding_key place field
   pub nowhere : name.span ≡ no_place
 
--- a field is read of the value of this name, with true by a copy; or as the local variable behind this prefix
+-- A field is read of the value of this name, with true by a copy; or as the local variable behind this prefix.
 pub data Reading : Type 0 where
   of_base : Bool → List ℕ → Reading
   bound : List ℕ → Reading
 
--- the form reads the field so
+-- The form reads the field so.
 abbrev pub IsRead : Reading → Kept → Form → Type 0
 IsRead (of_base copied base) kept x = IsReference copied base kept.place kept.field x
 IsRead (bound prefix) kept x = IsVariable prefix kept.place kept.field x
 
 -- ---- steps
 
--- what a step tests: `eq` negates what a method answers; `partial_cmp` takes the order of a method of `Ord` in `Some`
+-- What a step tests: `eq` negates what a method answers; `partial_cmp` takes the order of a method of `Ord` in `Some`.
 abbrev pub tested : Comparison → How → Form → Form
 tested PartialEq plainly call = call
 tested PartialEq (by_method path) call = Not call
@@ -65,19 +65,19 @@ tested PartialOrd (by_method path) call = call
 tested PartialOrd (by_order path) call = SomeOf call
 tested Ord how call = call
 
--- the step for this test: `eq` returns false where the two differ; an order goes on where it is Equal, and else returns it
+-- The step for this test: `eq` returns false where the two differ; an order goes on where it is Equal, and else returns it.
 abbrev pub step_of : Comparison → Form → Form
 step_of PartialEq test = IfReturn test
 step_of PartialOrd test = MatchOrdering test true None Greater Less
 step_of Ord test = MatchOrdering test false None Greater Less
 
--- the path that is called: that of this function of the core library, or the method's as it was read
+-- The path that is called: that of this function of the core library, or the method's as it was read.
 abbrev pub IsCalled : BuiltIn → How → ExprPath → Type 0
 IsCalled function plainly path = IsBuiltIn function path
 IsCalled function (by_method own) path = path ≡ own
 IsCalled function (by_order own) path = path ≡ own
 
--- a call on this field of both values and no other: `path ( & self . key , & other . key )`, or on the field's two variables
+-- A call on this field of both values and no other: `path ( & self . key , & other . key )`, or on the field's two variables.
 pub record IsComparison (which : Comparison) (own others : Reading) (kept : Kept) (x : Form) : Type 0 where
   pub path : ExprPath
   pub first : Form
@@ -87,26 +87,26 @@ pub record IsComparison (which : Comparison) (own others : Reading) (kept : Kept
   pub first_is : IsRead own kept first
   pub second_is : IsRead others kept second
 
--- the step of a trait on a field: what it does with that call
+-- The step of a trait on a field: what it does with that call.
 pub record IsStep (which : Comparison) (own others : Reading) (kept : Kept) (x : Form) : Type 0 where
   pub compares : Form
   pub is : x ≡ step_of which (tested which kept.how compares)
   pub comparison_is : IsComparison which own others kept compares
 
--- one step for each of these fields, in their order
+-- One step for each of these fields, in their order.
 abbrev pub AreSteps : Comparison → Reading → Reading → List Kept → List Form → Type 0
 AreSteps which own others ordered steps = AllZip (λ k step. IsStep which own others k step) ordered steps
 
--- the same fields, in the order of their ranks
+-- The same fields, in the order of their ranks.
 pub record IsByRank (kept sorted : List Kept) : Type 0 where
   pub same : IsPermutation kept sorted
   pub rises : Rises (λ (k : Kept). k.rank) sorted
 
--- with true by rank, and else as they are written
+-- With true by rank, and else as they are written.
 abbrev pub IsOrdered : Bool → List Kept → List Kept → Type 0
 IsOrdered true kept ordered = IsByRank kept ordered
 IsOrdered false kept ordered = ordered ≡ kept
 
--- the order in which a trait goes over the fields: the two orders by rank, and the others as they are written
+-- The order in which a trait goes over the fields: the two orders by rank, and the others as they are written.
 abbrev pub IsInOrder : Trait → List Kept → List Kept → Type 0
 IsInOrder which = IsOrdered (is_order which)

@@ -18,31 +18,31 @@ use Rattle.educe_laws.specs.Steps.{IsInOrder}
 
 -- ---- the types of fields
 
--- the fields that take part, in the order in which the trait goes over those of each case, and one case behind the other
+-- The fields that take part, in the order in which the trait goes over those of each case, and one case behind the other.
 abbrev pub AreVisited : Trait → DeriveInput → List (List Field) → List Kept → Type 0
 AreVisited which definition [] visited = visited ≡ []
 AreVisited which definition (fields ∷ cases) visited =
     (own : List Kept) × (more : List Kept) × (visited ≡ own ++ more) × IsInOrder which (kept_fields which definition fields) own × AreVisited which definition cases more
 
--- the type of a field
+-- The type of a field.
 abbrev pub type_of : Kept → Ty
 type_of kept = kept.field.ty
 
--- the type of a field on which the trait's own function is called
+-- The type of a field on which the trait's own function is called.
 abbrev pub touched_by : How → Ty → Option Ty
 touched_by plainly ty = Some ty
 touched_by (by_method path) ty = None
 touched_by (by_order path) ty = None
 
--- the types of the fields that are read
+-- The types of the fields that are read.
 abbrev pub read_types : List Kept → List Ty
 read_types visited = map type_of visited
 
--- the types of those on which the trait's own function is called
+-- The types of those on which the trait's own function is called.
 abbrev pub touched_types : List Kept → List Ty
 touched_types visited = filter_map (λ k. touched_by k.how (type_of k)) visited
 
--- the types are those of the fields that take part: all of these are read, and on some the trait's own function is called
+-- The types are those of the fields that take part: all of these are read, and on some the trait's own function is called.
 pub record AreOfFields (which : Trait) (definition : DeriveInput) (read touched : List Ty) : Type 0 where
   pub visited : List Kept
   pub visited_are : AreVisited which definition (cases_of definition) visited
@@ -51,33 +51,33 @@ pub record AreOfFields (which : Trait) (definition : DeriveInput) (read touched 
 
 -- ---- the types that are checked
 
--- with true those of the fields that `PartialEq` compares by its own function, as they are written; and else those of all fields
+-- With true those of the fields that `PartialEq` compares by its own function, as they are written; and else those of all fields.
 abbrev pub checked_with : Bool → DeriveInput → List Ty
 checked_with true definition = touched_types (flat_map (kept_fields trait.PartialEq definition) (cases_of definition))
 checked_with false definition = map (λ (f : Field). f.ty) (all_fields definition)
 
--- the types of which `Eq` is checked, by whether `PartialEq` is listed
+-- The types of which `Eq` is checked, by whether `PartialEq` is listed.
 abbrev pub checked_types : DeriveInput → List Ty
 checked_types definition = checked_with (is_listed (listed definition) trait.PartialEq) definition
 
 -- ---- the types of each trait
 
--- no field is read, and these types have to have the trait
+-- No field is read, and these types have to have the trait.
 pub record AreUnread (types read touched : List Ty) : Type 0 where
   pub none_read : read ≡ []
   pub touched_are : touched ≡ types
 
--- with true, where values are copied as a whole, none are read; and else those of all fields that take part
+-- With true, where values are copied as a whole, none are read; and else those of all fields that take part.
 abbrev pub AreCloneTypes : Bool → DeriveInput → List Ty → List Ty → Type 0
 AreCloneTypes true definition read touched = AreUnread [] read touched
 AreCloneTypes false definition read touched = AreOfFields trait.Clone definition read touched
 
--- all of these fields are read, and on some the trait's own function is called
+-- All of these fields are read, and on some the trait's own function is called.
 pub record AreOfThese (visited : List Kept) (read touched : List Ty) : Type 0 where
   pub read_are : read ≡ read_types visited
   pub touched_are : touched ≡ touched_types visited
 
--- the types of the fields that the functions of a trait read, and the types that have to have the trait
+-- The types of the fields that the functions of a trait read, and the types that have to have the trait.
 abbrev pub AreTypes : Trait → DeriveInput → List Ty → List Ty → Type 0
 AreTypes trait.Clone definition read touched = AreCloneTypes (copies_whole definition) definition read touched
 AreTypes trait.Copy definition read touched = AreUnread (map (λ (f : Field). f.ty) (all_fields definition)) read touched

@@ -19,30 +19,30 @@ use Rattle.educe_laws.specs.Listed.{listed}
 use Rattle.educe_laws.specs.Rows.{type_row}
 use Rattle.educe_laws.specs.Settings.{bound_for}
 
--- the type of the field names none of the type and const parameters
+-- The type of the field names none of the type and const parameters.
 abbrev pub is_closed : List GenericParam → Field → Bool
 is_closed params field = not (uses_params params field.ty)
 
--- so it is with the types of all fields
+-- So it is with the types of all fields.
 abbrev pub is_closed_shape : List GenericParam → Shape → Bool
 is_closed_shape params (Struct shape) = list_all (is_closed params) shape.fields
 is_closed_shape params (Enum variants) = list_all (λ v. list_all (is_closed params) (fields_in v)) variants
 
--- the definition has no generic parameter, or the bound lists no predicate
+-- The definition has no generic parameter, or the bound lists no predicate.
 abbrev pub is_unbounded : DeriveInput → Bound → Bool
 is_unbounded definition bound = is_empty definition.generics.params || not (has_predicates bound)
 
--- `clone` copies the value as a whole, by whether a field has a method of `Clone`
+-- `clone` copies the value as a whole, by whether a field has a method of `Clone`.
 abbrev pub copies_with : DeriveInput → Bool → Bool
 copies_with definition has_method =
     is_listed (listed definition) trait.Copy && (not has_method && is_closed_shape definition.generics.params definition.shape)
     && is_unbounded definition (bound_for trait.Copy definition)
 
--- where `Copy` is listed, nothing that the type says of it is wrong
+-- Where `Copy` is listed, nothing that the type says of it is wrong.
 abbrev pub IsCopyUncaused : DeriveInput → Type 0
 IsCopyUncaused definition =
     is_listed (listed definition) trait.Copy ≡ true → NoCause (OfPlace trait.Copy (type_row trait.Copy definition) (listed definition) definition.attrs)
 
--- it is listed, and something is
+-- It is listed, and something is.
 abbrev pub OfCopy : DeriveInput → EduceError → Type 0
 OfCopy definition e = (is_listed (listed definition) trait.Copy ≡ true) × OfPlace trait.Copy (type_row trait.Copy definition) (listed definition) definition.attrs e

@@ -2,6 +2,6 @@
 use Rattle.educe_laws.specs.CloneLaws.{CloneLaws}
 use Rattle.educe_laws.proofs.CloneEvaluating as evaluating
 
--- the functions of the block of `Clone` evaluate to what they mean
+-- The functions of the block of `Clone` evaluate to what they mean.
 pub lawful_clones : CloneLaws
 lawful_clones = evaluating.lawful_clones

@@ -2,7 +2,7 @@
 use Rattle.educe_make_clone.specs.declared.clone_names.CloneNames.{CloneNames}
 use Rattle.educe_laws.specs.CloneBodies as laws
 
--- the texts of the names, and the prefixes
+-- The texts of the names, and the prefixes.
 abbrev pub names_of : CloneNames → laws.CloneNames
 names_of names = record {
   source = names.source.text;

@@ -10,7 +10,7 @@ use Rattle.educe_laws.specs.Arms.{IsName, IsPatternBy}
 use Rattle.educe_laws.specs.CloneBodies.{CloneNames, IsThrough, IsWhole}
 use Rattle.educe_laws.specs.Settings.{Kept}
 
--- if the source is of this variant, one step for each of these fields, and else it is cloned as a whole
+-- If the source is of this variant, one step for each of these fields, and else it is cloned as a whole.
 pub record IsFromArmBlock (names : CloneNames) (variant : Variant) (all : List FieldSettings) (fields : List Kept) (block : List Form) : Type 0 where
   pub inner : Pattern
   pub inner_is : IsPatternBy names.sources variant all inner

@@ -5,7 +5,7 @@ use Rattle.educe_body_forms.specs.declared.form.Arm.{Arm}
 use Rattle.educe_body_forms.specs.declared.form.Form.{Form, MatchValue}
 use Rattle.educe_laws.specs.Arms.{IsName}
 
--- a match on the value of `self` with these arms
+-- A match on the value of `self` with these arms.
 pub record IsMatchOf (arms : List Arm) (block : List Form) : Type 0 where
   pub value : Ident
   pub value_is : IsName (codes "self") value

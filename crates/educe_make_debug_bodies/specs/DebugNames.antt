@@ -5,7 +5,7 @@ use Rattle.educe_make_debug_bodies.specs.declared.debug_names.FmtNames.{FmtNames
 use Rattle.educe_make_debug_bodies.specs.declared.debug_names.Two.{Two}
 use Rattle.educe_laws.specs.ShownBodies as laws
 
--- the texts of the names, and the prefix
+-- The texts of the names, and the prefix.
 abbrev pub names_of : DebugNames → laws.DebugNames
 names_of names = record {
   formatter = names.formatter.text;
@@ -22,13 +22,13 @@ names_of names = record {
   prefix = names.prefix;
 }
 
--- the texts of those that `fmt` declares, in the order in which they are chosen
+-- The texts of those that `fmt` declares, in the order in which they are chosen.
 abbrev pub fmt_texts : FmtNames → List (List ℕ)
 fmt_texts names =
     names.own.first.text ∷ names.own.second.text ∷ names.wrapped.first.text ∷ names.wrapped.second.text ∷ names.helper.text ∷ names.types.first.text
     ∷ names.types.second.text ∷ names.values.first.text ∷ names.values.second.text ∷ []
 
--- the texts of these names, the prefix, and the texts of the names of a marker
+-- The texts of these names, the prefix, and the texts of the names of a marker.
 abbrev pub with_marker : FmtNames → List ℕ → Two → laws.DebugNames
 with_marker names prefix marker = record {
   formatter = names.own.first.text;

@@ -8,7 +8,7 @@ use Rattle.educe_body_values.specs.declared.shape.ShapeForm.{ShapeForm}
 use Rattle.educe_laws.specs.Arms.{IsName}
 use Rattle.educe_laws.specs.ShownBodies.{DebugNames, IsArgument, IsEntry}
 
--- the argument of the method on what a form gives, and the entry of the argument
+-- The argument of the method on what a form gives, and the entry of the argument.
 pub record AreArgued (names : DebugNames) (form : ShapeForm) (text : List ℕ) (field : Field) (path : ExprPath) (held : Form) (forms : List Form) : Type 0 where
   pub argument : Form
   pub argument_is : IsArgument names field path held argument

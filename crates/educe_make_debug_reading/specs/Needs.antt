@@ -7,16 +7,16 @@ use Rattle.educe_make_debug_shown.specs.Texts.{is_shown}
 use Rattle.educe_make_debug_shown.specs.declared.debug_shown.Case.{Case}
 use Rattle.educe_make_debug_shown.specs.declared.debug_shown.Shown.{Shown}
 
--- a name or a field of the case is shown
+-- A name or a field of the case is shown.
 abbrev pub shows : Case → Bool
 shows case = is_shown case.name.text || list_any keeps case.settings
 
--- nothing is shown, and that is rejected so
+-- Nothing is shown, and that is rejected so.
 pub record IsNeeded (shows : Bool) (own e : EduceError) : Type 0 where
   pub nothing : shows ≡ false
   pub is : e ≡ own
 
--- of each case something is shown; and where there is none, the name of the type is
+-- Of each case something is shown; and where there is none, the name of the type is.
 pub record AreEnough (shown : Shown) : Type 0 where
   pub cases : AllByRecursion (λ case. shows case ≡ true) shown.cases
   pub name : shown.cases ≡ [] → is_shown shown.name.text ≡ true

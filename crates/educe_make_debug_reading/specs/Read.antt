@@ -14,31 +14,31 @@ use Rattle.educe_laws.specs.Listed.{listed}
 use Rattle.educe_laws.specs.Settings.{type_settings}
 use Rattle.educe_laws.specs.Shown.{naming_row, variant_shown, AreTypeSettings, IsCaseRead, AreCasesRead}
 
--- the listed traits are those of the definition, and the attributes of its type have no cause
+-- The listed traits are those of the definition, and the attributes of its type have no cause.
 pub record IsTyped (definition : DeriveInput) (traits : List Trait) : Type 0 where
   pub traits_are : traits ≡ listed definition
   pub own : AreTypeSettings definition (type_settings Debug definition)
 
--- this is a variant of the definition
+-- This is a variant of the definition.
 pub record IsOneOf (definition : DeriveInput) (variant : Variant) : Type 0 where
   pub variants : List Variant
   pub is : definition.shape ≡ Enum variants
   pub among : IsAmong variant variants
 
--- the attributes of a variant have no cause
+-- The attributes of a variant have no cause.
 abbrev pub IsNamingRead : DeriveInput → Variant → Type 0
 IsNamingRead definition variant = NoCause (OfPlace Debug (naming_row variant) (listed definition) variant.attrs)
 
--- nor have those of its fields
+-- Nor have those of its fields.
 pub record IsVariantRead (definition : DeriveInput) (variant : Variant) : Type 0 where
   pub naming : IsNamingRead definition variant
   pub fields : IsCaseRead definition (variant_shown definition variant)
 
--- so it is of each variant
+-- So it is of each variant.
 abbrev pub AreVariantsRead : DeriveInput → List Variant → Type 0
 AreVariantsRead definition variants = AllByRecursion (IsVariantRead definition) variants
 
--- the attributes of the variants have no cause, nor have those of the fields
+-- The attributes of the variants have no cause, nor have those of the fields.
 pub record AreRead (definition : DeriveInput) : Type 0 where
   pub namings : AllByRecursion (IsNamingRead definition) (variants_of definition)
   pub cases : AreCasesRead definition

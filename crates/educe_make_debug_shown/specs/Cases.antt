@@ -12,35 +12,35 @@ use Rattle.educe_make_debug_shown.specs.declared.debug_shown.Shown.{Shown}
 
 -- ---- cases
 
--- the case behind the references
+-- The case behind the references.
 abbrev pub shown_of : Case → ShownCase
 shown_of case = record { unit = case.unit; name = case.name.text; named = case.named; fields = case.fields.now }
 
--- the settings of its fields are what their attributes say
+-- The settings of its fields are what their attributes say.
 abbrev pub AreSettled : DeriveInput → Case → Type 0
 AreSettled definition case = case.settings ≡ map (entry_settings case.named definition) case.fields.now
 
--- this is the case that is shown so
+-- This is the case that is shown so.
 pub record IsCaseOf (definition : DeriveInput) (shown : ShownCase) (case : Case) : Type 0 where
   pub is : shown_of case ≡ shown
   pub settled : AreSettled definition case
   pub own : IsOwnCase definition shown case.need case.place
 
--- those of the variants
+-- Those of the variants.
 abbrev pub AreVariantCases : DeriveInput → List Variant → List Case → Type 0
 AreVariantCases definition variants cases = AllZip (λ variant case. IsCaseOf definition (variant_shown definition variant) case) variants cases
 
--- those of a definition
+-- Those of a definition.
 abbrev pub AreCases : DeriveInput → List Case → Type 0
 AreCases definition cases = AllZip (IsCaseOf definition) (shown_cases definition) cases
 
--- how the values of a definition are shown
+-- How the values of a definition are shown.
 pub record IsShown (shown : Shown) : Type 0 where
   pub name_is : shown.name.text ≡ type_text shown.ast.now (type_settings Debug shown.ast.now)
   pub cases_are : AreCases shown.ast.now shown.cases
 
 -- ---- fields
 
--- the fields of a case that are shown
+-- The fields of a case that are shown.
 abbrev pub kept_in : Case → List Kept
 kept_in case = kept_by 0 case.fields.now case.settings

@@ -11,17 +11,17 @@ use Rattle.educe_attrs.specs.Among.{IsAmong}
 use Rattle.educe_laws.specs.Arms.{is_unit}
 use Rattle.educe_laws.specs.Shown.{ShownCase, struct_shown, variant_shown}
 
--- why a variant is rejected, with true a unit
+-- Why a variant is rejected, with true a unit.
 abbrev pub variant_kind : Bool → Kind
 variant_kind true = UnitVariantNeedName
 variant_kind false = UnitStructNeedName
 
--- and at which place
+-- And at which place.
 abbrev pub variant_place : Bool → Variant → Span
 variant_place true variant = variant.span
 variant_place false variant = variant.ident.span
 
--- this is the case of the struct, or of a variant; where nothing of it is shown, it is rejected for this at this place
+-- This is the case of the struct, or of a variant; where nothing of it is shown, it is rejected for this at this place.
 pub data IsOwnCase (definition : DeriveInput) : ShownCase → Kind → Span → Type 0 where
   of_struct : (shape : FieldShape) → definition.shape ≡ Struct shape → IsOwnCase definition (struct_shown definition shape) UnitStructNeedName definition.ident.span
   of_variant : (variants : List Variant) (variant : Variant) → definition.shape ≡ Enum variants → IsAmong variant variants

@@ -6,17 +6,17 @@ use Rattle.educe_attrs.specs.declared.debug.TypeName.TheVariants as type_name
 use Rattle.educe_laws.specs.Settings.{Kept}
 use Rattle.educe_laws.specs.Shown.{key_text}
 
--- with true the own name, where nothing is said, and else none
+-- With true the own name, where nothing is said, and else none.
 abbrev pub plain_name : Bool → TypeName
 plain_name false = type_name.Disable
 plain_name true = type_name.Default
 
--- a name is shown where its text is not empty
+-- A name is shown where its text is not empty.
 abbrev pub is_shown : List ℕ → Bool
 is_shown [] = false
 is_shown (c ∷ name) = true
 
--- the text of the name of a field with these settings, where names of fields are shown; else none
+-- The text of the name of a field with these settings, where names of fields are shown; else none.
 abbrev pub key_with : Bool → FieldSettings → Kept → List ℕ
 key_with false settings kept = []
 key_with true settings kept = key_text settings.values.name kept.place kept.field

@@ -2,6 +2,6 @@
 use Rattle.educe_laws.specs.DefaultLaws.{DefaultLaws}
 use Rattle.educe_laws.proofs.DefaultEvaluating as evaluating
 
--- the functions of the block of `Default` evaluate to what they mean
+-- The functions of the block of `Default` evaluate to what they mean.
 pub lawful_defaults : DefaultLaws
 lawful_defaults = evaluating.lawful_defaults

@@ -26,47 +26,47 @@ use Rattle.educe_laws.specs.Making.{IsMaking}
 
 -- ---- what is read
 
--- the listed traits are those of the definition; the attributes of its type have no cause; and with true they say no value of the whole
--- type
+-- The listed traits are those of the definition; the attributes of its type have no cause; and with true they say no value of the whole
+-- type.
 pub record IsTyped (definition : DeriveInput) (traits : List Trait) (bare : Bool) : Type 0 where
   pub traits_are : traits ≡ listed definition
   pub own : AreTypeSettings definition (type_values definition)
   pub bare_is : bare ≡ is_open definition
 
--- what the attributes of a field say, where `default` writes it or does not
+-- What the attributes of a field say, where `default` writes it or does not.
 abbrev pub settings_by : Bool → DeriveInput → Field → FieldSettings
 settings_by written definition field = settings_at Default (value_row written) (listed definition) field
 
--- the attributes of these fields have no cause
+-- The attributes of these fields have no cause.
 abbrev pub AreFieldsRead : Bool → DeriveInput → List Field → Type 0
 AreFieldsRead written definition fields = HaveNoCauses Default (value_row written) (listed definition) fields
 
--- those of the fields of a struct, or of each variant, have none
+-- Those of the fields of a struct, or of each variant, have none.
 abbrev pub AreRead : DeriveInput → Shape → Type 0
 AreRead definition (Struct shape) = AreFieldsRead (is_open definition) definition shape.fields
 AreRead definition (Enum variants) = AllByRecursion (λ variant. AreFieldsRead (is_written definition variants variant) definition (fields_in variant)) variants
 
--- nor have those of a variant
+-- Nor have those of a variant.
 abbrev pub IsMarkRead : DeriveInput → Variant → Type 0
 IsMarkRead definition variant = NoCause (OfPlace Default (mark_row (is_open definition)) (listed definition) variant.attrs)
 
--- nor have those of each
+-- Nor have those of each.
 abbrev pub AreMarksRead : DeriveInput → List Variant → Type 0
 AreMarksRead definition variants = AllByRecursion (IsMarkRead definition) variants
 
 -- ---- the choice by marks
 
--- the places of the marks, of those that begin at a place
+-- The places of the marks, of those that begin at a place.
 abbrev pub places_from : ℕ → List Values → List ℕ
 places_from place [] = []
 places_from place (m ∷ ms) = if m.flag then place ∷ places_from (place + 1) ms else places_from (place + 1) ms
 
--- the one that is found, if one is
+-- The one that is found, if one is.
 abbrev pub found_only : Option ℕ → List ℕ
 found_only None = []
 found_only (Some place) = place ∷ []
 
--- two of them are marks, and the later one stands there
+-- Two of them are marks, and the later one stands there.
 pub record AreTwice (marks : List Values) (span : Span) : Type 0 where
   pub front : List Values
   pub first : Values
@@ -78,25 +78,25 @@ pub record AreTwice (marks : List Values) (span : Span) : Type 0 where
   pub later_flag : later.flag ≡ true
   pub span_is : span ≡ later.span
 
--- the place is that of the only one, or of the only mark
+-- The place is that of the only one, or of the only mark.
 pub data IsOnly (marks : List Values) : ℕ → Type 0 where
   alone : is_one marks ≡ true → IsOnly marks 0
   marked : (place : ℕ) → is_one marks ≡ false → places_from 0 marks ≡ place ∷ [] → IsOnly marks place
 
--- why there is none: two are marks; or none is, and there is not only one
+-- Why there is none: two are marks; or none is, and there is not only one.
 pub data IsNone (marks : List Values) (span : Span) : EduceError → Type 0 where
   twice : (place : Span) → AreTwice marks place → IsNone marks span (marked_again place)
   never : is_one marks ≡ false → places_from 0 marks ≡ [] → IsNone marks span (none_marked span)
 
 -- ---- what is made of these
 
--- the form makes what is chosen
+-- The form makes what is chosen.
 pub record IsMadeForm (definition : DeriveInput) (form : Form) : Type 0 where
   pub choice : Choice
   pub choice_is : choice_of definition ≡ Some choice
   pub form_is : IsMaking definition choice form
 
--- the impl that holds `new`, if there is one
+-- The impl that holds `new`, if there is one.
 abbrev pub new_items : Option ImplItem → List Item
 new_items None = []
 new_items (Some item) = New item ∷ []

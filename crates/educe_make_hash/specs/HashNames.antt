@@ -2,6 +2,6 @@
 use Rattle.educe_make_hash.specs.declared.hash_names.HashNames.{HashNames}
 use Rattle.educe_laws.specs.HashBodies as laws
 
--- the texts of the names, and the prefix
+-- The texts of the names, and the prefix.
 abbrev pub names_of : HashNames → laws.HashNames
 names_of names = record { state = names.state.text; hasher = names.hasher.text; prefix = names.prefix }

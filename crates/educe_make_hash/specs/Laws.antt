@@ -2,6 +2,6 @@
 use Rattle.educe_laws.specs.HashLaws.{HashLaws}
 use Rattle.educe_laws.proofs.HashEvaluating as evaluating
 
--- the function of the block of `Hash` evaluates to what `Hash` means
+-- The function of the block of `Hash` evaluates to what `Hash` means.
 pub lawful_hashes : HashLaws
 lawful_hashes = evaluating.lawful_hashes

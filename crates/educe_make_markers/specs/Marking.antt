@@ -17,46 +17,46 @@ use Rattle.educe_laws.specs.Settings.{Kept}
 use Rattle.educe_make_markers.specs.declared.markers.MarkerNames.{MarkerNames}
 use Rattle.educe_make_markers.specs.declared.markers.MethodMarker.{MethodMarker}
 
--- what stands in the marker of a field is the reading of its tokens
+-- What stands in the marker of a field is the reading of its tokens.
 abbrev pub IsReadMarked : Option Marked → Type 0
 IsReadMarked None = Unit {0}
 IsReadMarked (Some marked) = IsReadType marked.ty × IsReadPath marked.method
 
--- so it is where the field takes part and has a method
+-- So it is where the field takes part and has a method.
 abbrev pub MayMark : Kept → Type 0
 MayMark kept = IsReadMarked (marked_by kept.how kept.field.ty)
 
--- what is put in place of `Self` is the head of the definition, and the generics are readings of their tokens
+-- What is put in place of `Self` is the head of the definition, and the generics are readings of their tokens.
 abbrev pub CanMark : MethodMarker → Type 0
 CanMark marking = IsHeadFor marking.ast.now marking.replace.now.head × AreReadGenerics marking.generics.now
 
--- the text of a name, if there is one
+-- The text of a name, if there is one.
 abbrev pub own_texts : Option Ident → List (List ℕ)
 own_texts None = []
 own_texts (Some name) = name.text ∷ []
 
--- the texts of the names of a marker
+-- The texts of the names of a marker.
 abbrev pub names_of : MarkerNames → List (List ℕ)
 names_of names = names.function.text ∷ names.value.text ∷ own_texts names.formatter
 
--- the marker is that of a field of this type with this method
+-- The marker is that of a field of this type with this method.
 abbrev pub IsMarkerOf : MethodMarker → Ty → ExprPath → MarkerItem → Type 0
 IsMarkerOf marking ty method marker =
     IsMarker marking.which marking.ast.now marking.generics.now (names_of marking.names.now) (record { ty = ty; method = method }) marker
 
--- behind the items before stands this marker
+-- Behind the items before stands this marker.
 pub record AddsMarker (marking : MethodMarker) (ty : Ty) (method : ExprPath) (before after : List Item) : Type 0 where
   pub marker : MarkerItem
   pub is : after ≡ before ++ Marker marker ∷ []
   pub marker_is : IsMarkerOf marking ty method marker
 
--- behind the items before stand the markers of those of these fields that have methods
+-- Behind the items before stand the markers of those of these fields that have methods.
 pub record AddsMarkers (marking : MethodMarker) (fields : List Kept) (before after : List Item) : Type 0 where
   pub markers : List MarkerItem
   pub is : after ≡ before ++ map Marker markers
   pub are : AllZip (λ (m : Marked) marker. IsMarkerOf marking m.ty m.method marker) (filter_map (λ (k : Kept). marked_by k.how k.field.ty) fields) markers
 
--- these are the markers of those of these fields that have methods, for a trait whose impl has these generics
+-- These are the markers of those of these fields that have methods, for a trait whose impl has these generics.
 pub record AreAll (which : Trait) (definition : DeriveInput) (generics : Generics) (names : List (List ℕ)) (fields : List Kept) (items : List Item) : Type 0 where
   pub markers : List MarkerItem
   pub is : items ≡ map Marker markers

@@ -5,66 +5,66 @@ use Rattle.std.specs.Str.{bytes_eq}
 use Rattle.educe_names.specs.declared.fewest.Clash.{Clash}
 use Rattle.educe_names.specs.declared.fewest.Clash.TheVariants.{Whole, Front}
 
--- the text behind so many `_`
+-- The text behind so many `_`.
 abbrev pub underscored : ℕ → List ℕ → List ℕ
 underscored zero text = text
 underscored (suc count) text = 95 ∷ underscored count text
 
--- whether the word clashes with the text: it is the text, or begins with it
+-- Whether the word clashes with the text: it is the text, or begins with it.
 abbrev pub clash : Clash → List ℕ → List ℕ → Bool
 clash Whole word text = bytes_eq word text
 clash Front word text = starts_with nat_eq word text
 
--- whether one of the words does
+-- Whether one of the words does.
 abbrev pub is_taken : Clash → List (List ℕ) → List ℕ → Bool
 is_taken how words text = list_any (λ word. clash how word text) words
 
--- whether one of the words is the text
+-- Whether one of the words is the text.
 abbrev pub is_held : List (List ℕ) → List ℕ → Bool
 is_held words text = is_taken Whole words text
 
--- the fewest `_` behind which the name clashes with none of the words
+-- The fewest `_` behind which the name clashes with none of the words.
 pub record IsFewest (how : Clash) (words : List (List ℕ)) (name : List ℕ) (count : ℕ) : Type 0 where
   pub free : is_taken how words (underscored count name) ≡ false
   pub least : (fewer : ℕ) → fewer < count → is_taken how words (underscored fewer name) ≡ true
 
--- the name behind the fewest `_` with which it clashes with none of the words
+-- The name behind the fewest `_` with which it clashes with none of the words.
 pub record IsFree (how : Clash) (words : List (List ℕ)) (name text : List ℕ) : Type 0 where
   pub count : ℕ
   pub is : text ≡ underscored count name
   pub fewest : IsFewest how words name count
 
--- the name behind the fewest `_` that make it none of the words
+-- The name behind the fewest `_` that make it none of the words.
 abbrev pub IsChosen : List (List ℕ) → List ℕ → List ℕ → Type 0
 IsChosen words name text = IsFree Whole words name text
 
--- the name behind the fewest `_` that make it a prefix of none of the words
+-- The name behind the fewest `_` that make it a prefix of none of the words.
 abbrev pub IsPrefix : List (List ℕ) → List ℕ → List ℕ → Type 0
 IsPrefix words name text = IsFree Front words name text
 
--- names that are chosen one after the other, each of which is held from then on
+-- Names that are chosen one after the other, each of which is held from then on.
 abbrev pub AreChosen : List (List ℕ) → List (List ℕ) → List (List ℕ) → Type 0
 AreChosen words [] [] = Unit {0}
 AreChosen words [] (text ∷ texts) = ⊥
 AreChosen words (name ∷ names) [] = ⊥
 AreChosen words (name ∷ names) (text ∷ texts) = IsChosen words name text × AreChosen (words ++ text ∷ []) names texts
 
--- no two of the texts are the same
+-- No two of the texts are the same.
 abbrev pub AreApart : List (List ℕ) → Type 0
 AreApart [] = Unit {0}
 AreApart (text ∷ texts) = (is_held texts text ≡ false) × AreApart texts
 
--- the first character that is no `_`
+-- The first character that is no `_`.
 abbrev pub first_letter : List ℕ → Option ℕ
 first_letter [] = None
 first_letter (c ∷ cs) = if c == 95 then first_letter cs else Some c
 
--- whether both are characters, and not the same
+-- Whether both are characters, and not the same.
 abbrev pub are_apart : Option ℕ → Option ℕ → Bool
 are_apart None d = false
 are_apart (Some c) None = false
 are_apart (Some c) (Some d) = not (c == d)
 
--- whether both names have a first character that is no `_`, and not the same one
+-- Whether both names have a first character that is no `_`, and not the same one.
 abbrev pub are_letters_apart : List ℕ → List ℕ → Bool
 are_letters_apart name other = are_apart (first_letter name) (first_letter other)

@@ -14,23 +14,23 @@ use Rattle.educe_names.specs.Words.{IsRunOf, HasWord}
 
 -- What holds of the identifiers of a text, and of names and prefixes that are chosen apart from the words that are held.
 pub record NameLaws : Type 0 where
-  -- an ASCII identifier is a word
+  -- An ASCII identifier is a word.
   pub ascii : (name : List ℕ) → IsTrue (is_ascii_name name) → IsWord (chars name)
-  -- the words of the tokens are held, whatever else is
+  -- The words of the tokens are held, whatever else is.
   pub held : (tokens : List Token) (words more : List (List ℕ)) → AreWordsOf tokens words → HoldWordsOf tokens (words ++ more)
-  -- what is not held is no word of tokens whose words are
+  -- What is not held is no word of tokens whose words are.
   pub no_word : (tokens : List Token) (words : List (List ℕ)) (text : List ℕ) → HoldWordsOf tokens words → is_held words text ≡ false → ¬ HasWord tokens text
-  -- names that are chosen one after the other were not held before
+  -- Names that are chosen one after the other were not held before.
   pub chosen : (words names texts : List (List ℕ)) → AreChosen words names texts → AllByRecursion (λ text. is_held words text ≡ false) texts
-  -- no two of them are the same
+  -- No two of them are the same.
   pub apart : (words names texts : List (List ℕ)) → AreChosen words names texts → AreApart texts
-  -- no name that begins with a chosen prefix is held
+  -- No name that begins with a chosen prefix is held.
   pub prefixed : (words : List (List ℕ)) (name prefix key : List ℕ) → IsPrefix words name prefix → is_held words (prefix ++ key) ≡ false
-  -- a name that begins with one prefix is none that begins with another, where the first letters of the two differ
+  -- A name that begins with one prefix is none that begins with another, where the first letters of the two differ.
   pub prefixes : (words held : List (List ℕ)) (name other prefix mark key word : List ℕ) → IsPrefix words name prefix → IsPrefix held other mark
       → are_letters_apart name other ≡ true → prefix ++ key ≢ mark ++ word
-  -- each identifier of a text that lexes is, without `r#`, a maximal run of the text
+  -- Each identifier of a text that lexes is, without `r#`, a maximal run of the text.
   pub idents_are_words : (text : List ℕ) (found : List Lexeme) (name : Lexeme) → LexesAside text found → Contains found name → name.kind ≡ Ident → IsRunOf (unraw name.spelling) text
-  -- so each identifier in the value of a string or of documentation is, without `r#`, a word of the tokens
+  -- So each identifier in the value of a string or of documentation is, without `r#`, a word of the tokens.
   pub idents_in_values : (tokens : List Token) (token : Token) (value : List ℕ) (inner : List Token) (name : Token) → Contains tokens token → IsStringValue (lexeme_of token) value
       → Lexes value inner → Contains inner name → name.kind ≡ Ident → HasWord tokens (unraw name.spelling)

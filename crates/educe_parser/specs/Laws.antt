@@ -40,20 +40,20 @@ use Rattle.educe_grammar.proofs.Reported.{cause_reported, refusal_reported}
 
 -- What holds of a rule and each list of tokens, within the limits.
 pub record RuleLaws {A : Type 0} (g : Rule A) : Type 0 where
-  -- the list has a reading, or there is a cause why it has none
+  -- The list has a reading, or there is a cause why it has none.
   pub decided : (tokens : Tokens) → IsDecided g tokens
-  -- it has one reading only
+  -- It has one reading only.
   pub one_reading : (tokens : Tokens) (x y : A) → IsWhole g tokens x → IsWhole g tokens y → x ≡ y
-  -- where it has one, no cause stands but out of memory
+  -- Where it has one, no cause stands but out of memory.
   pub uncaused : (tokens : Tokens) (x : A) → IsWhole g tokens x → IsUncaused (IsParseCause g tokens)
-  -- it has one cause only
+  -- It has one cause only.
   pub one_cause : (tokens : Tokens) → IsSingle (IsParseCause g tokens)
-  -- a cause has the words of its message, and its place
+  -- A cause has the words of its message, and its place.
   pub reported : (tokens : Tokens) (e : EduceError) → IsParseCause g tokens e → IsReported tokens e
-  -- the reading is what the program of the rule reads
+  -- The reading is what the program of the rule reads.
   pub by_program : (tokens : Tokens) (x : A) → IsWhole g tokens x ↔ (read depth_limit g tokens ≡ Ok (x, []))
 
--- a rule whose readings the program reads, and in which what nests stands behind an opener, has them
+-- A rule whose readings the program reads, and in which what nests stands behind an opener, has them.
 lawful : {A : Type 0} (g : Rule A) → again.ReadsAgain g → is_ready g ≡ true → RuleLaws g
 lawful g reads_again is_ready = record {
   decided = decided.decided g reads_again is_ready;
@@ -64,27 +64,27 @@ lawful g reads_again is_ready = record {
   by_program = λ tokens x. (reads_again depth_limit tokens x, decided.whole_if_read g reads_again tokens x);
 }
 
--- the rule of a name has them
+-- The rule of a name has them.
 pub lawful_name : RuleLaws name
 lawful_name = lawful name again.name_again ready.name_ready
 
--- that of a path in an expression
+-- That of a path in an expression.
 pub lawful_path : RuleLaws expr_path
 lawful_path = lawful expr_path again.expr_path_again ready.expr_path_ready
 
--- that of an expression
+-- That of an expression.
 pub lawful_expression : RuleLaws expression
 lawful_expression = lawful expression again.expression_again ready.expression_ready
 
--- that of predicates
+-- That of predicates.
 pub lawful_predicates : RuleLaws predicates
 lawful_predicates = lawful predicates again.predicates_again ready.predicates_ready
 
--- that of metas
+-- That of metas.
 pub lawful_metas : RuleLaws metas
 lawful_metas = lawful metas again.metas_again ready.metas_ready
 
--- that of a definition
+-- That of a definition.
 pub lawful_definition : RuleLaws definition
 lawful_definition = lawful definition again.definition_again ready.definition_ready
 
@@ -92,18 +92,18 @@ lawful_definition = lawful definition again.definition_again ready.definition_re
 
 -- What holds of definitions whose names are apart, and each list of tokens, within the limits.
 pub record DefinitionLaws : Type 0 where
-  -- the list is such a definition, or there is a cause why it is rejected
+  -- The list is such a definition, or there is a cause why it is rejected.
   pub decided : (tokens : Tokens) → ((found : DeriveInput) × IsDefinition tokens found) ⊎ HasCause (IsRefusalOf tokens)
-  -- where it is one, no cause stands but out of memory
+  -- Where it is one, no cause stands but out of memory.
   pub uncaused : (tokens : Tokens) (found : DeriveInput) → IsDefinition tokens found → IsUncaused (IsRefusalOf tokens)
-  -- it is rejected for one cause only
+  -- It is rejected for one cause only.
   pub one_cause : (tokens : Tokens) → IsSingle (IsRefusalOf tokens)
-  -- a cause has the words of its message, and its place
+  -- A cause has the words of its message, and its place.
   pub reported : (tokens : Tokens) (e : EduceError) → IsRefusalOf tokens e → IsReported tokens e
-  -- of one that is read the names are names, and each type, parameter and predicate is the reading of its tokens
+  -- Of one that is read the names are names, and each type, parameter and predicate is the reading of its tokens.
   pub parts : (tokens : Tokens) (found : DeriveInput) → IsWhole definition tokens found → HasReadParts found
 
--- definitions have them
+-- Definitions have them.
 pub lawful_definitions : DefinitionLaws
 lawful_definitions = record {
   decided = decided.definition_decided;
@@ -115,30 +115,30 @@ lawful_definitions = record {
 
 -- ---- places
 
--- what is read stands where its tokens do
+-- What is read stands where its tokens do.
 pub record PlaceLaws : Type 0 where
   pub definitions : (tokens : Tokens) (found : DeriveInput) → IsWhole definition tokens found → IsDefinitionPlaced tokens found
   pub metas : (tokens : Tokens) (found : List Meta) → IsWhole metas tokens found → AreMetasPlaced tokens found
 
--- definitions and metas do
+-- Definitions and metas do.
 pub lawful_places : PlaceLaws
 lawful_places = record { definitions = definition_stands; metas = metas_stand }
 
--- what holds of each token's place holds of a place where a token stands
+-- What holds of each token's place holds of a place where a token stands.
 pub place_has : (P : Span → Type 0) (tokens : Tokens) (place : Span) → AllByRecursion (λ (t : Token). P t.span) tokens → HasPlace tokens place → P place
 place_has P tokens place each is = subst P is.at_place (all_at (λ (t : Token). P t.span) is.front is.rest is.found (subst (AllByRecursion (λ (t : Token). P t.span)) is.is each))
 
--- what holds where each token starts holds where a span starts
+-- What holds where each token starts holds where a span starts.
 pub start_has : (P : ℕ → Type 0) (tokens : Tokens) (span : Span) → AllByRecursion (λ (t : Token). P t.span.start) tokens → IsSpan tokens span → P span.start
 start_has P tokens span each is = subst (λ (s : Span). P s.start) (sym is.is) (place_has (λ s. P s.start) tokens is.first each is.first_stands)
 
--- what holds where each token ends holds where a span ends
+-- What holds where each token ends holds where a span ends.
 pub end_has : (P : ℕ → Type 0) (tokens : Tokens) (span : Span) → AllByRecursion (λ (t : Token). P t.span.end) tokens → IsSpan tokens span → P span.end
 end_has P tokens span each is = subst (λ (s : Span). P s.end) (sym is.is) (place_has (λ s. P s.end) tokens is.last each is.last_stands)
 
 -- ---- parts
 
--- the tokens of a part are tokens of the whole
+-- The tokens of a part are tokens of the whole.
 pub lawful_parts : PartLaws
 lawful_parts = record {
   definition = shape_within;
@@ -150,10 +150,10 @@ lawful_parts = record {
 
 -- ---- types
 
--- types read of lists that are equal, spans and jointness aside, are alike, whatever the budgets
+-- Types read of lists that are equal, spans and jointness aside, are alike, whatever the budgets.
 abbrev pub TypeLaw : Type 0
 TypeLaw = (b c : ℕ) (ts us : Tokens) (x y : Ty) → AreEqualAside ts us → Reads b any_type ts x → Reads c any_type us y → AlikeTypes x y
 
--- so they are
+-- So they are.
 pub lawful_types : TypeLaw
 lawful_types = alike.types_alike

@@ -15,46 +15,46 @@ use Rattle.educe_grammar.specs.Terminals.{set_of, token_in}
 
 -- ---- tokens
 
--- the identifier of this text
+-- The identifier of this text.
 abbrev pub name : List ℕ → Lexeme
 name text = record { kind = kind.Ident; spelling = text }
 
--- the punct, joint with the next token or not
+-- The punct, joint with the next token or not.
 abbrev pub punct : ℕ → Bool → Lexeme
 punct c joint = record { kind = kind.Punct c joint; spelling = c ∷ [] }
 
--- the lifetime of this text
+-- The lifetime of this text.
 abbrev pub lifetime : List ℕ → Lexeme
 lifetime text = record { kind = kind.Lifetime; spelling = text }
 
--- `:: <`
+-- `:: <`.
 abbrev pub opening : List Lexeme
 opening = punct 58 true ∷ punct 58 false ∷ punct 60 false ∷ []
 
--- a comma and the argument
+-- A comma and the argument.
 abbrev pub behind_comma : Lexeme → List Lexeme
 behind_comma argument = punct 44 false ∷ argument ∷ []
 
--- `:: < arguments >`, with commas between
+-- `:: < arguments >`, with commas between.
 abbrev pub arguments : Lexeme → List Lexeme → List Lexeme
 arguments first more = opening ++ first ∷ (flat_map behind_comma more ++ punct 62 false ∷ [])
 
--- the name alone where there are no arguments, and else the name and the arguments
+-- The name alone where there are no arguments, and else the name and the arguments.
 abbrev pub head_of : List ℕ → List Lexeme → List Lexeme
 head_of text [] = name text ∷ []
 head_of text (first ∷ more) = name text ∷ arguments first more
 
--- the name of the parameter
+-- The name of the parameter.
 abbrev pub argument_of : GenericParam → Lexeme
 argument_of (param.Lifetime p) = lifetime p.lifetime.text
 argument_of (param.TypeParam p) = name p.ident.text
 argument_of (param.Const p) = name p.ident.text
 
--- the head of a definition
+-- The head of a definition.
 abbrev pub head_for : DeriveInput → List Lexeme
 head_for d = head_of d.ident.text (map argument_of d.generics.params)
 
--- the new list is the old one and then tokens that are these and lie nowhere
+-- The new list is the old one and then tokens that are these and lie nowhere.
 pub record Adds (found : List Lexeme) (old new : Tokens) : Type 0 where
   pub more : Tokens
   pub joined : new ≡ old ++ more
@@ -63,21 +63,21 @@ pub record Adds (found : List Lexeme) (old new : Tokens) : Type 0 where
 
 -- ---- tests
 
--- the token is what is asked for
+-- The token is what is asked for.
 abbrev pub is_a : Terminal → Lexeme → Bool
 is_a asked found = token_in (set_of asked) found.kind found.spelling
 
--- a lifetime or a name
+-- A lifetime or a name.
 abbrev pub is_argument : Lexeme → Bool
 is_argument found = is_a terminal.Lifetime found || is_a terminal.Name found
 
--- further arguments, each behind a comma, and `>`
+-- Further arguments, each behind a comma, and `>`.
 unfoldable pub ends_arguments : List Lexeme → Bool
 ends_arguments [] = false
 ends_arguments (last ∷ []) = is_a (terminal.Sign 62) last
 ends_arguments (comma ∷ argument ∷ more) = is_a (terminal.Sign 44) comma && (is_argument argument && ends_arguments more)
 
--- `:: <`, where nothing is joint with the `<`, arguments and `>`
+-- `:: <`, where nothing is joint with the `<`, arguments and `>`.
 unfoldable pub is_arguments : List Lexeme → Bool
 is_arguments (first ∷ second ∷ less ∷ argument ∷ more) =
     is_joint 58 first.kind && (is_sign 58 second.kind && (is_sign 60 less.kind && (not (is_joint 60 less.kind) && (is_argument argument && ends_arguments more))))
@@ -89,6 +89,6 @@ is_head [] = false
 is_head (name ∷ []) = is_a terminal.Name name
 is_head (name ∷ first ∷ more) = is_a terminal.Name name && is_arguments (first ∷ more)
 
--- the tokens are the head of some definition
+-- The tokens are the head of some definition.
 abbrev pub IsHead : Tokens → Type 0
 IsHead tokens = IsTrue (is_head (lexemes tokens))

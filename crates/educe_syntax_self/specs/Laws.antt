@@ -11,7 +11,7 @@ use Rattle.educe_syntax_self.specs.Visits.{IsVisited}
 
 -- What holds of a rule, of each head and of each list of tokens.
 pub record VisitLaws {A : Type 0} (g : Rule A) : Type 0 where
-  -- what tokens become where the head is put in is by the rule, with one more of the budget
+  -- What tokens become where the head is put in is by the rule, with one more of the budget.
   pub reads : (head tokens out : Tokens) (x y : A) → Changed head g tokens x out y → Reads (suc depth_limit) g out y
-  -- what is read becomes such a value, whose tokens have the head in place of each `Self` that a path begins with
+  -- What is read becomes such a value, whose tokens have the head in place of each `Self` that a path begins with.
   pub visited : (head tokens : Tokens) (x : A) → IsHead head → IsWhole g tokens x → (y : A) × IsVisited head g tokens x (replaced_in g head tokens) y

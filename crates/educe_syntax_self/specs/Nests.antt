@@ -13,7 +13,7 @@ use Rattle.educe_grammar.specs.Rules.{Part, TreeOf, Typed, types, plains, exprs}
 use Rattle.educe_grammar.specs.NotedReads.{readers}
 use Rattle.educe_grammar.specs.Steps.{Gives}
 
--- the calls of a function value that reads a tree with a budget
+-- The calls of a function value that reads a tree with a budget.
 abbrev pub Calls : Type 0 → Type 0 → Type 1
 Calls F A = Shared F (Global × (MutBor ParseStream × (ℕ × Unit {0}))) (Result A ParseError × (MutBor ParseStream × Unit {0}))
 
@@ -29,14 +29,14 @@ pub record Nests {T P E : Type 0} (type_calls : Calls T Ty) (plain_calls : Calls
   pub plains : ReadsBelow plains plain_calls readers.plains bound
   pub exprs : ReadsBelow exprs expr_calls readers.exprs bound
 
--- of one part: below a smaller bound too
+-- Of one part: below a smaller bound too.
 fewer_below : {F : Type 0} {p : Part} {calls : Calls F (TreeOf p)} {f : F} {bound : ℕ} → ReadsBelow p calls f (bound + 1) → ReadsBelow p calls f bound
 fewer_below below = record {
   callable = λ alloc old budget less. below.callable alloc old budget (omega arith);
   reads = λ alloc old new budget r less post. below.reads alloc old new budget r (omega arith) post;
 }
 
--- so do the three, below a smaller bound
+-- So do the three, below a smaller bound.
 pub fewer_nest : {T P E : Type 0} {type_calls : Calls T Ty} {plain_calls : Calls P Typed} {expr_calls : Calls E Expr} {readers : Readers T P E} {bound : ℕ}
     → Nests type_calls plain_calls expr_calls readers (bound + 1) → Nests type_calls plain_calls expr_calls readers bound
 fewer_nest nests = record { types = fewer_below nests.types; plains = fewer_below nests.plains; exprs = fewer_below nests.exprs }

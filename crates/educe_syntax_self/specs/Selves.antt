@@ -9,11 +9,11 @@ use Rattle.educe_grammar.specs.Ahead.{is_sign}
 use Rattle.educe_grammar.specs.Steps.{Tokens}
 use Rattle.educe_grammar.specs.Terminals.{accepts}
 
--- the token is the word `Self`
+-- The token is the word `Self`.
 abbrev pub is_self : Token → Bool
 is_self t = accepts (terminal.Word keyword.SelfType) t
 
--- a bracket that opens
+-- A bracket that opens.
 abbrev pub is_opening : TokenKind → Bool
 is_opening (kind.Start b) = true
 is_opening kind.Ident = false
@@ -23,13 +23,13 @@ is_opening (kind.Punct c joint) = false
 is_opening (kind.Stop b) = false
 is_opening kind.Doc = false
 
--- `!` and a bracket that opens, as in the call of a macro
+-- `!` and a bracket that opens, as in the call of a macro.
 unfoldable pub begins_call : Tokens → Bool
 begins_call [] = false
 begins_call (t ∷ []) = false
 begins_call (t ∷ u ∷ ts) = is_sign 33 t.kind && is_opening u.kind
 
--- `Self`
+-- `Self`.
 unfoldable pub begins_self : Tokens → Bool
 begins_self [] = false
 begins_self (t ∷ ts) = is_self t

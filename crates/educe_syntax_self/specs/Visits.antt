@@ -29,32 +29,32 @@ pub record IsVisited {A : Type 0} (head : Tokens) (g : Rule A) (before : Tokens)
 
 -- ---- types
 
--- the one type is what the visit of the other answers
+-- The one type is what the visit of the other answers.
 abbrev pub IsVisitedType : Tokens → Ty → Ty → Type 0
 IsVisitedType head x y = IsVisited head any_type (out-Ty x).written.tokens x (out-Ty y).written.tokens y
 
 -- ---- paths
 
--- the one path is what the visit of the other answers
+-- The one path is what the visit of the other answers.
 abbrev pub IsVisitedPath : Tokens → ExprPath → ExprPath → Type 0
 IsVisitedPath head x y = IsVisited head expr_path x.written.tokens x y.written.tokens y
 
 -- ---- generics
 
--- the parameter with these tokens
+-- The parameter with these tokens.
 abbrev pub with_written : GenericParam → Written → GenericParam
 with_written (param.Lifetime p) w = param.Lifetime (record { lifetime = p.lifetime; written = w })
 with_written (param.TypeParam p) w = param.TypeParam (record { ident = p.ident; written = w })
 with_written (param.Const p) w = param.Const (record { ident = p.ident; written = w })
 
--- the one parameter is what the visit of the other answers, and both have one name
+-- The one parameter is what the visit of the other answers, and both have one name.
 abbrev pub IsVisitedParam : Tokens → GenericParam → GenericParam → Type 0
 IsVisitedParam head x y = (y ≡ with_written x (written_of y)) × IsVisited head generic_param (written_of x).tokens x (written_of y).tokens y
 
--- the one predicate is what the visit of the other answers
+-- The one predicate is what the visit of the other answers.
 abbrev pub IsVisitedPredicate : Tokens → WherePredicate → WherePredicate → Type 0
 IsVisitedPredicate head x y = IsVisited head predicate x.written.tokens x y.written.tokens y
 
--- parameter by parameter and predicate by predicate
+-- Parameter by parameter and predicate by predicate.
 abbrev pub AreVisitedGenerics : Tokens → Generics → Generics → Type 0
 AreVisitedGenerics head x y = AllZip (IsVisitedParam head) x.params y.params × AllZip (IsVisitedPredicate head) x.predicates y.predicates

@@ -6,27 +6,27 @@ use Rattle.educe_tokens.specs.declared.token.Token.{Token}
 use Rattle.educe_tokens.specs.Lexes.{Lexeme, lexemes}
 pub use Rattle.educe_tokens.specs.Prefix.{HasPrefix}
 
--- the new list is the old one and then tokens that are these, their spans aside
+-- The new list is the old one and then tokens that are these, their spans aside.
 pub record Appends (found : List Lexeme) (old new : List Token) : Type 0 where
   pub more : List Token
   pub joined : new ≡ old ++ more
   pub same : lexemes more ≡ found
 
--- the new list is the old one and then tokens that lie at these places
+-- The new list is the old one and then tokens that lie at these places.
 pub record AppendsAt (places : List Span) (old new : List Token) : Type 0 where
   pub more : List Token
   pub joined : new ≡ old ++ more
   pub placed : map (λ t. t.span) more ≡ places
 
--- the span of what the program makes
+-- The span of what the program makes.
 abbrev pub no_place : Span
 no_place = record { start = 0; end = 0 }
 
--- each token lies nowhere
+-- Each token lies nowhere.
 abbrev pub LieNowhere : List Token → Type 0
 LieNowhere tokens = AllByRecursion (λ t. t.span ≡ no_place) tokens
 
--- the new list is the old one and then tokens that lie nowhere
+-- The new list is the old one and then tokens that lie nowhere.
 pub record AppendsNowhere (old new : List Token) : Type 0 where
   pub more : List Token
   pub joined : new ≡ old ++ more

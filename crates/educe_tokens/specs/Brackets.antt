@@ -12,7 +12,7 @@ same_bracket Round b = elim b [ Round ↦ true | Square ↦ false | Curly ↦ fa
 same_bracket Square b = elim b [ Round ↦ false | Square ↦ true | Curly ↦ false ]
 same_bracket Curly b = elim b [ Round ↦ false | Square ↦ false | Curly ↦ true ]
 
--- the brackets that are open behind one more token, innermost first; none where it closes another than the innermost
+-- The brackets that are open behind one more token, innermost first; none where it closes another than the innermost.
 abbrev pub open_after : List Bracket → TokenKind → Option (List Bracket)
 open_after outer (Start b) = Some (b ∷ outer)
 open_after [] (Stop b) = None
@@ -23,13 +23,13 @@ open_after outer (Literal l) = Some outer
 open_after outer (Punct c joint) = Some outer
 open_after outer Doc = Some outer
 
--- behind these open brackets, innermost first, each bracket closes in order
+-- Behind these open brackets, innermost first, each bracket closes in order.
 abbrev pub closes : List Bracket → List TokenKind → Bool
 closes [] [] = true
 closes (o ∷ outer) [] = false
 closes outer (kind ∷ more) = elim (open_after outer kind) [ None ↦ false | Some inner ↦ closes inner more ]
 
--- how many brackets are open behind one more token
+-- How many brackets are open behind one more token.
 abbrev pub depth_after : ℕ → TokenKind → ℕ
 depth_after depth (Start b) = depth + 1
 depth_after depth (Stop b) = depth - 1
@@ -39,7 +39,7 @@ depth_after depth (Literal l) = depth
 depth_after depth (Punct c joint) = depth
 depth_after depth Doc = depth
 
--- with so many open before it, never more than the limit are open
+-- With so many open before it, never more than the limit are open.
 abbrev pub nests : ℕ → ℕ → List TokenKind → Bool
 nests limit depth [] = true
 nests limit depth (kind ∷ more) = nat_le (depth_after depth kind) limit && nests limit (depth_after depth kind) more
@@ -47,10 +47,10 @@ nests limit depth (kind ∷ more) = nat_le (depth_after depth kind) limit && nes
 abbrev pub kinds : List Lexeme → List TokenKind
 kinds found = map (λ lexeme. lexeme.kind) found
 
--- the brackets close in order
+-- The brackets close in order.
 abbrev pub IsBalanced : List Lexeme → Type 0
 IsBalanced found = IsTrue (closes [] (kinds found))
 
--- at most `NESTING` brackets are open at once
+-- At most `NESTING` brackets are open at once.
 abbrev pub IsShallow : List Lexeme → Type 0
 IsShallow found = IsTrue (nests NESTING 0 (kinds found))

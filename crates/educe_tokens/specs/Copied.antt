@@ -6,7 +6,7 @@ use Rattle.educe_tokens.specs.Lexes.{Lexeme}
 use Rattle.educe_tokens.specs.Brackets.{kinds, closes}
 use Rattle.educe_tokens.specs.Text.{is_punct_behind, have_no_doc}
 
--- the kind as it is copied before these: a punct stays joint only before a punct with which it opens no comment
+-- The kind as it is copied before these: a punct stays joint only before a punct with which it opens no comment.
 abbrev pub copied_kind : TokenKind → List TokenKind → TokenKind
 copied_kind (Punct c joint) more = Punct c (joint && is_punct_behind c more)
 copied_kind Ident more = Ident
@@ -16,18 +16,18 @@ copied_kind (Start b) more = Start b
 copied_kind (Stop b) more = Stop b
 copied_kind Doc more = Doc
 
--- the tokens as they are copied: a punct stays joint only before a punct with which it opens no comment
+-- The tokens as they are copied: a punct stays joint only before a punct with which it opens no comment.
 abbrev pub copied : List Lexeme → List Lexeme
 copied [] = []
 copied (x ∷ more) = record { kind = copied_kind x.kind (kinds more); spelling = x.spelling } ∷ copied more
 
--- the brackets close in order, and no token is documentation: copies of such lists may stand side by side
+-- The brackets close in order, and no token is documentation: copies of such lists may stand side by side.
 abbrev pub may_be_copied : List Lexeme → Bool
 may_be_copied found = closes [] (kinds found) && have_no_doc (kinds found)
 
 -- ---- in the words of what copying changes
 
--- the kind, not joint
+-- The kind, not joint.
 abbrev pub unjoined : TokenKind → TokenKind
 unjoined (Punct c joint) = Punct c false
 unjoined Ident = Ident
@@ -37,6 +37,6 @@ unjoined (Start b) = Start b
 unjoined (Stop b) = Stop b
 unjoined Doc = Doc
 
--- the token, not joint
+-- The token, not joint.
 abbrev pub unjoin : Lexeme → Lexeme
 unjoin x = record { kind = unjoined x.kind; spelling = x.spelling }

@@ -5,16 +5,16 @@ use Rattle.std.specs.String.{string_bytes}
 use Rattle.educe_tokens.specs.declared.spelling.Text.{Text}
 use Rattle.educe_tokens.specs.declared.spelling.Text.TheVariants.{Short, Part}
 
--- the bytes of the text
+-- The bytes of the text.
 abbrev pub bytes_of : Text → List ℕ
 bytes_of (Short bytes len) = take len bytes
 bytes_of (Part source start end) = slice_range (string_bytes source.value) start end
 
--- the characters of the text
+-- The characters of the text.
 abbrev pub characters_of : Text → List ℕ
 characters_of text = chars (bytes_of text)
 
--- the bytes are those of characters: a part begins and ends where characters do
+-- The bytes are those of characters: a part begins and ends where characters do.
 abbrev pub IsCut : Text → Type 0
 IsCut (Short bytes len) = (len ≤ 15) × IsUtf8 (take len bytes)
 IsCut (Part source start end) = (start ≤ end) × IsCharBoundary (string_bytes source.value) start × IsCharBoundary (string_bytes source.value) end × (end < 2 ^ 32)

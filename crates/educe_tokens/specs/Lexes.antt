@@ -7,7 +7,7 @@ use Rattle.educe_tokens_scan.specs.Reading.{Piece, Reads}
 use Rattle.educe_tokens.specs.declared.span.Span.{Span}
 use Rattle.educe_tokens.specs.declared.token.Token.{Token}
 
--- a token without its span: the kind, jointness included, and the spelling
+-- A token without its span: the kind, jointness included, and the spelling.
 pub record Lexeme : Type 0 where
   pub kind : TokenKind
   pub spelling : List ℕ
@@ -15,14 +15,14 @@ pub record Lexeme : Type 0 where
 abbrev pub lexeme_of : Token → Lexeme
 lexeme_of t = record { kind = t.kind; spelling = t.spelling }
 
--- the tokens, their spans aside
+-- The tokens, their spans aside.
 abbrev pub lexemes : List Token → List Lexeme
 lexemes tokens = map lexeme_of tokens
 
 abbrev pub is_token : Piece → Bool
 is_token p = elim p.kind [ Blank ↦ false | Comment ↦ false | TokenPiece kind ↦ true | Uncarried kind ↦ false ]
 
--- the piece is no unsupported literal
+-- The piece is no unsupported literal.
 abbrev pub is_carried : Piece → Bool
 is_carried p = elim p.kind [ Blank ↦ true | Comment ↦ true | TokenPiece kind ↦ true | Uncarried kind ↦ false ]
 
@@ -32,31 +32,31 @@ are_carried ps = list_all is_carried ps
 abbrev pub piece_of : Lexeme → Piece
 piece_of lexeme = record { kind = TokenPiece lexeme.kind; spelling = lexeme.spelling }
 
--- where pieces end of which the first begins at an offset, both in bytes
+-- Where pieces end of which the first begins at an offset, both in bytes.
 abbrev pub end_of : ℕ → List Piece → ℕ
 end_of start [] = start
 end_of start (p ∷ ps) = end_of (start + length (encode_utf8_all p.spelling)) ps
 
--- where a piece lies that begins at an offset
+-- Where a piece lies that begins at an offset.
 abbrev pub span_at : ℕ → Piece → Span
 span_at start p = record { start = start; end = start + length (encode_utf8_all p.spelling) }
 
--- where the tokens among the pieces lie
+-- Where the tokens among the pieces lie.
 abbrev pub spans : ℕ → List Piece → List Span
 spans start [] = []
 spans start (p ∷ ps) =
     let more = spans (start + length (encode_utf8_all p.spelling)) ps in
     cond (is_token p) (span_at start p ∷ more) more
 
--- the text is pieces that are all carried, and the tokens are those among them, their spans aside
+-- The text is pieces that are all carried, and the tokens are those among them, their spans aside.
 pub record LexesAside (text : List ℕ) (found : List Lexeme) : Type 0 where
   pub pieces : List Piece
   pub reads : Reads text pieces []
   pub carried : IsTrue (are_carried pieces)
   pub tokens_are : filter is_token pieces ≡ map piece_of found
 
--- the text is pieces that are all carried, and the tokens are those among them, each with the offsets of its piece as its
--- span
+-- The text is pieces that are all carried, and the tokens are those among them, each with the offsets of its piece as its
+-- span.
 pub record Lexes (text : List ℕ) (tokens : List Token) : Type 0 where
   pub pieces : List Piece
   pub reads : Reads text pieces []

@@ -4,11 +4,11 @@ use Rattle.std.specs.Fmt.{signed_decimal}
 use Rattle.educe_tokens.specs.declared.error.Kind.{Kind}
 use Rattle.educe_tokens.specs.declared.error.Kind.TheVariants.{Syntax, TooDeep, NotCarried, DuplicateName, DeriveAttributeNotSetUpYet, EduceFormatIncorrect, UnsupportedTrait, ReuseATrait, TraitNotUsed, AttributeIncorrectPlace, AttributeIncorrectFormat, ParameterReset, ExpectedValue, ReuseARank, UnitStructNeedName, UnitVariantNeedName, UnitEnumNeedName, MultipleDefaultVariants, NoDefaultVariant, Alloc}
 
--- the words for an `educe` attribute of a type that is no list
+-- The words for an `educe` attribute of a type that is no list.
 abbrev pub educe_format : List (List ℕ)
 educe_format = codes "educe" ∷ codes "#[educe(Trait1, Trait2, ..., TraitN)]" ∷ []
 
--- these are the words that the message of the kind cites
+-- These are the words that the message of the kind cites.
 abbrev pub HasWords : Kind → List (List ℕ) → Type 0
 HasWords Syntax words = words ≡ []
 HasWords TooDeep words = words ≡ []
@@ -31,34 +31,34 @@ HasWords MultipleDefaultVariants words = words ≡ []
 HasWords NoDefaultVariant words = words ≡ []
 HasWords Alloc words = words ≡ []
 
--- the first of the words
+-- The first of the words.
 abbrev pub first_word : List (List ℕ) → List ℕ
 first_word [] = []
 first_word (word ∷ lines) = word
 
--- the words behind the first: the lines that a message lists
+-- The words behind the first: the lines that a message lists.
 abbrev pub later_words : List (List ℕ) → List (List ℕ)
 later_words [] = []
 later_words (word ∷ lines) = lines
 
--- each of these lines of bytes behind a line feed and four spaces
+-- Each of these lines of bytes behind a line feed and four spaces.
 abbrev pub lines_below : List (List ℕ) → List ℕ
 lines_below [] = []
 lines_below (line ∷ lines) = codes "\n    " ++ (line ++ lines_below lines)
 
--- the names of the nine traits, below the sentence that they end
+-- The names of the nine traits, below the sentence that they end.
 abbrev pub available_traits : List ℕ
 available_traits = lines_below (codes "Debug" ∷ codes "Clone" ∷ codes "Copy" ∷ codes "PartialEq" ∷ codes "Eq" ∷ codes "PartialOrd" ∷ codes "Ord" ∷ codes "Hash" ∷ codes "Default" ∷ [])
 
--- a name between two texts
+-- A name between two texts.
 abbrev pub around : List ℕ → List (List ℕ) → List ℕ → List ℕ
 around before words behind = before ++ (encode_utf8_all (first_word words) ++ behind)
 
--- the sentence about the attribute of a name, and the forms that are allowed instead
+-- The sentence about the attribute of a name, and the forms that are allowed instead.
 abbrev pub incorrect_format : List ℕ → List (List ℕ) → List ℕ
 incorrect_format name lines = (codes "you are using an incorrect format of the `" ++ (name ++ codes "` attribute, which should be reformatted as follows:")) ++ lines_below (map encode_utf8_all lines)
 
--- the bytes of the message; out of memory has none
+-- The bytes of the message; out of memory has none.
 abbrev pub message_of : Kind → List (List ℕ) → List ℕ
 message_of Syntax words = codes "syntax error"
 message_of TooDeep words = codes "nested too deeply"

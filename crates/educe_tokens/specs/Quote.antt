@@ -10,20 +10,20 @@ use Rattle.educe_tokens_pieces.specs.Chars.{begins, is_punct}
 use Rattle.educe_tokens_pieces.specs.Pieces.{spells}
 use Rattle.educe_tokens.specs.Lexes.{Lexeme}
 
--- a letter or `_`
+-- A letter or `_`.
 abbrev pub is_name_start : ℕ → Bool
 is_name_start c = is_ascii_alphabetic c || (c == 95)
 
--- a letter, a digit or `_`
+-- A letter, a digit or `_`.
 abbrev pub is_name_part : ℕ → Bool
 is_name_part c = is_ascii_alphanumeric c || (c == 95)
 
--- an identifier in ASCII
+-- An identifier in ASCII.
 abbrev pub is_ascii_name : List ℕ → Bool
 is_ascii_name [] = false
 is_ascii_name (c ∷ cs) = is_name_start c && list_all is_name_part cs
 
--- ( ) [ ] { }
+-- ( ) [ ] { }.
 abbrev pub is_bracket : ℕ → Bool
 is_bracket c = (c == 40) || (c == 41) || (c == 91) || (c == 93) || (c == 123) || (c == 125)
 
@@ -31,7 +31,7 @@ is_bracket c = (c == 40) || (c == 41) || (c == 91) || (c == 93) || (c == 123) ||
 abbrev pub is_joint_pair : ℕ → ℕ → Bool
 is_joint_pair c d = ((c == 58) && (d == 58)) || ((c == 45) && (d == 62)) || ((c == 61) && (d == 62)) || ((c == 46) && (d == 46))
 
--- a bracket, a punct or a joint pair
+-- A bracket, a punct or a joint pair.
 abbrev pub is_mark : List ℕ → Bool
 is_mark [] = false
 is_mark (c ∷ []) = is_bracket c || is_punct c
@@ -41,32 +41,32 @@ is_mark (c ∷ d ∷ e ∷ cs) = false
 abbrev pub is_template_word : List ℕ → Bool
 is_template_word word = is_ascii_name word || is_mark word
 
--- the parts of a text that blanks separate
+-- The parts of a text that blanks separate.
 abbrev pub template_words : List ℕ → List (List ℕ)
 template_words text = slice_split (λ c. c == 32) text
 
 abbrev pub is_template : List ℕ → Bool
 is_template text = list_all is_template_word (template_words text)
 
--- what a bracket or a punct by itself is
+-- What a bracket or a punct by itself is.
 abbrev pub mark_kind : ℕ → TokenKind
 mark_kind c =
     cond (c == 40) (Start Round) (cond (c == 41) (Stop Round) (cond (c == 91) (Start Square) (cond (c == 93) (Stop Square) (cond (c == 123) (Start Curly) (cond (c == 125) (Stop Curly) (Punct c false))))))
 
--- the tokens of a mark: of a pair the first is joint
+-- The tokens of a mark: of a pair the first is joint.
 abbrev pub mark_lexemes : List ℕ → List Lexeme
 mark_lexemes [] = []
 mark_lexemes (c ∷ []) = record { kind = mark_kind c; spelling = c ∷ [] } ∷ []
 mark_lexemes (c ∷ d ∷ cs) = record { kind = Punct c true; spelling = c ∷ [] } ∷ record { kind = Punct d false; spelling = d ∷ [] } ∷ []
 
--- the tokens of a word of a template
+-- The tokens of a word of a template.
 abbrev pub word_lexemes : List ℕ → List Lexeme
 word_lexemes word = cond (begins is_name_start word) (record { kind = Ident; spelling = word } ∷ []) (mark_lexemes word)
 
--- the tokens of a template
+-- The tokens of a template.
 unfoldable pub quoted : List ℕ → List Lexeme
 quoted text = flat_map word_lexemes (template_words text)
 
--- the token of a text that spells an identifier or an integer
+-- The token of a text that spells an identifier or an integer.
 abbrev pub word_lexeme : List ℕ → Lexeme
 word_lexeme text = record { kind = cond (spells Ident text) Ident (Literal Int); spelling = text }

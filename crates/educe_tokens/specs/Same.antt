@@ -4,14 +4,14 @@ use Rattle.educe_tokens.specs.declared.token.Token.{Token}
 use Rattle.educe_tokens.specs.Copied.{unjoin}
 use Rattle.educe_tokens.specs.Lexes.{Lexeme, lexeme_of}
 
--- the kind and the spelling, the span and whether a punct is joint aside
+-- The kind and the spelling, the span and whether a punct is joint aside.
 abbrev pub lexeme_aside : Token → Lexeme
 lexeme_aside t = unjoin (lexeme_of t)
 
--- the same of each token
+-- The same of each token.
 abbrev pub lexemes_aside : List Token → List Lexeme
 lexemes_aside tokens = map lexeme_aside tokens
 
--- both lists have the same tokens, their spans and whether puncts are joint aside
+-- Both lists have the same tokens, their spans and whether puncts are joint aside.
 abbrev pub AreSameTokens : List Token → List Token → Type 0
 AreSameTokens ts us = lexemes_aside ts ≡ lexemes_aside us

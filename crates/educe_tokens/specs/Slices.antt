@@ -4,25 +4,25 @@ use Rattle.std.specs.Str.{IsCharBoundary}
 use Rattle.educe_tokens.specs.declared.span.Span.{Span}
 use Rattle.educe_tokens.specs.declared.token.Token.{Token}
 
--- both ends of the span are in the source, where a character begins or the source ends, and the bytes between them are
--- those of the spelling
+-- Both ends of the span are in the source, where a character begins or the source ends, and the bytes between them are
+-- those of the spelling.
 pub record IsCutOut (source : List ℕ) (span : Span) (spelling : List ℕ) : Type 0 where
   pub ordered : span.start ≤ span.end
   pub starts : IsCharBoundary source span.start
   pub ends : IsCharBoundary source span.end
   pub cut : slice_range source span.start span.end ≡ encode_utf8_all spelling
 
--- the token's span cuts its spelling out of the source
+-- The token's span cuts its spelling out of the source.
 abbrev pub IsSlice : List ℕ → Token → Type 0
 IsSlice source t = IsCutOut source t.span t.spelling
 
 -- ---- the same in characters
 
--- the characters of the text between both ends of the span
+-- The characters of the text between both ends of the span.
 abbrev pub cut_out : List ℕ → Span → List ℕ
 cut_out text span = chars (slice_range (encode_utf8_all text) span.start span.end)
 
--- both ends of the span are where a character of the text begins, or the text ends
+-- Both ends of the span are where a character of the text begins, or the text ends.
 pub record IsPlace (text : List ℕ) (span : Span) : Type 0 where
   pub ordered : span.start ≤ span.end
   pub starts : IsCharBoundary (encode_utf8_all text) span.start

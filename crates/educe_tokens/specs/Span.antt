@@ -2,14 +2,14 @@
 use Rattle.std.specs.Prelude.{ℕ, ◌+◌, ◌==◌, List, length, take, count_by, chars}
 use Rattle.std.specs.List.{after_last}
 
--- the characters before a byte offset
+-- The characters before a byte offset.
 abbrev pub before : List ℕ → ℕ → List ℕ
 before source offset = chars (take offset source)
 
--- one more than the line feeds before the offset
+-- One more than the line feeds before the offset.
 abbrev pub line_of : List ℕ → ℕ → ℕ
 line_of source offset = count_by (λ c. c == 10) (before source offset) + 1
 
--- one more than the characters between the last line feed before the offset and the offset
+-- One more than the characters between the last line feed before the offset and the offset.
 abbrev pub column_of : List ℕ → ℕ → ℕ
 column_of source offset = length (after_last (λ c. c == 10) (before source offset)) + 1

@@ -17,31 +17,31 @@ use Rattle.educe_tokens.specs.Lexes.{lexemes, Lexes}
 use Rattle.educe_tokens.specs.Brackets.{open_after, IsBalanced, IsShallow}
 use Rattle.educe_tokens.specs.Refusals.{placeless, syntax_at, too_deep_at, not_carried_at}
 
--- what a piece adds to the tokens; an unsupported literal adds none
+-- What a piece adds to the tokens; an unsupported literal adds none.
 abbrev pub Adds : PieceKind → List ℕ → Span → List Token → List Token → Type 0
 Adds Blank spelling span old new = new ≡ old
 Adds Comment spelling span old new = new ≡ old
 Adds (TokenPiece kind) spelling span old new = (t : Token) × (new ≡ old ++ t ∷ []) × (t.kind ≡ kind) × (t.span ≡ span) × (t.spelling ≡ spelling)
 Adds (Uncarried kind) spelling span old new = ⊥
 
--- why a piece that lies there is not added
+-- Why a piece that lies there is not added.
 pub data IsCauseOfPiece (spelling : List ℕ) (span : Span) : PieceKind → EduceError → Type 0 where
   not_carried : (kind : UncarriedKind) → IsCauseOfPiece spelling span (Uncarried kind) (not_carried_at span spelling)
   memory : (kind : PieceKind) → IsCauseOfPiece spelling span kind (placeless Alloc)
 
--- why one more token is rejected behind these open brackets, the innermost first
+-- Why one more token is rejected behind these open brackets, the innermost first.
 abbrev pub IsCauseOfKind : List Bracket → TokenKind → BracketError → Type 0
 IsCauseOfKind outer kind bracket.WrongClose = open_after outer kind ≡ None
 IsCauseOfKind outer kind bracket.TooDeep = (b : Bracket) × (kind ≡ Start b) × (length outer ≡ NESTING)
 IsCauseOfKind outer kind bracket.Alloc = Unit {0}
 
--- the rejection for it, of a token that lies there
+-- The rejection for it, of a token that lies there.
 abbrev pub refusal_of : BracketError → Span → EduceError
 refusal_of bracket.WrongClose place = syntax_at place
 refusal_of bracket.TooDeep place = too_deep_at place
 refusal_of bracket.Alloc place = placeless Alloc
 
--- the tokens are those of the text, and their brackets close in order, not too deep
+-- The tokens are those of the text, and their brackets close in order, not too deep.
 pub record IsReading (text : List ℕ) (tokens : List Token) : Type 0 where
   pub lexes : Lexes text tokens
   pub balanced : IsBalanced (lexemes tokens)

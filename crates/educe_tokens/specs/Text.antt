@@ -7,7 +7,7 @@ use Rattle.educe_tokens_pieces.specs.Chars.{is_slash_or_star}
 use Rattle.educe_tokens.specs.Lexes.{Lexeme}
 use Rattle.educe_tokens.specs.Brackets.{kinds, closes}
 
--- nothing stands between the token and the next
+-- Nothing stands between the token and the next.
 abbrev pub joins_next : TokenKind → Bool
 joins_next (Punct c joint) = joint
 joins_next Ident = false
@@ -17,7 +17,7 @@ joins_next (Start b) = false
 joins_next (Stop b) = false
 joins_next Doc = false
 
--- behind the punct c, joint with it, stands a punct, and the two open no comment
+-- Behind the punct c, joint with it, stands a punct, and the two open no comment.
 abbrev pub is_punct_behind : ℕ → List TokenKind → Bool
 is_punct_behind c (Punct d joint ∷ more) = not ((c == 47) && is_slash_or_star d)
 is_punct_behind c [] = false
@@ -28,7 +28,7 @@ is_punct_behind c (Start b ∷ more) = false
 is_punct_behind c (Stop b ∷ more) = false
 is_punct_behind c (Doc ∷ more) = false
 
--- behind a joint punct stands a punct with which it opens no comment
+-- Behind a joint punct stands a punct with which it opens no comment.
 abbrev pub punct_joins : TokenKind → List TokenKind → Bool
 punct_joins (Punct c true) more = is_punct_behind c more
 punct_joins (Punct c false) more = true
@@ -39,12 +39,12 @@ punct_joins (Start b) more = true
 punct_joins (Stop b) more = true
 punct_joins Doc more = true
 
--- each joint punct is followed by a punct with which it opens no comment
+-- Each joint punct is followed by a punct with which it opens no comment.
 abbrev pub puncts_join : List TokenKind → Bool
 puncts_join [] = true
 puncts_join (kind ∷ more) = punct_joins kind more && puncts_join more
 
--- the token may stand before these; no Doc may
+-- The token may stand before these; no Doc may.
 abbrev pub may_join : TokenKind → List TokenKind → Bool
 may_join (Punct c joint) more = punct_joins (Punct c joint) more
 may_join Ident more = true
@@ -54,12 +54,12 @@ may_join (Start b) more = true
 may_join (Stop b) more = true
 may_join Doc more = false
 
--- there is no Doc, and each joint punct is followed by a punct with which it opens no comment
+-- There is no Doc, and each joint punct is followed by a punct with which it opens no comment.
 abbrev pub joins_well : List TokenKind → Bool
 joins_well [] = true
 joins_well (kind ∷ more) = may_join kind more && joins_well more
 
--- the token is no documentation
+-- The token is no documentation.
 abbrev pub is_no_doc : TokenKind → Bool
 is_no_doc Doc = false
 is_no_doc Ident = true
@@ -69,24 +69,24 @@ is_no_doc (Punct c joint) = true
 is_no_doc (Start b) = true
 is_no_doc (Stop b) = true
 
--- no token is documentation
+-- No token is documentation.
 abbrev pub have_no_doc : List TokenKind → Bool
 have_no_doc found = list_all is_no_doc found
 
--- the brackets close in order, and each token may stand before the next
+-- The brackets close in order, and each token may stand before the next.
 abbrev pub is_well_formed : List Lexeme → Bool
 is_well_formed found = closes [] (kinds found) && joins_well (kinds found)
 
 abbrev pub IsWellFormed : List Lexeme → Type 0
 IsWellFormed found = IsTrue (is_well_formed found)
 
--- the last token is not joint
+-- The last token is not joint.
 abbrev pub ends_apart : List TokenKind → Bool
 ends_apart [] = true
 ends_apart (kind ∷ []) = not (joins_next kind)
 ends_apart (kind ∷ next ∷ more) = ends_apart (next ∷ more)
 
--- the spellings, with one space between two tokens and none behind a joint punct
+-- The spellings, with one space between two tokens and none behind a joint punct.
 abbrev pub text_behind : Bool → List Lexeme → List ℕ
 text_behind joint [] = []
 text_behind joint (x ∷ xs) = cond joint [] (32 ∷ []) ++ (x.spelling ++ text_behind (joins_next x.kind) xs)
@@ -94,6 +94,6 @@ text_behind joint (x ∷ xs) = cond joint [] (32 ∷ []) ++ (x.spelling ++ text_
 abbrev pub text_of : List Lexeme → List ℕ
 text_of found = text_behind true found
 
--- well formed, and the last token is not joint: such lists may stand side by side
+-- Well formed, and the last token is not joint: such lists may stand side by side.
 abbrev pub is_written : List Lexeme → Bool
 is_written found = is_well_formed found && ends_apart (kinds found)

@@ -4,10 +4,10 @@ use Rattle.educe_tokens.specs.Lexes.{Lexeme, LexesAside}
 use Rattle.educe_tokens.specs.Brackets.{kinds}
 use Rattle.educe_tokens.specs.Text.{ends_apart, text_of}
 
--- the last token is not joint, so that any token may stand behind it
+-- The last token is not joint, so that any token may stand behind it.
 abbrev pub EndsApart : List Lexeme → Type 0
 EndsApart found = IsTrue (ends_apart (kinds found))
 
--- the text of the tokens lexes as them, jointness included
+-- The text of the tokens lexes as them, jointness included.
 abbrev pub LexesBack : List Lexeme → Type 0
 LexesBack found = LexesAside (text_of found) found

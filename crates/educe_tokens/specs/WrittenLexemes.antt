@@ -4,6 +4,6 @@ use Rattle.educe_tokens.specs.declared.written.Written.{Written}
 use Rattle.educe_tokens.specs.Copied.{copied}
 use Rattle.educe_tokens.specs.Lexes.{Lexeme, lexemes}
 
--- the tokens as they are copied
+-- The tokens as they are copied.
 abbrev pub written_lexemes : Written → List Lexeme
 written_lexemes written = copied (lexemes written.tokens)

@@ -8,7 +8,7 @@ use Rattle.educe_tokens_pieces.specs.Chars.{is_in_line}
 use Rattle.educe_tokens_pieces.specs.Comments.{opens_line_doc, opens_block_doc, opens_inner}
 use Rattle.educe_tokens_pieces.specs.Machine.{plus}
 
--- inside so many comments and one more: how many characters it takes until the outermost closes
+-- Inside so many comments and one more: how many characters it takes until the outermost closes.
 abbrev pub closing_len : ℕ → List ℕ → Option ℕ
 closing_len inner [] = None
 closing_len inner (c ∷ []) = None
@@ -16,24 +16,24 @@ closing_len inner (c ∷ d ∷ cs) =
     cond ((c == 42) && (d == 47)) (cond (inner == 0) (Some 2) (plus 2 (closing_len (inner - 1) cs)))
     (cond ((c == 47) && (d == 42)) (plus 2 (closing_len (inner + 1) cs)) (plus 1 (closing_len inner (d ∷ cs))))
 
--- documentation, or a comment that is none
+-- Documentation, or a comment that is none.
 abbrev pub comment_kind : Bool → PieceKind
 comment_kind documents = cond documents (Token Doc) Comment
 
--- a length and the kind
+-- A length and the kind.
 abbrev pub of_kind : PieceKind → Option ℕ → Option (PieceKind × ℕ)
 of_kind kind None = None
 of_kind kind (Some n) = Some (kind, n)
 
--- behind `//`: what the line is, unless it is inner documentation
+-- Behind `//`: what the line is, unless it is inner documentation.
 abbrev pub line_at : List ℕ → Option (PieceKind × ℕ)
 line_at cs = cond (opens_inner cs) None (Some (comment_kind (opens_line_doc cs), 2 + prefix_len is_in_line cs))
 
--- behind `/*`: what the block is, unless it is inner documentation or doesn't end
+-- Behind `/*`: what the block is, unless it is inner documentation or doesn't end.
 abbrev pub block_at : List ℕ → Option (PieceKind × ℕ)
 block_at cs = cond (opens_inner cs) None (of_kind (comment_kind (opens_block_doc cs)) (plus 2 (closing_len 0 cs)))
 
--- the comment or the documentation that begins the text, and how many characters it has
+-- The comment or the documentation that begins the text, and how many characters it has.
 abbrev pub comment_at : List ℕ → Option (PieceKind × ℕ)
 comment_at [] = None
 comment_at (c ∷ []) = None

@@ -3,7 +3,7 @@ use Rattle.std.specs.Prelude.{◌≡◌, ◌⊎◌, ℕ, ◌+◌, ◌-◌, ◌==
 use Rattle.std.specs.List.{list_all}
 use Rattle.educe_tokens_pieces.specs.Chars.{begins, is_empty, is_in_line, is_slash_or_star}
 
--- inside so many comments and one more: the text ends with the `*/` that closes the outermost
+-- Inside so many comments and one more: the text ends with the `*/` that closes the outermost.
 abbrev pub closes_comment : ℕ → List ℕ → Bool
 closes_comment inner [] = false
 closes_comment inner (c ∷ []) = false
@@ -11,33 +11,33 @@ closes_comment inner (c ∷ d ∷ cs) =
     cond ((c == 42) && (d == 47)) (cond (inner == 0) (is_empty cs) (closes_comment (inner - 1) cs))
     (cond ((c == 47) && (d == 42)) (closes_comment (inner + 1) cs) (closes_comment inner (d ∷ cs)))
 
--- `//` and what follows in the line
+-- `//` and what follows in the line.
 abbrev pub is_line : List ℕ → Bool
 is_line [] = false
 is_line (c ∷ []) = false
 is_line (c ∷ d ∷ cs) = ((c == 47) && (d == 47)) && list_all is_in_line cs
 
--- `/*`, up to its `*/`
+-- `/*`, up to its `*/`.
 abbrev pub is_block : List ℕ → Bool
 is_block [] = false
 is_block (c ∷ []) = false
 is_block (c ∷ d ∷ cs) = ((c == 47) && (d == 42)) && closes_comment 0 cs
 
--- behind `//`: a `/`, and not another one
+-- Behind `//`: a `/`, and not another one.
 abbrev pub opens_line_doc : List ℕ → Bool
 opens_line_doc [] = false
 opens_line_doc (c ∷ cs) = (c == 47) && not (begins (λ d. d == 47) cs)
 
--- behind `/*`: a `*`, and neither another one nor `/`
+-- Behind `/*`: a `*`, and neither another one nor `/`.
 abbrev pub opens_block_doc : List ℕ → Bool
 opens_block_doc [] = false
 opens_block_doc (c ∷ cs) = (c == 42) && not (begins is_slash_or_star cs)
 
--- behind `//` or `/*`: the `!` of inner documentation, which is no piece
+-- Behind `//` or `/*`: the `!` of inner documentation, which is no piece.
 abbrev pub opens_inner : List ℕ → Bool
 opens_inner cs = begins (λ c. c == 33) cs
 
--- documentation of a line, and of a block
+-- Documentation of a line, and of a block.
 abbrev pub is_line_doc : List ℕ → Bool
 is_line_doc cs = is_line cs && opens_line_doc (drop 2 cs)
 
@@ -47,7 +47,7 @@ is_block_doc cs = is_block cs && opens_block_doc (drop 2 cs)
 abbrev pub is_doc : List ℕ → Bool
 is_doc cs = is_line_doc cs || is_block_doc cs
 
--- comments that are no documentation, neither outer nor inner
+-- Comments that are no documentation, neither outer nor inner.
 abbrev pub is_line_comment : List ℕ → Bool
 is_line_comment cs = is_line cs && not (opens_line_doc (drop 2 cs) || opens_inner (drop 2 cs))
 
@@ -57,24 +57,24 @@ is_block_comment cs = is_block cs && not (opens_block_doc (drop 2 cs) || opens_i
 abbrev pub is_comment : List ℕ → Bool
 is_comment cs = is_line_comment cs || is_block_comment cs
 
--- what begins with `//` or `/*` opens a comment
+-- What begins with `//` or `/*` opens a comment.
 abbrev pub opens_comment : List ℕ → Bool
 opens_comment [] = false
 opens_comment (c ∷ cs) = (c == 47) && begins is_slash_or_star cs
 
--- it opens with `//`
+-- It opens with `//`.
 abbrev pub opens_line : List ℕ → Bool
 opens_line [] = false
 opens_line (c ∷ cs) = (c == 47) && begins (λ d. d == 47) cs
 
--- what begins with `//` stands only before the end of its line
+-- What begins with `//` stands only before the end of its line.
 abbrev pub ends_line_before : List ℕ → List ℕ → Bool
 ends_line_before spelling rest = not (is_line spelling && begins is_in_line rest)
 
--- the text of documentation: without `///`, or without `/**` and `*/`
+-- The text of documentation: without `///`, or without `/**` and `*/`.
 abbrev pub doc_value : List ℕ → List ℕ
 doc_value cs = cond (opens_line cs) (drop 3 cs) (take (length cs - 5) (drop 3 cs))
 
--- the documentation is `///` and the text, or `/**`, the text and `*/`
+-- The documentation is `///` and the text, or `/**`, the text and `*/`.
 abbrev pub IsDocOf : List ℕ → List ℕ → Type 0
 IsDocOf doc value = (doc ≡ 47 ∷ 47 ∷ 47 ∷ value) ⊎ (doc ≡ 47 ∷ 42 ∷ 42 ∷ (value ++ 42 ∷ 47 ∷ []))

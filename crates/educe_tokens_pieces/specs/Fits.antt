@@ -3,12 +3,12 @@ use Rattle.std.specs.Prelude.{◌≡◌, ℕ, ◌<◌, ◌≤◌, Bool, true, Op
 use Rattle.educe_tokens_pieces.specs.declared.kind.PieceKind.{PieceKind}
 use Rattle.educe_tokens_pieces.specs.Pieces.{is_piece}
 
--- what was found is a front of the text that is a piece of its kind, what follows aside
+-- What was found is a front of the text that is a piece of its kind, what follows aside.
 abbrev pub Fits : List ℕ → Option (PieceKind × ℕ) → Type 0
 Fits text None = Unit {0}
 Fits text (Some found) = (is_piece found.0 (take found.1 text) ≡ true) × (0 < found.1) × (found.1 ≤ length text)
 
--- what was found is the length of a front of the text that passes, and is not empty
+-- What was found is the length of a front of the text that passes, and is not empty.
 abbrev pub FrontPasses : (List ℕ → Bool) → List ℕ → Option ℕ → Type 0
 FrontPasses test text None = Unit {0}
 FrontPasses test text (Some n) = (test (take n text) ≡ true) × (0 < n) × (n ≤ length text)

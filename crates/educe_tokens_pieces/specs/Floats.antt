@@ -5,53 +5,53 @@ use Rattle.std.specs.Str.{bytes_eq}
 use Rattle.std.specs.Char.{is_ascii_digit}
 use Rattle.educe_tokens_pieces.specs.Chars.{begins, is_only, is_empty}
 
--- a decimal digit or `_`
+-- A decimal digit or `_`.
 abbrev pub is_decimal_part : ℕ → Bool
 is_decimal_part c = is_ascii_digit c || (c == 95)
 
--- what stands behind the digits and `_` at the front
+-- What stands behind the digits and `_` at the front.
 abbrev pub behind_digits : List ℕ → List ℕ
 behind_digits cs = drop (prefix_len is_decimal_part cs) cs
 
--- `f32` or `f64`
+-- `f32` or `f64`.
 unfoldable pub is_float_type : List ℕ → Bool
 is_float_type cs = bytes_eq (codes "f32") cs || bytes_eq (codes "f64") cs
 
--- nothing, or a type of floats
+-- Nothing, or a type of floats.
 abbrev pub is_float_suffix : List ℕ → Bool
 is_float_suffix cs = is_empty cs || is_float_type cs
 
--- without the sign in front, if there is one
+-- Without the sign in front, if there is one.
 abbrev pub unsigned : List ℕ → List ℕ
 unsigned [] = []
 unsigned (c ∷ cs) = cond ((c == 43) || (c == 45)) cs (c ∷ cs)
 
--- digits and `_`, a digit among them, and a suffix
+-- Digits and `_`, a digit among them, and a suffix.
 abbrev pub is_exponent_number : List ℕ → Bool
 is_exponent_number cs = list_any is_ascii_digit (take (prefix_len is_decimal_part cs) cs) && is_float_suffix (behind_digits cs)
 
--- `e` or `E`, a sign or none, and the number
+-- `e` or `E`, a sign or none, and the number.
 abbrev pub is_exponent : List ℕ → Bool
 is_exponent [] = false
 is_exponent (c ∷ cs) = ((c == 101) || (c == 69)) && is_exponent_number (unsigned cs)
 
--- what ends a float whose last digits stand before it: nothing, a suffix, or an exponent
+-- What ends a float whose last digits stand before it: nothing, a suffix, or an exponent.
 abbrev pub ends_float : List ℕ → Bool
 ends_float cs = is_float_suffix cs || is_exponent cs
 
--- a digit, more of them and `_`, and an end
+-- A digit, more of them and `_`, and an end.
 abbrev pub is_fraction : List ℕ → Bool
 is_fraction cs = begins is_ascii_digit cs && ends_float (behind_digits cs)
 
--- what makes the digits before it a float: a `.` alone, a `.` and a fraction, or an end that is not empty
+-- What makes the digits before it a float: a `.` alone, a `.` and a fraction, or an end that is not empty.
 abbrev pub is_float_tail : List ℕ → Bool
 is_float_tail [] = false
 is_float_tail (c ∷ cs) = cond (c == 46) (is_empty cs || is_fraction cs) (ends_float (c ∷ cs))
 
--- decimal digits, and what makes them a float
+-- Decimal digits, and what makes them a float.
 abbrev pub is_float : List ℕ → Bool
 is_float cs = begins is_ascii_digit cs && is_float_tail (behind_digits cs)
 
--- the float is digits and a `.` alone
+-- The float is digits and a `.` alone.
 abbrev pub ends_with_dot : List ℕ → Bool
 ends_with_dot cs = is_only 46 (behind_digits cs)

@@ -1,19 +1,19 @@
 -- What stands at the front of a text, and what follows it.
 use Rattle.std.specs.Prelude.{◌≡◌, ℕ, ◌==◌, Bool, false, ◌&&◌, IsTrue, List, [], ◌∷◌, ◌++◌}
 
--- the text is a front that passes, and then the rest
+-- The text is a front that passes, and then the rest.
 pub record HasFront (test : List ℕ → Bool) (text rest : List ℕ) : Type 0 where
   pub front : List ℕ
   pub is : text ≡ front ++ rest
   pub passes : IsTrue (test front)
 
--- the last character of the list is this one
+-- The last character of the list is this one.
 abbrev pub is_last : ℕ → List ℕ → Bool
 is_last mark [] = false
 is_last mark (c ∷ []) = c == mark
 is_last mark (c ∷ d ∷ cs) = is_last mark (d ∷ cs)
 
--- the list begins with these two
+-- The list begins with these two.
 abbrev pub begins_pair : ℕ → ℕ → List ℕ → Bool
 begins_pair a b [] = false
 begins_pair a b (c ∷ []) = false

@@ -14,43 +14,43 @@ radix Octal = 8
 radix Decimal = 10
 radix Hexadecimal = 16
 
--- how many characters write the base: none for the decimal one
+-- How many characters write the base: none for the decimal one.
 abbrev pub mark_length : Base → ℕ
 mark_length Binary = 2
 mark_length Octal = 2
 mark_length Decimal = 0
 mark_length Hexadecimal = 2
 
--- the base that the character behind a `0` says: `b`, `o` or `x`
+-- The base that the character behind a `0` says: `b`, `o` or `x`.
 abbrev pub base_behind : List ℕ → Base
 base_behind [] = Decimal
 base_behind (c ∷ cs) = cond (c == 98) Binary (cond (c == 111) Octal (cond (c == 120) Hexadecimal Decimal))
 
--- the base by how the text begins
+-- The base by how the text begins.
 abbrev pub base_of : List ℕ → Base
 base_of [] = Decimal
 base_of (c ∷ cs) = cond (c == 48) (base_behind cs) Decimal
 
--- a digit of the base, or `_`
+-- A digit of the base, or `_`.
 abbrev pub is_digit_or_mark : Base → ℕ → Bool
 is_digit_or_mark base c = is_digit c (radix base) || (c == 95)
 
--- what stands behind the mark of the base
+-- What stands behind the mark of the base.
 abbrev pub unmarked : List ℕ → List ℕ
 unmarked cs = drop (mark_length (base_of cs)) cs
 
--- how many digits and `_` stand there
+-- How many digits and `_` stand there.
 abbrev pub digit_count : List ℕ → ℕ
 digit_count cs = prefix_len (is_digit_or_mark (base_of cs)) (unmarked cs)
 
--- the digits, `_` among them, and what stands behind them
+-- The digits, `_` among them, and what stands behind them.
 abbrev pub digits_of : List ℕ → List ℕ
 digits_of cs = take (digit_count cs) (unmarked cs)
 
 abbrev pub suffix_of : List ℕ → List ℕ
 suffix_of cs = drop (digit_count cs) (unmarked cs)
 
--- the types of integers
+-- The types of integers.
 abbrev pub integer_types : List (List ℕ)
 integer_types =
     codes "u8" ∷ codes "u16" ∷ codes "u32" ∷ codes "u64" ∷ codes "u128" ∷ codes "usize"
@@ -59,29 +59,29 @@ integer_types =
 unfoldable pub is_integer_type : List ℕ → Bool
 is_integer_type text = list_any (λ type. bytes_eq type text) integer_types
 
--- an integer of any size: a digit first, a digit of the base, and no suffix or a type of integers
+-- An integer of any size: a digit first, a digit of the base, and no suffix or a type of integers.
 abbrev pub has_int_form : List ℕ → Bool
 has_int_form cs =
     begins is_ascii_digit cs
     && (list_any (λ c. is_digit c (radix (base_of cs))) (digits_of cs) && (is_empty (suffix_of cs) || is_integer_type (suffix_of cs)))
 
--- the number that the digits write, `_` aside
+-- The number that the digits write, `_` aside.
 abbrev pub int_value_of : List ℕ → ℕ
 int_value_of cs = digits_value (radix (base_of cs)) (filter (λ c. not (c == 95)) (digits_of cs))
 
--- the value is at most 2^128 - 1
+-- The value is at most 2^128 - 1.
 abbrev pub fits_u128 : List ℕ → Bool
 fits_u128 cs = nat_lt (int_value_of cs) (2 ^ 128)
 
--- a supported integer
+-- A supported integer.
 abbrev pub is_int : List ℕ → Bool
 is_int cs = has_int_form cs && fits_u128 cs
 
--- an integer that is too large to be supported
+-- An integer that is too large to be supported.
 abbrev pub is_wide_int : List ℕ → Bool
 is_wide_int cs = has_int_form cs && not (fits_u128 cs)
 
--- digits before this are a float: a `.`, and then not `.`, `_` or XID_Start (Rust Reference, Floating-point literals)
+-- Digits before this are a float: a `.`, and then not `.`, `_` or XID_Start (Rust Reference, Floating-point literals).
 abbrev pub makes_float : List ℕ → Bool
 makes_float [] = false
 makes_float (c ∷ cs) = (c == 46) && not (begins (λ d. (d == 46) || is_word_start d) cs)

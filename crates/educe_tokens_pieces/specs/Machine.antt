@@ -10,22 +10,22 @@ use Rattle.educe_tokens_pieces.specs.declared.quotes.Next.TheVariants.{Go, End, 
 use Rattle.educe_tokens_pieces.specs.Chars.{is_empty}
 use Rattle.educe_tokens_pieces.specs.Quotes.{closing, is_single, is_bytes, top_digit, is_escape, escape_value, is_hex, is_scalar, is_plain}
 
--- behind a part
+-- Behind a part.
 abbrev pub behind_part : Quote → Within
 behind_part quote = cond (is_single quote) (Close quote) (Open quote)
 
--- space, tab, line feed and carriage return
+-- Space, tab, line feed and carriage return.
 abbrev pub is_space_character : ℕ → Bool
 is_space_character c = (c == 32) || (c == 9) || (c == 10) || (c == 13)
 
--- before a part or the mark at the end
+-- Before a part or the mark at the end.
 abbrev pub open_step : Quote → ℕ → Next
 open_step quote c =
     cond ((c == closing quote) && not (is_single quote)) End
     (cond (c == 92) (Go (Escape quote))
     (cond (is_plain quote c) (Go (behind_part quote)) Stop))
 
--- behind a `\`
+-- Behind a `\`.
 abbrev pub escape_step : Quote → ℕ → Next
 escape_step quote c =
     cond (is_escape c) (Go (behind_part quote))
@@ -34,7 +34,7 @@ escape_step quote c =
     (cond ((c == 10) && not (is_single quote)) (Go (Break quote))
     (cond ((c == 13) && not (is_single quote)) (Go (Return quote)) Stop))))
 
--- behind `\u{` and digits
+-- Behind `\u{` and digits.
 abbrev pub code_step : Quote → ℕ → ℕ → ℕ → Next
 code_step quote digits value c =
     cond (c == 125) (cond (nat_lt 0 digits && is_scalar value) (Go (behind_part quote)) Stop)
@@ -52,7 +52,7 @@ step (Brace quote) c = cond (c == 123) (Go (Code quote 0 0)) Stop
 step (Code quote digits value) c = code_step quote digits value c
 step (Close quote) c = cond (c == closing quote) End Stop
 
--- the characters of the value that a character completes
+-- The characters of the value that a character completes.
 abbrev pub gives : Within → ℕ → List ℕ
 gives (Open quote) c = cond ((c == closing quote) || (c == 92)) [] (c ∷ [])
 gives (Break quote) c = cond (is_space_character c || ((c == closing quote) || (c == 92))) [] (c ∷ [])
@@ -64,12 +64,12 @@ gives (Brace quote) c = []
 gives (Code quote digits value) c = cond (c == 125) (value ∷ []) []
 gives (Close quote) c = []
 
--- the last of these characters is the first at which the literal ends
+-- The last of these characters is the first at which the literal ends.
 abbrev pub ends : Within → List ℕ → Bool
 ends within [] = false
 ends within (c ∷ cs) = elim (step within c) [ Go more ↦ ends more cs | End ↦ is_empty cs | Stop ↦ false ]
 
--- what they give together, up to the end
+-- What they give together, up to the end.
 abbrev pub given : Within → List ℕ → List ℕ
 given within [] = []
 given within (c ∷ cs) = elim (step within c) [ Go more ↦ gives within c ++ given more cs | End ↦ [] | Stop ↦ [] ]
@@ -78,17 +78,17 @@ abbrev pub plus : ℕ → Option ℕ → Option ℕ
 plus k None = None
 plus k (Some n) = Some (k + n)
 
--- how many characters it takes until the literal ends
+-- How many characters it takes until the literal ends.
 abbrev pub end_at : Within → List ℕ → Option ℕ
 end_at within [] = None
 end_at within (c ∷ cs) = elim (step within c) [ Go more ↦ plus 1 (end_at more cs) | End ↦ Some 1 | Stop ↦ None ]
 
--- a quote, and the rest of the literal
+-- A quote, and the rest of the literal.
 abbrev pub is_quoted : Quote → ℕ → List ℕ → Bool
 is_quoted quote mark [] = false
 is_quoted quote mark (c ∷ cs) = (c == mark) && ends (Open quote) cs
 
--- a `b` or `c`, a quote, and the rest of the literal
+-- A `b` or `c`, a quote, and the rest of the literal.
 abbrev pub is_prefixed : ℕ → Quote → ℕ → List ℕ → Bool
 is_prefixed letter quote mark [] = false
 is_prefixed letter quote mark (c ∷ cs) = (c == letter) && is_quoted quote mark cs

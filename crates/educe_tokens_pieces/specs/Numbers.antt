@@ -14,57 +14,57 @@ use Rattle.educe_tokens_pieces.specs.Integers.{radix, is_integer_type, has_int_f
 use Rattle.educe_tokens_pieces.specs.Floats.{is_decimal_part, behind_digits, is_float_tail}
 use Rattle.educe_tokens_pieces.specs.Words.{continue_len}
 
--- `e` or `E`
+-- `e` or `E`.
 abbrev pub is_exponent_mark : ℕ → Bool
 is_exponent_mark c = (c == 101) || (c == 69)
 
--- `+` or `-`
+-- `+` or `-`.
 abbrev pub is_sign : ℕ → Bool
 is_sign c = (c == 43) || (c == 45)
 
--- how many characters belong to the end of a float: a word, or an exponent's mark, its sign and a word
+-- How many characters belong to the end of a float: a word, or an exponent's mark, its sign and a word.
 abbrev pub end_len : List ℕ → ℕ
 end_len [] = 0
 end_len (c ∷ cs) = cond (is_exponent_mark c && begins is_sign cs) (2 + continue_len (drop 1 cs)) (continue_len (c ∷ cs))
 
--- how many belong to the digits behind a `.` and the end behind them
+-- How many belong to the digits behind a `.` and the end behind them.
 abbrev pub fraction_len : List ℕ → ℕ
 fraction_len cs = prefix_len is_decimal_part cs + end_len (behind_digits cs)
 
--- how many belong to what may make the digits before it a float
+-- How many belong to what may make the digits before it a float.
 abbrev pub tail_len : List ℕ → ℕ
 tail_len [] = 0
 tail_len (c ∷ cs) = cond (makes_float (c ∷ cs)) (1 + fraction_len cs) (end_len (c ∷ cs))
 
--- a digit of the base is among them
+-- A digit of the base is among them.
 abbrev pub has_digit : Base → List ℕ → Bool
 has_digit base ds = list_any (λ c. is_digit c (radix base)) ds
 
--- no suffix, or a type of integers
+-- No suffix, or a type of integers.
 abbrev pub is_int_suffix : List ℕ → Bool
 is_int_suffix cs = is_empty cs || is_integer_type cs
 
--- the number with one more digit, or with one more `_`, which changes nothing
+-- The number with one more digit, or with one more `_`, which changes nothing.
 abbrev pub with_digit : Base → ℕ → ℕ → ℕ
 with_digit base value c = cond (c == 95) value (value * radix base + digit_value c)
 
--- the number that digits and `_` write
+-- The number that digits and `_` write.
 abbrev pub digits_number : Base → List ℕ → ℕ
 digits_number base ds = digits_value (radix base) (filter (λ c. not (c == 95)) ds)
 
--- an integer is supported where its value allows it
+-- An integer is supported where its value allows it.
 abbrev pub int_kind : List ℕ → PieceKind
 int_kind cs = cond (fits_u128 cs) (Token (Literal Int)) (Uncarried WideInt)
 
--- so many characters as an integer, if they are one
+-- So many characters as an integer, if they are one.
 abbrev pub int_at : List ℕ → ℕ → Option (PieceKind × ℕ)
 int_at text n = cond (has_int_form (take n text)) (Some (int_kind (take n text), n)) None
 
--- digits and so many characters as a float, if they are one, and else the word at the front as an integer
+-- Digits and so many characters as a float, if they are one, and else the word at the front as an integer.
 abbrev pub float_or_int : List ℕ → ℕ → Option (PieceKind × ℕ)
 float_or_int text n =
     cond (is_float_tail (take n (behind_digits text))) (Some (Uncarried Float, prefix_len is_decimal_part text + n)) (int_at text (continue_len text))
 
--- the kind of the number at the front of a text, and how many characters it has
+-- The kind of the number at the front of a text, and how many characters it has.
 abbrev pub number_at : List ℕ → Option (PieceKind × ℕ)
 number_at text = float_or_int text (tail_len (behind_digits text))

@@ -30,7 +30,7 @@ closer Round = 41
 closer Square = 93
 closer Curly = 125
 
--- the spelling is one token of the kind, jointness aside
+-- The spelling is one token of the kind, jointness aside.
 abbrev pub spells : TokenKind → List ℕ → Bool
 spells Ident cs = is_word cs || is_raw_word cs
 spells Lifetime cs = is_lifetime cs
@@ -44,13 +44,13 @@ spells (Start b) cs = is_only (opener b) cs
 spells (Stop b) cs = is_only (closer b) cs
 spells Doc cs = is_doc cs
 
--- the spelling is one unsupported literal
+-- The spelling is one unsupported literal.
 abbrev pub spells_uncarried : UncarriedKind → List ℕ → Bool
 spells_uncarried Float cs = is_float cs
 spells_uncarried WideInt cs = is_wide_int cs
 spells_uncarried CStr cs = is_c_str cs || is_raw_c_str cs
 
--- the spelling is one piece of the kind
+-- The spelling is one piece of the kind.
 abbrev pub is_piece : PieceKind → List ℕ → Bool
 is_piece Blank [] = false
 is_piece Blank (c ∷ []) = is_blank c
@@ -59,23 +59,23 @@ is_piece Comment cs = is_comment cs
 is_piece (Token kind) cs = spells kind cs
 is_piece (Uncarried kind) cs = spells_uncarried kind cs
 
--- a punct is joint where a punct follows that opens no comment
+-- A punct is joint where a punct follows that opens no comment.
 abbrev pub is_joint : List ℕ → Bool
 is_joint rest = begins is_punct rest && not (opens_comment rest)
 
--- no character follows that goes on with a word
+-- No character follows that goes on with a word.
 abbrev pub ends_word_before : List ℕ → Bool
 ends_word_before rest = not (begins is_xid_continue rest)
 
--- an integer may stand before this: without a suffix it may not become a float
+-- An integer may stand before this: without a suffix it may not become a float.
 abbrev pub may_follow_int : List ℕ → List ℕ → Bool
 may_follow_int spelling rest = ends_word_before rest && (not (is_empty (suffix_of spelling)) || not (makes_float rest))
 
--- a float may stand before this: its last `.` may not become one of two
+-- A float may stand before this: its last `.` may not become one of two.
 abbrev pub may_follow_float : List ℕ → List ℕ → Bool
 may_follow_float spelling rest = ends_word_before rest && not (ends_with_dot spelling && begins (λ c. c == 46) rest)
 
--- what may follow a piece of the kind that is spelled so
+-- What may follow a piece of the kind that is spelled so.
 abbrev pub may_precede : PieceKind → List ℕ → List ℕ → Bool
 may_precede Blank spelling rest = true
 may_precede Comment spelling rest = ends_line_before spelling rest
@@ -94,6 +94,6 @@ may_precede (Uncarried Float) spelling rest = may_follow_float spelling rest
 may_precede (Uncarried WideInt) spelling rest = may_follow_int spelling rest
 may_precede (Uncarried CStr) spelling rest = ends_word_before rest
 
--- the spelling of one identifier or one integer
+-- The spelling of one identifier or one integer.
 abbrev pub is_name_or_index : List ℕ → Bool
 is_name_or_index cs = spells Ident cs || spells (Literal Int) cs

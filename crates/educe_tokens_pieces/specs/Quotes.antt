@@ -7,7 +7,7 @@ use Rattle.std.specs.Char.{is_ascii, is_digit, digit_value}
 use Rattle.educe_tokens_pieces.specs.declared.quotes.Quote.{Quote}
 use Rattle.educe_tokens_pieces.specs.declared.quotes.Quote.TheVariants.{Str, ByteStr, CStr, Char, Byte}
 
--- the mark at the end
+-- The mark at the end.
 abbrev pub closing : Quote → ℕ
 closing Str = 34
 closing ByteStr = 34
@@ -15,7 +15,7 @@ closing CStr = 34
 closing Char = 39
 closing Byte = 39
 
--- one character or byte, and not a list of them
+-- One character or byte, and not a list of them.
 abbrev pub is_single : Quote → Bool
 is_single Str = false
 is_single ByteStr = false
@@ -23,7 +23,7 @@ is_single CStr = false
 is_single Char = true
 is_single Byte = true
 
--- bytes: of ASCII characters, and without `\u`
+-- Bytes: of ASCII characters, and without `\u`.
 abbrev pub is_bytes : Quote → Bool
 is_bytes Str = false
 is_bytes ByteStr = true
@@ -31,7 +31,7 @@ is_bytes CStr = false
 is_bytes Char = false
 is_bytes Byte = true
 
--- the greatest first digit of `\x`: in text 7, since the value is ASCII there
+-- The greatest first digit of `\x`: in text 7, since the value is ASCII there.
 abbrev pub top_digit : Quote → ℕ
 top_digit Str = 7
 top_digit ByteStr = 15
@@ -39,19 +39,19 @@ top_digit CStr = 15
 top_digit Char = 7
 top_digit Byte = 15
 
--- what a literal consists of
+-- What a literal consists of.
 pub data Part : Type 0 where
-  -- a character as it stands
+  -- A character as it stands.
   Plain : (c : ℕ) → Part
-  -- `\` and a letter or a mark
+  -- `\` and a letter or a mark.
   Escape : (c : ℕ) → Part
-  -- `\x` and two digits
+  -- `\x` and two digits.
   Hex : (high low : ℕ) → Part
-  -- `\u`, and digits and `_` in braces
+  -- `\u`, and digits and `_` in braces.
   Unicode : (digits : List ℕ) → Part
-  -- `\` before the end of a line: a line feed
+  -- `\` before the end of a line: a line feed.
   Break : Part
-  -- the same before a carriage return and a line feed
+  -- The same before a carriage return and a line feed.
   ReturnBreak : Part
 
 abbrev pub spelled : Part → List ℕ
@@ -62,7 +62,7 @@ spelled (Unicode digits) = 92 ∷ 117 ∷ 123 ∷ (digits ++ 125 ∷ [])
 spelled Break = 92 ∷ 10 ∷ []
 spelled ReturnBreak = 92 ∷ 13 ∷ 10 ∷ []
 
--- n r t \ 0 ' "
+-- N r t \ 0 ' ".
 abbrev pub is_escape : ℕ → Bool
 is_escape c = (c == 110) || (c == 114) || (c == 116) || (c == 92) || (c == 48) || (c == 39) || (c == 34)
 
@@ -72,11 +72,11 @@ escape_value c = cond (c == 110) 10 (cond (c == 114) 13 (cond (c == 116) 9 (cond
 abbrev pub is_hex : ℕ → Bool
 is_hex c = is_digit c 16
 
--- the number is that of a character: at most 10FFFF, and no surrogate
+-- The number is that of a character: at most 10FFFF, and no surrogate.
 abbrev pub is_scalar : ℕ → Bool
 is_scalar n = nat_lt n 55296 || (nat_le 57344 n && nat_lt n 1114112)
 
--- one to six digits, each followed by any number of `_`
+-- One to six digits, each followed by any number of `_`.
 abbrev pub is_code : List ℕ → Bool
 is_code [] = false
 is_code (d ∷ ds) = is_hex d && (list_all (λ c. is_hex c || (c == 95)) ds && nat_le (length (filter is_hex (d ∷ ds))) 6)
@@ -84,18 +84,18 @@ is_code (d ∷ ds) = is_hex d && (list_all (λ c. is_hex c || (c == 95)) ds && n
 abbrev pub code_value : List ℕ → ℕ
 code_value digits = digits_value 16 (filter (λ c. not (c == 95)) digits)
 
--- line feed, carriage return and tab
+-- Line feed, carriage return and tab.
 abbrev pub is_line_control : ℕ → Bool
 is_line_control c = (c == 10) || (c == 13) || (c == 9)
 
--- a character that stands for itself: neither the mark at the end nor `\`; in bytes ASCII; and where it stands alone,
--- neither a line feed, a carriage return nor a tab
+-- A character that stands for itself: neither the mark at the end nor `\`; in bytes ASCII; and where it stands alone,
+-- neither a line feed, a carriage return nor a tab.
 abbrev pub is_plain : Quote → ℕ → Bool
 is_plain quote c =
     (not (c == closing quote) && not (c == 92))
     && ((not (is_bytes quote) || is_ascii c) && not (is_single quote && is_line_control c))
 
--- the part may stand in such a literal
+-- The part may stand in such a literal.
 abbrev pub may_hold : Quote → Part → Bool
 may_hold quote (Plain c) = is_plain quote c
 may_hold quote (Escape c) = is_escape c
@@ -104,17 +104,17 @@ may_hold quote (Unicode digits) = not (is_bytes quote) && (is_code digits && is_
 may_hold quote Break = not (is_single quote)
 may_hold quote ReturnBreak = not (is_single quote)
 
--- one part, where the literal is a single character or byte
+-- One part, where the literal is a single character or byte.
 abbrev pub has_count : Quote → List Part → Bool
 has_count quote parts = not (is_single quote) || (length parts == 1)
 
--- the text is these parts, and then the mark at the end
+-- The text is these parts, and then the mark at the end.
 pub record IsBody (quote : Quote) (text : List ℕ) (parts : List Part) : Type 0 where
   pub hold : IsTrue (list_all (may_hold quote) parts)
   pub count : IsTrue (has_count quote parts)
   pub is : text ≡ flat_map spelled parts ++ closing quote ∷ []
 
--- the `\` before the end of a line, which has no value
+-- The `\` before the end of a line, which has no value.
 abbrev pub is_break : Part → Bool
 is_break (Plain c) = false
 is_break (Escape c) = false
@@ -123,7 +123,7 @@ is_break (Unicode digits) = false
 is_break Break = true
 is_break ReturnBreak = true
 
--- space, tab, line feed and carriage return, as they stand
+-- Space, tab, line feed and carriage return, as they stand.
 abbrev pub is_space : Part → Bool
 is_space (Plain c) = (c == 32) || (c == 9) || (c == 10) || (c == 13)
 is_space (Escape c) = false
@@ -140,7 +140,7 @@ part_value (Unicode digits) = code_value digits ∷ []
 part_value Break = []
 part_value ReturnBreak = []
 
--- the characters that the parts stand for; spaces that follow a `\` at the end of a line stand for none
+-- The characters that the parts stand for; spaces that follow a `\` at the end of a line stand for none.
 abbrev pub values : Bool → List Part → List ℕ
 values behind_break [] = []
 values behind_break (p ∷ ps) = cond (behind_break && is_space p) (values true ps) (part_value p ++ values (is_break p) ps)

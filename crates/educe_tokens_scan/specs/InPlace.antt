@@ -14,14 +14,14 @@ use Rattle.educe_tokens_pieces.specs.Pieces.{is_piece, may_precede}
 use Rattle.educe_tokens_scan.specs.Reading.{Piece}
 use Rattle.educe_tokens_scan.specs.Scan.{piece_at}
 
--- the characters are a piece of the kind that may stand before the rest, and the rest
+-- The characters are a piece of the kind that may stand before the rest, and the rest.
 pub record Stands (kind : PieceKind) (text rest : List ℕ) : Type 0 where
   pub spelling : List ℕ
   pub is : text ≡ spelling ++ rest
   pub piece : IsTrue (is_piece kind spelling)
   pub before : IsTrue (may_precede kind spelling rest)
 
--- so many bytes at the front of the text are the piece there
+-- So many bytes at the front of the text are the piece there.
 pub record IsFront (text : List ℕ) (found : PieceKind × ℕ) : Type 0 where
   pub count : ℕ
   pub is : piece_at (chars text) ≡ Some (found.0, count)
@@ -29,11 +29,11 @@ pub record IsFront (text : List ℕ) (found : PieceKind × ℕ) : Type 0 where
   pub back : chars (drop found.1 text) ≡ drop count (chars text)
   pub boundary : IsCharBoundary text found.1
 
--- the piece that is so many bytes at the front of the text
+-- The piece that is so many bytes at the front of the text.
 abbrev pub byte_piece : List ℕ → PieceKind × ℕ → Piece
 byte_piece text found = record { kind = found.0; spelling = chars (take found.1 text) }
 
--- how a literal between quotes begins: its letter, if it has one, and the first quote
+-- How a literal between quotes begins: its letter, if it has one, and the first quote.
 abbrev pub opening : Quote → List ℕ
 opening InStr = 34 ∷ []
 opening InByteStr = 98 ∷ 34 ∷ []
@@ -41,7 +41,7 @@ opening InCStr = 99 ∷ 34 ∷ []
 opening InChar = 39 ∷ []
 opening InByte = 98 ∷ 39 ∷ []
 
--- its kind
+-- Its kind.
 abbrev pub quoted_kind : Quote → PieceKind
 quoted_kind InStr = Token (Literal Str)
 quoted_kind InByteStr = Token (Literal ByteStr)
@@ -49,6 +49,6 @@ quoted_kind InCStr = Uncarried CStr
 quoted_kind InChar = Token (Literal Char)
 quoted_kind InByte = Token (Literal Byte)
 
--- so many ASCII digits
+-- So many ASCII digits.
 abbrev pub is_digits : ℕ → List ℕ → Bool
 is_digits count cs = list_all is_ascii_digit cs && (length cs == count)

@@ -5,7 +5,7 @@ use Rattle.educe_tokens_pieces.specs.declared.kind.TokenKind.TheVariants.{Ident,
 use Rattle.educe_tokens_pieces.specs.declared.kind.PieceKind.{PieceKind}
 use Rattle.educe_tokens_pieces.specs.declared.kind.PieceKind.TheVariants.{Token}
 
--- a space or the end may follow the token: no joint punct, and no documentation, which may take the rest of its line
+-- A space or the end may follow the token: no joint punct, and no documentation, which may take the rest of its line.
 abbrev pub stands_apart : TokenKind → Bool
 stands_apart (Punct c joint) = not joint
 stands_apart Ident = true
@@ -15,7 +15,7 @@ stands_apart (Start b) = true
 stands_apart (Stop b) = true
 stands_apart Doc = false
 
--- the kind at the end of a text, where no punct is joint
+-- The kind at the end of a text, where no punct is joint.
 abbrev pub unjoined : PieceKind → PieceKind
 unjoined (Token (Punct c joint)) = Token (Punct c false)
 unjoined kind = kind

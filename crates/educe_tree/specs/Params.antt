@@ -3,7 +3,7 @@ use Rattle.educe_tokens.specs.declared.written.Written.{Written}
 use Rattle.educe_tree.specs.declared.generics.GenericParam.{GenericParam}
 use Rattle.educe_tree.specs.declared.generics.GenericParam.TheVariants.{Lifetime, TypeParam, Const}
 
--- the parameter's tokens, without its default
+-- The parameter's tokens, without its default.
 abbrev pub written_of : GenericParam → Written
 written_of (Lifetime param) = param.written
 written_of (TypeParam param) = param.written

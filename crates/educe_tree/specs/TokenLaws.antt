@@ -6,26 +6,26 @@ use Rattle.educe_tokens.specs.Laws.{LexingLaws, PrintingLaws, KindLaws, CopyingL
 use Rattle.educe_tokens.proofs.Ascii.{chars-ascii}
 use Rattle.educe_tokens.proofs.Lawful as lawful
 
--- texts have one list of tokens or one cause of a rejection
+-- Texts have one list of tokens or one cause of a rejection.
 pub lawful_lexing : LexingLaws
 lawful_lexing = lawful.lawful_lexing
 
--- texts that are printed lex as their tokens
+-- Texts that are printed lex as their tokens.
 pub lawful_printing : PrintingLaws
 lawful_printing = lawful.lawful_printing
 
--- spellings decide kinds
+-- Spellings decide kinds.
 pub lawful_kinds : KindLaws
 lawful_kinds = lawful.lawful_kinds
 
--- copies keep what they say they do
+-- Copies keep what they say they do.
 pub lawful_copies : CopyingLaws
 lawful_copies = lawful.lawful_copies
 
--- strings and documentation have one value
+-- Strings and documentation have one value.
 pub lawful_values : ValueLaws
 lawful_values = lawful.lawful_values
 
--- the characters of an ASCII text are its bytes; at a literal the premise is `refl`
+-- The characters of an ASCII text are its bytes; at a literal the premise is `refl`.
 pub ascii_chars : (text : List ℕ) → list_all is_ascii text ≡ true → chars text ≡ text
 ascii_chars = chars-ascii

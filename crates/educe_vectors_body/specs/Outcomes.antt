@@ -4,7 +4,7 @@ use Rattle.educe_body_values.specs.declared.outcome.Outcome.TheVariants.{Truth, 
 use Rattle.educe_vectors_body.specs.declared.outcomes.Seen.{Seen}
 use Rattle.educe_vectors_body.specs.declared.outcomes.Seen.TheVariants.{Truth as SeenTruth, Order as SeenOrder, PartialOrder as SeenPartialOrder, Parts as SeenParts, Made as SeenMade, Whole as SeenWhole, Stuck as SeenStuck}
 
--- the outcome that is lent
+-- The outcome that is lent.
 abbrev pub shown : Seen → Outcome
 shown (SeenTruth b) = Truth b
 shown (SeenOrder o) = Order o
@@ -14,7 +14,7 @@ shown (SeenMade variant fields) = Made (record { variant = variant; fields = fie
 shown (SeenWhole x) = Whole x
 shown SeenStuck = Stuck
 
--- what `fmt` shows
+-- What `fmt` shows.
 abbrev pub IsShape : Outcome → Type 0
 IsShape (Shape seen) = Unit {0}
 IsShape outcome = ⊥

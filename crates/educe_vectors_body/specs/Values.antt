@@ -2,6 +2,6 @@
 use Rattle.std.specs.Prelude.{ℤ}
 use Rattle.educe_body_values.specs.declared.value.FieldValue.{FieldValue}
 
--- the value of this number, of a field of the first type
+-- The value of this number, of a field of the first type.
 abbrev pub numbered : ℤ → FieldValue
 numbered number = record { ty = 0; number = number }
