@@ -121,7 +121,7 @@ bad_stays outer inner kind more bad opened shallow =
     let on = opens_on outer inner kind more opened in
     bad on.0 on.1 (depth_within 128 (length outer) kind more shallow)
 
--- the same in the middle of more tokens
+-- a bad kind in the middle of more tokens doesn't go on
 bad_among : (outer mid inner : List Bracket) (ks : List TokenKind) (kind : TokenKind) (more : List TokenKind) → open_behind outer ks ≡ Some mid → IsBad mid kind
     → open_behind outer (ks ++ kind ∷ more) ≡ Some inner → nests 128 (length outer) (ks ++ kind ∷ more) ≡ true → ⊥
 bad_among outer mid inner [] kind more opened bad whole shallow =
@@ -174,7 +174,7 @@ wrong_is_bad text before token behind outer meets none = record {
   bad = λ inner opens deep. none_is_not_some inner (sym none ∙ opens);
 }
 
--- so is one that opens too deep
+-- a bracket that opens too deep is bad
 deep_is_bad : (text : List ℕ) (before : List Token) (token : Token) (behind : List Token) (outer : List Bracket) (b : Bracket) → Meets text before token behind outer → token.kind ≡ Start b → length outer ≡ 128
     → BadAt [] before token
 deep_is_bad text before token behind outer b meets opens full = record {

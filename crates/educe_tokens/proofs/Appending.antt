@@ -40,7 +40,7 @@ HasPrefix-trans {first = first} front back = record {
 pub Appends-push : (tokens : List Token) (token : Token) → Appends (lexeme_of token ∷ []) tokens (tokens ++ token ∷ [])
 Appends-push tokens token = record { more = token ∷ []; joined = refl; same = refl }
 
--- the same growth, by equal lexemes
+-- a list grows by lexemes where it grows by equal ones
 pub Appends-same : {xs ys : List Lexeme} {old new : List Token} → xs ≡ ys → Appends xs old new → Appends ys old new
 Appends-same e grown = record { more = grown.more; joined = grown.joined; same = grown.same ∙ e }
 

@@ -48,7 +48,7 @@ refused_token text before behind t outer WrongClose met is = IsLexicalCause.wron
 refused_token text before behind t outer TooDeep met is = IsLexicalCause.too_deep before t behind outer is.0 met is.1 is.2
 refused_token text before behind t outer Alloc met is = IsLexicalCause.memory
 
--- the same of the rejection
+-- the rejection of a token that the loop stops at has a cause
 pub token_cause : (text : List ℕ) (ts : List Token) (i : ℕ) (t : Token) (outer : List Bracket) (cause : BracketError) (e : EduceError) → i < length ts → t ≡ get_or ts i t
     → open_behind [] (kinds (lexemes (take i ts))) ≡ Some outer → IsShallow (lexemes (take i ts)) → IsCauseOfKind outer t.kind cause → e ≡ refusal_of cause t.span → Lexes text ts → IsLexicalCause text e
 token_cause text ts i t outer cause e h at opened shallow is refused lexes =

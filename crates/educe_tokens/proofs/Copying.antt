@@ -151,7 +151,7 @@ have_no_doc-joined (kind ∷ more) h =
     let parts = and_parts (may_join kind more) _ h in
     and_from _ _ (no_doc-joined kind more parts.0) (have_no_doc-joined more parts.1)
 
--- and it may be copied
+-- what may stand side by side may be copied
 pub may_be_copied-written : (xs : List Lexeme) → IsTrue (is_written xs) → IsTrue (may_be_copied xs)
 may_be_copied-written xs h = and_from _ _ (written_closes xs h) (have_no_doc-joined (kinds xs) (written_joins xs h))
 
@@ -208,7 +208,7 @@ behind_first c (Start b) xs ys = refl
 behind_first c (Stop b) xs ys = refl
 behind_first c Doc xs ys = refl
 
--- and not at its jointness
+-- whether a punct joins the next token doesn't depend on that token's jointness
 behind_unjoined : (c : ℕ) (kind : TokenKind) → is_punct_behind c (kind ∷ []) ≡ is_punct_behind c (unjoined kind ∷ [])
 behind_unjoined c (Punct d joint) = refl
 behind_unjoined c Ident = refl

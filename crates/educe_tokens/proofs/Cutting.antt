@@ -53,7 +53,7 @@ kept_utf8 : (kept : Text) → IsCut kept → IsUtf8 (bytes_of kept)
 kept_utf8 (Short bytes len) cut = cut.1
 kept_utf8 (Part source start end) cut = part_utf8 (string_bytes source.value) start end (IsUtf8-string_bytes source.value) cut.0 cut.1 cut.2
 
--- so its bytes are those of its characters
+-- the bytes of a kept text are those of its characters
 pub kept_bytes : (kept : Text) (text : List ℕ) → characters_of kept ≡ text → IsCut kept → encode_utf8_all text ≡ bytes_of kept
 kept_bytes kept text is cut = ap encode_utf8_all (sym is) ∙ encodes-chars (bytes_of kept) (kept_utf8 kept cut)
 
@@ -64,7 +64,7 @@ whole_cut source text end is long fits =
     let same : end ≡ length bs = long ∙ ap length (sym is) in
     (omega arith, IsCharBoundary-start bs (IsUtf8-string_bytes source.value), subst (IsCharBoundary bs) (sym same) (IsCharBoundary-end bs), fits)
 
--- the same of a short text
+-- the bytes of a short text are those of its characters
 pub short_bytes : (kept : Text) (text bytes : List ℕ) (len : ℕ) → kept ≡ Short bytes len → characters_of kept ≡ text → IsCut kept → encode_utf8_all text ≡ take len bytes
 short_bytes kept text bytes len is view cut = kept_bytes kept text view cut ∙ ap bytes_of is
 
@@ -123,17 +123,17 @@ module _ (source text rest : List ℕ) (tokens : List Token) (start n : ℕ) (sp
   whole : source ≡ encode_utf8_all text
   whole = sym (encodes-chars source utf8) ∙ ap encode_utf8_all spelled
 
-  -- so it is a place of the text
+  -- the span of the next piece is a place of the text
   pub next_place : IsPlace text span
   next_place = record { ordered = cut.ordered; starts = subst (λ bs. IsCharBoundary bs span.start) whole cut.starts; ends = subst (λ bs. IsCharBoundary bs span.end) whole cut.ends }
 
-  -- and its characters are those of the front
+  -- the characters in the span of the next piece are those of the prefix
   pub next_cut : cut_out text span ≡ take n rest
   next_cut =
       let utf8_front = subst IsUtf8 cut.cut (part_utf8 source span.start span.end utf8 cut.ordered cut.starts cut.ends) in
       ap (λ bs. chars (slice_range bs span.start span.end)) (sym whole) ∙ ap chars cut.cut ∙ sym (chars_from_encodes (take n rest) (encode_utf8_all (take n rest)) utf8_front refl)
 
--- the same of a piece at the front of what is left of a source, in a text of the same characters
+-- a piece at the start of what is left of a source, in a text of the same characters
 module _ (source text rest : List ℕ) (tokens : List Token) (kind : PieceKind) (m : ℕ) (span : Span) (utf8 : IsUtf8 source) (more : IsUtf8 rest) (same : text ≡ chars source)
     (b : Before (chars source) (chars rest) tokens (length source - length rest)) (f : IsFront rest (kind, m)) (starts : span.start ≡ length source - length rest) (ends : span.end ≡ length source - length rest + m) where
   there : span.end ≡ length source - length rest + length (encode_utf8_all (take f.count (chars rest)))

@@ -13,7 +13,7 @@ use Rattle.educe_tokens.specs.Lexes.{lexemes, piece_of, Lexes, is_token}
 found_some : (text : List ℕ) (o : Option (PieceKind × ℕ)) (kind : PieceKind) (n : ℕ) → IsFound text o → o ≡ Some (kind, n) → 0 < n
 found_some text o kind n found is = let some = subst (IsFound text) is found in some.1
 
--- so no piece is
+-- no piece is empty
 pub not_empty : (p : Piece) (rest : List ℕ) → IsPiece p rest → 0 < length p.spelling
 not_empty p rest h = let text : List ℕ = p.spelling ++ rest in found_some text (piece_at text) p.kind (length p.spelling) (piece_is text) (piece_finds p rest h)
 
@@ -46,7 +46,7 @@ lexes_few text ts a =
     let same = ap length a.tokens_are ∙ length-pieces ts in
     omega arith
 
--- nor more than its bytes
+-- the tokens are no more than the bytes of the text
 pub lexes_few_bytes : (source : List ℕ) (ts : List Token) → IsUtf8 source → Lexes (chars source) ts → length ts ≤ length source
 lexes_few_bytes source ts text a =
     let few = lexes_few (chars source) ts a in

@@ -91,6 +91,6 @@ joins_without_doc (Start b ∷ more) none join = joins_without_doc more none joi
 joins_without_doc (Stop b ∷ more) none join = joins_without_doc more none join
 joins_without_doc (Doc ∷ more) none join = absurd (false≢true none)
 
--- so where its brackets close too it is well formed
+-- a list without documentation whose puncts join and whose brackets close is well formed
 pub well_formed_without_doc : (found : List Lexeme) → have_no_doc (kinds found) ≡ true → IsBalanced found → puncts_join (kinds found) ≡ true → IsWellFormed found
 well_formed_without_doc found none balanced join = and_from _ _ balanced (joins_without_doc (kinds found) none join)

@@ -138,7 +138,7 @@ module _ (text rest : List ℕ) (old : List Token) (start : ℕ) (kind : PieceKi
       subst (λ s. IsLexicalCause text (not_carried_at s (take n rest))) (sym at) (IsLexicalCause.not_carried b.ps p literal (drop n rest) reads b.carried is)
   uncarried k e is (IsCauseOfPiece.memory own) = IsLexicalCause.memory
 
-  -- so there is a cause where it adds nothing
+  -- a piece that adds nothing is a cause of rejection of the text
   pub piece_cause : (e : EduceError) → IsCauseOfPiece (take n rest) span kind e → IsLexicalCause text e
   piece_cause e cause = uncarried kind e refl cause
 
@@ -206,7 +206,7 @@ module _ (source rest : List ℕ) (old : List Token) (kind : PieceKind) (m : ℕ
   pub front_is_piece : IsTrue (is_piece kind (chars (take m rest)))
   front_is_piece = rw f.front (and_parts (is_piece kind (take f.count (chars rest))) _ found.0).0
 
-  -- and not empty
+  -- the piece is not empty
   pub front_some : 0 < m
   front_some = omega (arith, long, some_bytes (take f.count (chars rest)) (omega (arith, found.1, length-take-le f.count (chars rest) found.2)))
 

@@ -40,7 +40,7 @@ kind_of_spelling t u same =
     let one = one_piece (apart t.kind t.spelling) (apart u.kind u.spelling) [] [] (whole t.kind t.spelling t.spelled) (whole u.kind u.spelling u.spelled) text in
     same_token (unjoined t.kind) (unjoined u.kind) (ap (λ (p : Piece). p.kind) one.0)
 
--- so tokens with the same spellings are the same
+-- tokens with the same spellings are the same, jointness aside
 pub same_spellings : (ts us : List Token) → map (λ (t : Token). t.spelling) ts ≡ map (λ (t : Token). t.spelling) us → AreSameTokens ts us
 same_spellings [] [] same = refl
 same_spellings [] (u ∷ us) same = absurd (nil_not_cons u.spelling (map (λ (t : Token). t.spelling) us) same)

@@ -56,7 +56,7 @@ closes_behind outer inner (k ∷ ks) more h =
     ] in
     closes-cons outer k (ks ++ more) ∙ step (open_after outer k) h
 
--- so many are open behind one more token
+-- the depth after one more token is the number of brackets that are open behind it
 pub depth_of : (outer inner : List Bracket) (kind : TokenKind) → open_after outer kind ≡ Some inner → depth_after (length outer) kind ≡ length inner
 depth_of outer inner (Start b) h = omega (arith, ap length (same_some (b ∷ outer) inner h))
 depth_of [] inner (Stop b) h = absurd (none_is_not_some inner h)

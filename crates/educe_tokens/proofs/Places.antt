@@ -138,7 +138,7 @@ span_cut source span spelling utf8 lies =
 pub tokens_sliced : (source : List ℕ) (tokens : List Token) → IsUtf8 source → Lexes (chars source) tokens → AllByRecursion (IsSlice source) tokens
 tokens_sliced source tokens utf8 lexes = each_weaker (TokenLiesAt (chars source)) (IsSlice source) tokens (λ t. span_cut source t.span t.spelling utf8) (tokens_lie (chars source) tokens lexes)
 
--- the same where the answer may be a rejection
+-- each token's span cuts its spelling out of the source, where the answer is no rejection
 pub answer_sliced : (source : List ℕ) (r : Result (List Token) EduceError) → IsUtf8 source → IfOk r (IsReading (chars source)) → IfOk r (λ tokens. AllByRecursion (IsSlice source) tokens)
 answer_sliced source (Ok tokens) utf8 reading = tokens_sliced source tokens utf8 reading.lexes
 answer_sliced source (Err e) utf8 reading = tt

@@ -75,7 +75,7 @@ opener_spelled Round = refl
 opener_spelled Square = refl
 opener_spelled Curly = refl
 
--- so is a closing one
+-- a closing bracket is spelled as one
 closer_spelled : (b : Bracket) → spells (Stop b) (closer b ∷ []) ≡ true
 closer_spelled Round = refl
 closer_spelled Square = refl

@@ -145,7 +145,7 @@ paired_at (c ∷ d ∷ []) h long short start =
       same = cond-false (is_name_start c) _ _ start ∙ cc;
     }
 
--- the same of the bytes of a text, as another list
+-- the laws of a template's word, for its bytes as another list
 module _ (bytes word : List ℕ) (e : bytes ≡ word) (h : IsTrue (is_template_word word)) where
   here : IsTrue (is_template_word bytes)
   here = let P : List ℕ → Type 0 = λ x. IsTrue (is_template_word x) in subst P (sym e) h

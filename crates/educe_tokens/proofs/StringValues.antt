@@ -29,7 +29,7 @@ raw_by_first [] h r = absurd (false≢true h)
 raw_by_first (c ∷ cs) h r =
     ⊎_elim (λ s. absurd (false≢true (sym (quote_no_r c (and_parts (c == 34) _ s).0) ∙ r))) (λ raw. raw) (or_cases _ _ h)
 
--- and another one is not
+-- a string literal that doesn't begin with `r` is not raw
 pub str_by_first : (cs : List ℕ) → spells (Literal literal.Str) cs ≡ true → begins (λ c. c == 114) cs ≡ false → is_str cs ≡ true
 str_by_first [] h r = absurd (false≢true h)
 str_by_first (c ∷ cs) h r = ⊎_elim (λ s. s) (λ raw. absurd (false≢true (sym r ∙ (and_parts (c == 114) _ raw).0))) (or_cases _ _ h)

@@ -57,7 +57,7 @@ joint_on c (Start b) s xs e es h m = absurd (false≢true h)
 joint_on c (Stop b) s xs e es h m = absurd (false≢true h)
 joint_on c Doc s xs e es h m = absurd (false≢true h)
 
--- the same of the first of a list
+-- a punct is joint before the text of a list that begins with a punct
 before_punct : (c : ℕ) (xs : List Lexeme) → list_all is_lexeme xs ≡ true → is_punct_behind c (kinds xs) ≡ true → joins_well (kinds xs) ≡ true → is_joint (text_behind true xs) ≡ true
 before_punct c [] e h j = absurd (false≢true h)
 before_punct c (x ∷ xs) e h j =
@@ -110,7 +110,7 @@ tokens_behind joint [] = refl
 tokens_behind true (x ∷ xs) = ap (λ ps. piece_of x ∷ ps) (tokens_behind (joins_next x.kind) xs)
 tokens_behind false (x ∷ xs) = ap (λ ps. piece_of x ∷ ps) (tokens_behind (joins_next x.kind) xs)
 
--- and all are carried
+-- no piece among them is an unsupported literal
 carried_behind : (joint : Bool) (xs : List Lexeme) → are_carried (pieces_behind joint xs) ≡ true
 carried_behind joint [] = refl
 carried_behind true (x ∷ xs) = carried_behind (joins_next x.kind) xs
@@ -120,10 +120,10 @@ carried_behind false (x ∷ xs) = carried_behind (joins_next x.kind) xs
 pub text_of_lexes : (xs : List Lexeme) → list_all is_lexeme xs ≡ true → joins_well (kinds xs) ≡ true → LexesAside (text_of xs) xs
 text_of_lexes xs e h = record { pieces = pieces_behind true xs; reads = reads_behind true xs e h; carried = carried_behind true xs; tokens_are = tokens_behind true xs }
 
--- the same of tokens, each of which is spelled as its kind
+-- the text of tokens that join well lexes as them
 pub text_of_tokens_lexes : (ts : List Token) → joins_well (kinds (lexemes ts)) ≡ true → LexesAside (text_of (lexemes ts)) (lexemes ts)
 text_of_tokens_lexes ts h = text_of_lexes (lexemes ts) (tokens_spelled ts) h
 
--- so the text of well-formed tokens does
+-- the text of well-formed tokens lexes as them
 pub well_formed_lexes : (ts : List Token) → IsWellFormed (lexemes ts) → LexesAside (text_of (lexemes ts)) (lexemes ts)
 well_formed_lexes ts well = text_of_tokens_lexes ts (and_parts (closes [] (kinds (lexemes ts))) _ well).1

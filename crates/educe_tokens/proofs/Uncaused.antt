@@ -49,7 +49,7 @@ wrong : (ks more : List TokenKind) (kind : TokenKind) (outer : List Bracket) →
 wrong ks more kind outer opened none balanced =
     false≢true (sym (closes_behind [] outer ks (kind ∷ more) opened ∙ closes-cons outer kind more ∙ ap (λ o. closes_after o more) none) ∙ balanced)
 
--- so do brackets that are open at the end
+-- brackets that are open at the end keep the brackets from closing in order
 left_open : (ks : List TokenKind) (innermost : Bracket) (outer : List Bracket) → open_behind [] ks ≡ Some (innermost ∷ outer) → closes [] ks ≡ true → ⊥
 left_open ks innermost outer opened balanced =
     false≢true (sym (closes_behind [] (innermost ∷ outer) ks [] opened) ∙ ap (closes []) (append-nil ks) ∙ balanced)
@@ -94,16 +94,16 @@ no_cause_aside text found lexes balanced shallow e cause = elim (cause_if_balanc
 pub no_cause : (text : List ℕ) (tokens : List Token) → Lexes text tokens → IsBalanced (lexemes tokens) → IsShallow (lexemes tokens) → (e : EduceError) → IsLexicalCause text e → e.kind ≡ Alloc
 no_cause text tokens lexes balanced shallow e cause = no_cause_aside text (lexemes tokens) (lexes_aside text tokens lexes) balanced shallow e cause
 
--- so a text that is read has none
+-- a text that is read has no cause of rejection
 pub reading_uncaused : (text : List ℕ) (tokens : List Token) → IsReading text tokens → (e : EduceError) → IsLexicalCause text e → e.kind ≡ Alloc
 reading_uncaused text tokens reading = no_cause text tokens reading.lexes reading.balanced reading.shallow
 
--- so these tokens are the answer, unless memory is short
+-- the tokens of a text are the answer, unless memory is short
 pub gives_one : (text : List ℕ) (r : Result (List Token) EduceError) → IfOk r (IsReading text) → IfErr r (IsLexicalCause text) → (tokens : List Token) → Lexes text tokens → IsBalanced (lexemes tokens) → IsShallow (lexemes tokens) → Gives r tokens
 gives_one text (Ok found) ok err tokens lexes balanced shallow = lexes_one text found tokens ok.lexes lexes
 gives_one text (Err e) ok err tokens lexes balanced shallow = no_cause text tokens lexes balanced shallow e err
 
--- and so are these, their spans aside
+-- lexemes of a text are those of the answer, unless memory is short
 pub gives_aside : (text : List ℕ) (r : Result (List Token) EduceError) → IfOk r (IsReading text) → IfErr r (IsLexicalCause text) → (found : List Lexeme) → LexesAside text found → IsBalanced found → IsShallow found
     → IfOk r (λ tokens. lexemes tokens ≡ found) × IfErr r (λ e. e.kind ≡ Alloc)
 gives_aside text (Ok own) ok err found lexes balanced shallow = (lexes_aside_one text (lexemes own) found (lexes_aside text own ok.lexes) lexes, tt)

@@ -73,7 +73,7 @@ is_punct_behind-append c (Start b) xs ys h = h
 is_punct_behind-append c (Stop b) xs ys h = h
 is_punct_behind-append c Doc xs ys h = h
 
--- nor for any token
+-- what stands behind the next token changes nothing for any token before it
 may_join-append : (kind next : TokenKind) (xs ys : List TokenKind) → may_join kind (next ∷ xs) ≡ true → may_join kind (next ∷ (xs ++ ys)) ≡ true
 may_join-append Ident next xs ys h = refl
 may_join-append Lifetime next xs ys h = refl
@@ -119,7 +119,7 @@ written_from xs c j = and_from _ _ (and_from _ _ c j) (joins_well-apart (kinds x
 pub written_closes : (xs : List Lexeme) → IsTrue (is_written xs) → closes [] (kinds xs) ≡ true
 written_closes xs h = (and_parts (closes [] (kinds xs)) _ (and_parts _ (ends_apart (kinds xs)) h).0).0
 
--- and it joins well
+-- the kinds of written tokens join well
 pub written_joins : (xs : List Lexeme) → IsTrue (is_written xs) → joins_well (kinds xs) ≡ true
 written_joins xs h = (and_parts (closes [] (kinds xs)) _ (and_parts _ (ends_apart (kinds xs)) h).0).1
 

@@ -1,4 +1,4 @@
--- Brackets that close in order, and how deep they nest (Rust Reference, Delimiters).
+-- Brackets: whether they close in order, and how deep they nest (Rust Reference, Delimiters).
 use Rattle.std.specs.Prelude.{ℕ, ◌+◌, ◌-◌, Bool, true, false, cond, ◌&&◌, IsTrue, Option, Some, None, List, [], ◌∷◌, map, nat_le}
 use Rattle.educe_tokens_pieces.specs.declared.kind.Bracket.{Bracket}
 use Rattle.educe_tokens_pieces.specs.declared.kind.Bracket.TheVariants.{Round, Square, Curly}
@@ -12,7 +12,7 @@ same_bracket Round b = elim b [ Round ↦ true | Square ↦ false | Curly ↦ fa
 same_bracket Square b = elim b [ Round ↦ false | Square ↦ true | Curly ↦ false ]
 same_bracket Curly b = elim b [ Round ↦ false | Square ↦ false | Curly ↦ true ]
 
--- The brackets that are open behind one more token, innermost first; none where it closes another than the innermost.
+-- The open brackets after one more token, innermost first; none where it closes another bracket than the innermost.
 abbrev pub open_after : List Bracket → TokenKind → Option (List Bracket)
 open_after outer (Start b) = Some (b ∷ outer)
 open_after [] (Stop b) = None
@@ -23,13 +23,13 @@ open_after outer (Literal l) = Some outer
 open_after outer (Punct c joint) = Some outer
 open_after outer Doc = Some outer
 
--- Behind these open brackets, innermost first, each bracket closes in order.
+-- With these brackets open, innermost first, the tokens close every bracket in order.
 abbrev pub closes : List Bracket → List TokenKind → Bool
 closes [] [] = true
 closes (o ∷ outer) [] = false
 closes outer (kind ∷ more) = elim (open_after outer kind) [ None ↦ false | Some inner ↦ closes inner more ]
 
--- How many brackets are open behind one more token.
+-- The number of open brackets after one more token.
 abbrev pub depth_after : ℕ → TokenKind → ℕ
 depth_after depth (Start b) = depth + 1
 depth_after depth (Stop b) = depth - 1
@@ -39,7 +39,7 @@ depth_after depth (Literal l) = depth
 depth_after depth (Punct c joint) = depth
 depth_after depth Doc = depth
 
--- With so many open before it, never more than the limit are open.
+-- With this many brackets open before the tokens, never more than the limit are open.
 abbrev pub nests : ℕ → ℕ → List TokenKind → Bool
 nests limit depth [] = true
 nests limit depth (kind ∷ more) = nat_le (depth_after depth kind) limit && nests limit (depth_after depth kind) more

@@ -1,7 +1,6 @@
--- Why a text has no tokens whose brackets close in order, not too deep: for each rejection its place and its words. Of
--- several causes the first is meant: an unsupported literal, or a place where no piece fits, counts only where each
--- piece before is carried; brackets count only where the whole text is pieces that are carried, and of these a later one
--- only where those before close in order and nest no deeper.
+-- The causes of lexical rejections, with their places and words. The first cause counts: an unsupported literal or a
+-- place where no piece fits only where all pieces before it are supported tokens, blanks or comments; a bracket only
+-- where the whole text is such pieces, and all brackets before it close in order and within the limit on nesting.
 use Rattle.std.specs.Prelude.{◌≡◌, ◌≢◌, ℕ, IsTrue, Option, Some, None, List, [], ◌∷◌, ◌++◌, length, Result, Ok, Err, encode_utf8_all}
 use Rattle.educe_tokens_pieces.specs.declared.kind.Bracket.{Bracket}
 use Rattle.educe_tokens_pieces.specs.declared.kind.TokenKind.{TokenKind}
@@ -18,56 +17,56 @@ use Rattle.educe_tokens.specs.Lexes.{lexemes, Lexes, are_carried, end_of, span_a
 use Rattle.educe_tokens.specs.Brackets.{open_after, kinds, IsShallow}
 use Rattle.educe_tokens.specs.Refusals.{placeless, syntax_at, too_deep_at, not_carried_at}
 
--- Nothing, at an offset.
+-- The empty span at an offset.
 abbrev pub empty_at : ℕ → Span
 empty_at offset = record { start = offset; end = offset }
 
--- The last of these spans; where there is none, the other one.
+-- The last of these spans, or the given one where there is none.
 abbrev pub last_of : List Span → Span → Span
 last_of [] other = other
 last_of (place ∷ more) other = last_of more place
 
--- The brackets that are open behind more tokens, innermost first; none where one closes another than the innermost.
+-- The open brackets after more tokens, innermost first; none where one closes another bracket than the innermost.
 abbrev pub open_behind : List Bracket → List TokenKind → Option (List Bracket)
 open_behind outer [] = Some outer
 open_behind outer (kind ∷ more) = elim (open_after outer kind) [ None ↦ None | Some inner ↦ open_behind inner more ]
 
--- Behind these tokens of the text, which nest no deeper than they may, and before the token and the others, these brackets
--- are open.
+-- The text's tokens are those before, this token and those behind it; the tokens before nest within the limit and leave
+-- these brackets open.
 pub record Meets (text : List ℕ) (before : List Token) (token : Token) (behind : List Token) (outer : List Bracket) : Type 0 where
   pub lexes : Lexes text (before ++ token ∷ behind)
   pub opened : open_behind [] (kinds (lexemes before)) ≡ Some outer
   pub shallow : IsShallow (lexemes before)
 
 pub data IsLexicalCause (text : List ℕ) : EduceError → Type 0 where
-  -- Pieces that are carried, and then an unsupported literal.
+  -- Supported pieces, followed by an unsupported literal.
   not_carried : (before : List Piece) (literal : Piece) (kind : UncarriedKind) (rest : List ℕ) → Reads text (before ++ literal ∷ []) rest
       → IsTrue (are_carried before) → literal.kind ≡ Uncarried kind
       → IsLexicalCause text (not_carried_at (span_at (end_of 0 before) literal) literal.spelling)
-  -- Pieces that are carried, and then more of the text of which no front is a piece: the place is that of the last
-  -- token among the pieces before, or else, where there is none, nothing at the end of the text.
+  -- Supported pieces, followed by a rest of which no prefix is a piece. The place is that of the last token before it;
+  -- where there is no token, the empty span at the end of the text.
   no_piece : (before : List Piece) (rest : List ℕ) → Reads text before rest → IsTrue (are_carried before) → rest ≢ [] → FitsNone rest
       → IsLexicalCause text (syntax_at (last_of (spans 0 before) (empty_at (length (encode_utf8_all text)))))
-  -- A bracket that closes another than the innermost one, or none.
+  -- A bracket that closes another than the innermost one, or closes none.
   wrong_close : (before : List Token) (token : Token) (behind : List Token) (outer : List Bracket) → Meets text before token behind outer
       → open_after outer token.kind ≡ None → IsLexicalCause text (syntax_at token.span)
-  -- Brackets that are open at the end: the place is nothing there.
+  -- Brackets are open at the end of the text; the place is the empty span there.
   unclosed : (tokens : List Token) (innermost : Bracket) (outer : List Bracket) → Lexes text tokens
       → open_behind [] (kinds (lexemes tokens)) ≡ Some (innermost ∷ outer) → IsShallow (lexemes tokens)
       → IsLexicalCause text (syntax_at (empty_at (length (encode_utf8_all text))))
-  -- A token that opens a bracket where exactly `NESTING` are open.
+  -- A token opens a bracket where exactly `NESTING` are open.
   too_deep : (before : List Token) (token : Token) (behind : List Token) (outer : List Bracket) (b : Bracket)
       → Meets text before token behind outer → token.kind ≡ Start b → length outer ≡ NESTING → IsLexicalCause text (too_deep_at token.span)
-  -- Out of memory.
+  -- Out of memory may end any call.
   memory : IsLexicalCause text (placeless Alloc)
 
--- One of these causes stands, other than out of memory.
+-- At least one cause other than out of memory applies.
 pub record HasCause (IsCause : EduceError → Type 0) : Type 0 where
   pub error : EduceError
   pub is_told : error.kind ≢ Alloc
   pub stands : IsCause error
 
--- The answer is these tokens, unless memory is short.
+-- The result is these tokens or out of memory.
 abbrev pub Gives : Result (List Token) EduceError → List Token → Type 0
 Gives (Ok found) tokens = found ≡ tokens
 Gives (Err e) tokens = e.kind ≡ Alloc

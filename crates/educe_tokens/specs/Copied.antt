@@ -1,4 +1,4 @@
--- Tokens as they are copied to another place: what stands behind them there may be another token.
+-- Tokens as they are copied to another place, where other tokens may follow them.
 use Rattle.std.specs.Prelude.{◌&&◌, Bool, false, List, [], ◌∷◌}
 use Rattle.educe_tokens_pieces.specs.declared.kind.TokenKind.{TokenKind}
 use Rattle.educe_tokens_pieces.specs.declared.kind.TokenKind.TheVariants.{Ident, Lifetime, Literal, Punct, Start, Stop, Doc}
@@ -6,7 +6,8 @@ use Rattle.educe_tokens.specs.Lexes.{Lexeme}
 use Rattle.educe_tokens.specs.Brackets.{kinds, closes}
 use Rattle.educe_tokens.specs.Text.{is_punct_behind, have_no_doc}
 
--- The kind as it is copied before these: a punct stays joint only before a punct with which it opens no comment.
+-- The kind of a copied token before these tokens: a punct stays joint only before a punct with which it opens no
+-- comment.
 abbrev pub copied_kind : TokenKind → List TokenKind → TokenKind
 copied_kind (Punct c joint) more = Punct c (joint && is_punct_behind c more)
 copied_kind Ident more = Ident
@@ -16,7 +17,7 @@ copied_kind (Start b) more = Start b
 copied_kind (Stop b) more = Stop b
 copied_kind Doc more = Doc
 
--- The tokens as they are copied: a punct stays joint only before a punct with which it opens no comment.
+-- The copied tokens: a punct stays joint only before a punct with which it opens no comment.
 abbrev pub copied : List Lexeme → List Lexeme
 copied [] = []
 copied (x ∷ more) = record { kind = copied_kind x.kind (kinds more); spelling = x.spelling } ∷ copied more
@@ -25,9 +26,9 @@ copied (x ∷ more) = record { kind = copied_kind x.kind (kinds more); spelling 
 abbrev pub may_be_copied : List Lexeme → Bool
 may_be_copied found = closes [] (kinds found) && have_no_doc (kinds found)
 
--- ---- in the words of what copying changes
+-- ---- jointness, which is all that copying changes
 
--- The kind, not joint.
+-- The kind with jointness removed.
 abbrev pub unjoined : TokenKind → TokenKind
 unjoined (Punct c joint) = Punct c false
 unjoined Ident = Ident
@@ -37,6 +38,6 @@ unjoined (Start b) = Start b
 unjoined (Stop b) = Stop b
 unjoined Doc = Doc
 
--- The token, not joint.
+-- The token with jointness removed.
 abbrev pub unjoin : Lexeme → Lexeme
 unjoin x = record { kind = unjoined x.kind; spelling = x.spelling }

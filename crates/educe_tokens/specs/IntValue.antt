@@ -6,7 +6,7 @@ use Rattle.educe_tokens_pieces.specs.declared.kind.TokenKind.TheVariants.{Ident,
 use Rattle.educe_tokens_pieces.specs.Integers.{int_value_of}
 use Rattle.educe_tokens.specs.Lexes.{Lexeme}
 
--- The number that the digits write, where the kind is `Int`.
+-- The number that the digits write, if the kind is `Int`.
 abbrev pub value_of : TokenKind → List ℕ → Option ℕ
 value_of (Literal Int) cs = Some (int_value_of cs)
 value_of (Literal Str) cs = None
@@ -20,6 +20,6 @@ value_of (Start b) cs = None
 value_of (Stop b) cs = None
 value_of Doc cs = None
 
--- The value of an integer literal; another token has none.
+-- The value of an integer literal; any other token has none.
 abbrev pub int_value : Lexeme → Option ℕ
 int_value lexeme = value_of lexeme.kind lexeme.spelling

@@ -1,4 +1,4 @@
--- What a spelling's characters are, wherever they are kept.
+-- The characters of a spelling, independent of its representation.
 use Rattle.std.specs.Prelude.{ℕ, ◌≤◌, ◌<◌, ◌^◌, List, chars, slice_range, take}
 use Rattle.std.specs.Str.{IsCharBoundary, IsUtf8}
 use Rattle.std.specs.String.{string_bytes}
@@ -14,7 +14,7 @@ bytes_of (Part source start end) = slice_range (string_bytes source.value) start
 abbrev pub characters_of : Text → List ℕ
 characters_of text = chars (bytes_of text)
 
--- The bytes are those of characters: a part begins and ends where characters do.
+-- The bytes are valid UTF-8: a shared part begins and ends at character boundaries.
 abbrev pub IsCut : Text → Type 0
 IsCut (Short bytes len) = (len ≤ 15) × IsUtf8 (take len bytes)
 IsCut (Part source start end) = (start ≤ end) × IsCharBoundary (string_bytes source.value) start × IsCharBoundary (string_bytes source.value) end × (end < 2 ^ 32)

@@ -1,4 +1,4 @@
--- The reading of a text as tokens (Rust Reference, Lexical structure).
+-- The tokens of a text (Rust Reference, Lexical structure).
 use Rattle.std.specs.Prelude.{◌≡◌, ℕ, ◌+◌, Bool, true, false, cond, IsTrue, List, [], ◌∷◌, length, map, encode_utf8_all}
 use Rattle.std.specs.List.{filter, list_all}
 use Rattle.educe_tokens_pieces.specs.declared.kind.TokenKind.{TokenKind}
@@ -15,7 +15,7 @@ pub record Lexeme : Type 0 where
 abbrev pub lexeme_of : Token → Lexeme
 lexeme_of t = record { kind = t.kind; spelling = t.spelling }
 
--- The tokens, their spans aside.
+-- The tokens without their spans.
 abbrev pub lexemes : List Token → List Lexeme
 lexemes tokens = map lexeme_of tokens
 
@@ -32,31 +32,31 @@ are_carried ps = list_all is_carried ps
 abbrev pub piece_of : Lexeme → Piece
 piece_of lexeme = record { kind = TokenPiece lexeme.kind; spelling = lexeme.spelling }
 
--- Where pieces end of which the first begins at an offset, both in bytes.
+-- The offset at which pieces end, given the offset of the first, both in bytes.
 abbrev pub end_of : ℕ → List Piece → ℕ
 end_of start [] = start
 end_of start (p ∷ ps) = end_of (start + length (encode_utf8_all p.spelling)) ps
 
--- Where a piece lies that begins at an offset.
+-- The span of a piece that begins at an offset.
 abbrev pub span_at : ℕ → Piece → Span
 span_at start p = record { start = start; end = start + length (encode_utf8_all p.spelling) }
 
--- Where the tokens among the pieces lie.
+-- The spans of the tokens among the pieces.
 abbrev pub spans : ℕ → List Piece → List Span
 spans start [] = []
 spans start (p ∷ ps) =
     let more = spans (start + length (encode_utf8_all p.spelling)) ps in
     cond (is_token p) (span_at start p ∷ more) more
 
--- The text is pieces that are all carried, and the tokens are those among them, their spans aside.
+-- The text consists of pieces with no unsupported literal among them, and the tokens are those among them, spans aside.
 pub record LexesAside (text : List ℕ) (found : List Lexeme) : Type 0 where
   pub pieces : List Piece
   pub reads : Reads text pieces []
   pub carried : IsTrue (are_carried pieces)
   pub tokens_are : filter is_token pieces ≡ map piece_of found
 
--- The text is pieces that are all carried, and the tokens are those among them, each with the offsets of its piece as its
--- span.
+-- The text consists of pieces with no unsupported literal among them, and the tokens are those among them, each with
+-- the offsets of its piece as its span.
 pub record Lexes (text : List ℕ) (tokens : List Token) : Type 0 where
   pub pieces : List Piece
   pub reads : Reads text pieces []

@@ -4,11 +4,11 @@ use Rattle.std.specs.Fmt.{signed_decimal}
 use Rattle.educe_tokens.specs.declared.error.Kind.{Kind}
 use Rattle.educe_tokens.specs.declared.error.Kind.TheVariants.{Syntax, TooDeep, NotCarried, DuplicateName, DeriveAttributeNotSetUpYet, EduceFormatIncorrect, UnsupportedTrait, ReuseATrait, TraitNotUsed, AttributeIncorrectPlace, AttributeIncorrectFormat, ParameterReset, ExpectedValue, ReuseARank, UnitStructNeedName, UnitVariantNeedName, UnitEnumNeedName, MultipleDefaultVariants, NoDefaultVariant, Alloc}
 
--- The words for an `educe` attribute of a type that is no list.
+-- The words of the rejection for an `educe` attribute of a type that is no list.
 abbrev pub educe_format : List (List ℕ)
 educe_format = codes "educe" ∷ codes "#[educe(Trait1, Trait2, ..., TraitN)]" ∷ []
 
--- These are the words that the message of the kind cites.
+-- The number of words fits the kind: they are those that its message cites.
 abbrev pub HasWords : Kind → List (List ℕ) → Type 0
 HasWords Syntax words = words ≡ []
 HasWords TooDeep words = words ≡ []
@@ -41,12 +41,12 @@ abbrev pub later_words : List (List ℕ) → List (List ℕ)
 later_words [] = []
 later_words (word ∷ lines) = lines
 
--- Each of these lines of bytes behind a line feed and four spaces.
+-- Each of these lines of bytes after a line feed and four spaces.
 abbrev pub lines_below : List (List ℕ) → List ℕ
 lines_below [] = []
 lines_below (line ∷ lines) = codes "\n    " ++ (line ++ lines_below lines)
 
--- The names of the nine traits, below the sentence that they end.
+-- The names of the nine traits, each on a line of its own.
 abbrev pub available_traits : List ℕ
 available_traits = lines_below (codes "Debug" ∷ codes "Clone" ∷ codes "Copy" ∷ codes "PartialEq" ∷ codes "Eq" ∷ codes "PartialOrd" ∷ codes "Ord" ∷ codes "Hash" ∷ codes "Default" ∷ [])
 
@@ -54,7 +54,7 @@ available_traits = lines_below (codes "Debug" ∷ codes "Clone" ∷ codes "Copy"
 abbrev pub around : List ℕ → List (List ℕ) → List ℕ → List ℕ
 around before words behind = before ++ (encode_utf8_all (first_word words) ++ behind)
 
--- The sentence about the attribute of a name, and the forms that are allowed instead.
+-- The sentence about a malformed attribute of this name, and the forms that are allowed instead.
 abbrev pub incorrect_format : List ℕ → List (List ℕ) → List ℕ
 incorrect_format name lines = (codes "you are using an incorrect format of the `" ++ (name ++ codes "` attribute, which should be reformatted as follows:")) ++ lines_below (map encode_utf8_all lines)
 

@@ -1,4 +1,4 @@
--- What stays when a list grows at its end.
+-- Lists that grow at their end.
 use Rattle.std.specs.Prelude.{◌≡◌, List, ◌++◌}
 
 -- The new list begins with the old one.

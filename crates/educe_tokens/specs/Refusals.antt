@@ -1,11 +1,11 @@
--- The rejections of texts, with their places and words.
+-- Rejections, with their places and words.
 use Rattle.std.specs.Prelude.{◌≡◌, ◌⊎◌, ℕ, List, [], ◌∷◌}
 use Rattle.educe_tokens.specs.declared.span.Span.{Span}
 use Rattle.educe_tokens.specs.declared.error.EduceError.{EduceError}
 use Rattle.educe_tokens.specs.declared.error.Kind.{Kind}
 use Rattle.educe_tokens.specs.declared.error.Kind.TheVariants.{Syntax, TooDeep, NotCarried, Alloc}
 
--- Of the kind, without a place and without words.
+-- The rejection of this kind without a place and without words.
 abbrev pub placeless : Kind → EduceError
 placeless kind = record { kind = kind; span = record { start = 0; end = 0 }; words = [] }
 
@@ -15,14 +15,14 @@ syntax_at place = record { kind = Syntax; span = place; words = [] }
 abbrev pub too_deep_at : Span → EduceError
 too_deep_at place = record { kind = TooDeep; span = place; words = [] }
 
--- With one word.
+-- The rejection of this kind at this place with one word.
 abbrev pub citing_at : Kind → Span → List ℕ → EduceError
 citing_at kind place spelling = record { kind = kind; span = place; words = spelling ∷ [] }
 
--- Of a literal, which is the word.
+-- The rejection of an unsupported literal, whose spelling is the word.
 abbrev pub not_carried_at : Span → List ℕ → EduceError
 not_carried_at place literal = citing_at NotCarried place literal
 
--- The rejection with this word, or that for out of memory.
+-- The result is the rejection with this word, or that for out of memory.
 abbrev pub Cites : Kind → Span → List ℕ → EduceError → Type 0
 Cites kind place spelling e = (e ≡ placeless Alloc) ⊎ (e ≡ citing_at kind place spelling)

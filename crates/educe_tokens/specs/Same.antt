@@ -1,17 +1,17 @@
--- Tokens that are the same, wherever they stand.
+-- Equality of tokens, wherever they stand.
 use Rattle.std.specs.Prelude.{◌≡◌, List, map}
 use Rattle.educe_tokens.specs.declared.token.Token.{Token}
 use Rattle.educe_tokens.specs.Copied.{unjoin}
 use Rattle.educe_tokens.specs.Lexes.{Lexeme, lexeme_of}
 
--- The kind and the spelling, the span and whether a punct is joint aside.
+-- The token without its span and without jointness.
 abbrev pub lexeme_aside : Token → Lexeme
 lexeme_aside t = unjoin (lexeme_of t)
 
--- The same of each token.
+-- The tokens without their spans and without jointness.
 abbrev pub lexemes_aside : List Token → List Lexeme
 lexemes_aside tokens = map lexeme_aside tokens
 
--- Both lists have the same tokens, their spans and whether puncts are joint aside.
+-- Both lists have the same tokens, spans and jointness aside.
 abbrev pub AreSameTokens : List Token → List Token → Type 0
 AreSameTokens ts us = lexemes_aside ts ≡ lexemes_aside us

@@ -1,4 +1,4 @@
--- Lines and columns of a place in a text.
+-- The line and the column of a place in a text.
 use Rattle.std.specs.Prelude.{ℕ, ◌+◌, ◌==◌, List, length, take, count_by, chars}
 use Rattle.std.specs.List.{after_last}
 
@@ -6,10 +6,11 @@ use Rattle.std.specs.List.{after_last}
 abbrev pub before : List ℕ → ℕ → List ℕ
 before source offset = chars (take offset source)
 
--- One more than the line feeds before the offset.
+-- The line of an offset, counted from 1: one more than the line feeds before it.
 abbrev pub line_of : List ℕ → ℕ → ℕ
 line_of source offset = count_by (λ c. c == 10) (before source offset) + 1
 
--- One more than the characters between the last line feed before the offset and the offset.
+-- The column of an offset, counted from 1: one more than the characters between the last line feed before it and the
+-- offset.
 abbrev pub column_of : List ℕ → ℕ → ℕ
 column_of source offset = length (after_last (λ c. c == 10) (before source offset)) + 1

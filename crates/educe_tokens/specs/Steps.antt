@@ -1,4 +1,4 @@
--- What the steps of lexing do, and why they stop.
+-- The steps of lexing, and the causes for which they stop.
 use Rattle.std.specs.Prelude.{◌≡◌, ℕ, None, List, ◌∷◌, [], ◌++◌, length}
 use Rattle.educe_tokens_pieces.specs.declared.kind.Bracket.{Bracket}
 use Rattle.educe_tokens_pieces.specs.declared.kind.TokenKind.{TokenKind}
@@ -17,31 +17,31 @@ use Rattle.educe_tokens.specs.Lexes.{lexemes, Lexes}
 use Rattle.educe_tokens.specs.Brackets.{open_after, IsBalanced, IsShallow}
 use Rattle.educe_tokens.specs.Refusals.{placeless, syntax_at, too_deep_at, not_carried_at}
 
--- What a piece adds to the tokens; an unsupported literal adds none.
+-- The new list is the old one and the token of this piece; blanks, comments and unsupported literals add none.
 abbrev pub Adds : PieceKind → List ℕ → Span → List Token → List Token → Type 0
 Adds Blank spelling span old new = new ≡ old
 Adds Comment spelling span old new = new ≡ old
 Adds (TokenPiece kind) spelling span old new = (t : Token) × (new ≡ old ++ t ∷ []) × (t.kind ≡ kind) × (t.span ≡ span) × (t.spelling ≡ spelling)
 Adds (Uncarried kind) spelling span old new = ⊥
 
--- Why a piece that lies there is not added.
+-- The cause for which the piece at this place is not added.
 pub data IsCauseOfPiece (spelling : List ℕ) (span : Span) : PieceKind → EduceError → Type 0 where
   not_carried : (kind : UncarriedKind) → IsCauseOfPiece spelling span (Uncarried kind) (not_carried_at span spelling)
   memory : (kind : PieceKind) → IsCauseOfPiece spelling span kind (placeless Alloc)
 
--- Why one more token is rejected behind these open brackets, the innermost first.
+-- The cause for which one more token is rejected where these brackets are open, innermost first.
 abbrev pub IsCauseOfKind : List Bracket → TokenKind → BracketError → Type 0
 IsCauseOfKind outer kind bracket.WrongClose = open_after outer kind ≡ None
 IsCauseOfKind outer kind bracket.TooDeep = (b : Bracket) × (kind ≡ Start b) × (length outer ≡ NESTING)
 IsCauseOfKind outer kind bracket.Alloc = Unit {0}
 
--- The rejection for it, of a token that lies there.
+-- The rejection that a bracket error becomes at this place.
 abbrev pub refusal_of : BracketError → Span → EduceError
 refusal_of bracket.WrongClose place = syntax_at place
 refusal_of bracket.TooDeep place = too_deep_at place
 refusal_of bracket.Alloc place = placeless Alloc
 
--- The tokens are those of the text, and their brackets close in order, not too deep.
+-- The tokens are those of the text, and their brackets close in order and within the limit on nesting.
 pub record IsReading (text : List ℕ) (tokens : List Token) : Type 0 where
   pub lexes : Lexes text tokens
   pub balanced : IsBalanced (lexemes tokens)

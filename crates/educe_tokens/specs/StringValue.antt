@@ -14,26 +14,27 @@ use Rattle.educe_tokens_pieces.specs.Comments.{doc_value, IsDocOf}
 use Rattle.educe_tokens.specs.declared.token.Token.{Token}
 use Rattle.educe_tokens.specs.Lexes.{Lexeme}
 
--- The tokens of this kind have a string as their value.
+-- The kinds of tokens that have a string as their value: string literals and documentation.
 pub data IsString : TokenKind → Type 0 where
   str : IsString (Literal literal.Str)
   doc : IsString Doc
 
--- The characters of a token's value.
+-- The value of a token, as characters.
 pub data IsStringValue : Lexeme → List ℕ → Type 0 where
-  -- What the parts of a string literal stand for.
+  -- The value of a quoted string: what its parts stand for.
   parts : (text : List ℕ) (found : List Part) → IsBody Str text found
       → IsStringValue (record { kind = Literal literal.Str; spelling = 34 ∷ text }) (value_of found)
-  -- What stands between the marks of a raw one.
+  -- The value of a raw string: the characters between its quotes.
   raw : (text value : List ℕ) → IsRawOf text value → IsStringValue (record { kind = Literal literal.Str; spelling = text }) value
-  -- What stands between the marks of documentation.
+  -- The value of documentation: the text after `///`, or between `/**` and `*/`.
   doc : (text value : List ℕ) → IsDocOf text value → IsStringValue (record { kind = Doc; spelling = text }) value
 
--- The value of a string literal, computed: the text between the quotes of a raw one, or what the characters of another stand for.
+-- The value of a string literal, computed: the text between the quotes of a raw string, or what the parts of a quoted
+-- one stand for.
 abbrev pub literal_text : List ℕ → List ℕ
 literal_text cs = cond (begins (λ c. c == 114) cs) (raw_value cs) (given (Open Str) (drop 1 cs))
 
--- The value of a token of the kind that is spelled so.
+-- The value of a token with this kind and spelling.
 abbrev pub text_of_kind : TokenKind → List ℕ → Option (List ℕ)
 text_of_kind (Literal literal.Int) cs = None
 text_of_kind (Literal literal.Str) cs = Some (literal_text cs)
@@ -47,6 +48,6 @@ text_of_kind (Start b) cs = None
 text_of_kind (Stop b) cs = None
 text_of_kind Doc cs = Some (doc_value cs)
 
--- The value of a string literal, or the text of documentation; another token has none.
+-- The value of a string literal, or the text of documentation; any other token has none.
 abbrev pub text_in : Token → Option (List ℕ)
 text_in token = text_of_kind token.kind token.spelling

@@ -7,7 +7,7 @@ use Rattle.educe_tokens_pieces.specs.Chars.{is_slash_or_star}
 use Rattle.educe_tokens.specs.Lexes.{Lexeme}
 use Rattle.educe_tokens.specs.Brackets.{kinds, closes}
 
--- Nothing stands between the token and the next.
+-- The token is a joint punct, so no space separates it from the next token.
 abbrev pub joins_next : TokenKind → Bool
 joins_next (Punct c joint) = joint
 joins_next Ident = false
@@ -17,7 +17,7 @@ joins_next (Start b) = false
 joins_next (Stop b) = false
 joins_next Doc = false
 
--- Behind the punct c, joint with it, stands a punct, and the two open no comment.
+-- The next token is a punct that does not open a comment together with the punct `c`.
 abbrev pub is_punct_behind : ℕ → List TokenKind → Bool
 is_punct_behind c (Punct d joint ∷ more) = not ((c == 47) && is_slash_or_star d)
 is_punct_behind c [] = false
@@ -28,7 +28,7 @@ is_punct_behind c (Start b ∷ more) = false
 is_punct_behind c (Stop b ∷ more) = false
 is_punct_behind c (Doc ∷ more) = false
 
--- Behind a joint punct stands a punct with which it opens no comment.
+-- The token is not joint, or the next token is a punct with which it opens no comment.
 abbrev pub punct_joins : TokenKind → List TokenKind → Bool
 punct_joins (Punct c true) more = is_punct_behind c more
 punct_joins (Punct c false) more = true
@@ -44,7 +44,8 @@ abbrev pub puncts_join : List TokenKind → Bool
 puncts_join [] = true
 puncts_join (kind ∷ more) = punct_joins kind more && puncts_join more
 
--- The token may stand before these; no Doc may.
+-- The token may stand before these: it is no documentation, and a joint punct is followed by a punct with which it
+-- opens no comment.
 abbrev pub may_join : TokenKind → List TokenKind → Bool
 may_join (Punct c joint) more = punct_joins (Punct c joint) more
 may_join Ident more = true
@@ -54,7 +55,7 @@ may_join (Start b) more = true
 may_join (Stop b) more = true
 may_join Doc more = false
 
--- There is no Doc, and each joint punct is followed by a punct with which it opens no comment.
+-- There is no documentation, and each joint punct is followed by a punct with which it opens no comment.
 abbrev pub joins_well : List TokenKind → Bool
 joins_well [] = true
 joins_well (kind ∷ more) = may_join kind more && joins_well more
@@ -80,13 +81,13 @@ is_well_formed found = closes [] (kinds found) && joins_well (kinds found)
 abbrev pub IsWellFormed : List Lexeme → Type 0
 IsWellFormed found = IsTrue (is_well_formed found)
 
--- The last token is not joint.
+-- The last token, if there is one, is not joint.
 abbrev pub ends_apart : List TokenKind → Bool
 ends_apart [] = true
 ends_apart (kind ∷ []) = not (joins_next kind)
 ends_apart (kind ∷ next ∷ more) = ends_apart (next ∷ more)
 
--- The spellings, with one space between two tokens and none behind a joint punct.
+-- The spellings, with one space between two tokens and none after a joint punct.
 abbrev pub text_behind : Bool → List Lexeme → List ℕ
 text_behind joint [] = []
 text_behind joint (x ∷ xs) = cond joint [] (32 ∷ []) ++ (x.spelling ++ text_behind (joins_next x.kind) xs)
@@ -94,6 +95,6 @@ text_behind joint (x ∷ xs) = cond joint [] (32 ∷ []) ++ (x.spelling ++ text_
 abbrev pub text_of : List Lexeme → List ℕ
 text_of found = text_behind true found
 
--- Well formed, and the last token is not joint: such lists may stand side by side.
+-- The tokens are well formed and the last is not joint, so that such lists may stand side by side.
 abbrev pub is_written : List Lexeme → Bool
 is_written found = is_well_formed found && ends_apart (kinds found)

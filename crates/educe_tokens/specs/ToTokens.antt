@@ -1,4 +1,4 @@
--- What holds of the tokens of each value that is printed as tokens.
+-- Laws of the tokens of every printable value.
 use Rattle.std.specs.Prelude.{IsTrue, List}
 use Rattle.educe_tokens.specs.Lexes.{Lexeme, LexesAside}
 use Rattle.educe_tokens.specs.Brackets.{kinds}
@@ -8,6 +8,6 @@ use Rattle.educe_tokens.specs.Text.{ends_apart, text_of}
 abbrev pub EndsApart : List Lexeme → Type 0
 EndsApart found = IsTrue (ends_apart (kinds found))
 
--- The text of the tokens lexes as them, jointness included.
+-- The text of the tokens lexes as these tokens, jointness included.
 abbrev pub LexesBack : List Lexeme → Type 0
 LexesBack found = LexesAside (text_of found) found

@@ -1,4 +1,4 @@
--- What is printed of tokens as they were written.
+-- The printed form of tokens that were read from a source.
 use Rattle.std.specs.Prelude.{List}
 use Rattle.educe_tokens.specs.declared.written.Written.{Written}
 use Rattle.educe_tokens.specs.Copied.{copied}

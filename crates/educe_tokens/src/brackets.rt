@@ -14,7 +14,7 @@ use std::alloc::Global;
 /// How many brackets may be open at once.
 pub const NESTING: usize = 128;
 
-/// Why a token is rejected behind others.
+/// Why a token is rejected where certain brackets are open.
 #[derive(Clone, Copy, Debug, PartialEq, Eq)]
 pub enum BracketError {
     /// It closes another bracket than the innermost one, or none.

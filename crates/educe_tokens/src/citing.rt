@@ -7,7 +7,7 @@ use crate::spelling::Spelling;
 use std::alloc::Global;
 
 impl EduceError {
-    /// A rejection whose one word is a spelling. Where memory for it fails, the rejection is that.
+    /// A rejection whose one word is a spelling; out of memory, where the word can't be copied.
     pub fn citing(alloc: Global, kind: Kind, span: Span, spelling: &Spelling) -> EduceError
         ensures { Cites kind span spelling.now result }
     {

@@ -20,7 +20,7 @@ pub enum Kind {
     /// More brackets and constructs are open at a token than the limit on nesting allows. The place
     /// is that token.
     TooDeep,
-    /// A literal or the word `union`, the one word, is read and unsupported.
+    /// An unsupported literal, or the unsupported keyword `union`. It is the one word.
     NotCarried,
     /// A name, the one word, is defined more than once. The place is the later one.
     DuplicateName,
@@ -29,13 +29,13 @@ pub enum Kind {
     /// An `educe` attribute of the type is no list. The words are `educe` and the form that it has
     /// to have; the place is the word `educe`.
     EduceFormatIncorrect,
-    /// A path, the one word, is none of the nine traits.
+    /// A path, the one word, names none of the nine traits.
     UnsupportedTrait,
     /// A trait, the one word, stands earlier at the same place.
     ReuseATrait,
     /// A trait, the one word, is not listed at the type.
     TraitNotUsed,
-    /// No attribute of the trait, the one word, is allowed at this place.
+    /// The trait, the one word, allows no attribute at this place.
     AttributeIncorrectPlace,
     /// The form or a parameter of an attribute is none that its place allows. The words are the
     /// trait and the allowed forms.
@@ -46,7 +46,8 @@ pub enum Kind {
     ExpectedValue,
     /// Two fields have one rank.
     ReuseARank { rank: i64 },
-    /// `Debug` shows no name for a struct or a variant with brackets, none of whose fields it shows.
+    /// `Debug` shows no name for a struct or a variant with brackets, none of whose fields it
+    /// shows.
     UnitStructNeedName,
     /// `Debug` shows no name for a unit variant.
     UnitVariantNeedName,

@@ -1,4 +1,4 @@
-//! Growing a token list at its end.
+//! Appending to a token list.
 ghost use Rattle.std.specs.Prelude.{IsTrue, OnOk, [], ◌∷◌, map};
 ghost use Rattle.educe_tokens_pieces.specs.Pieces.{spells};
 ghost use Rattle.educe_tokens.specs.Appends.{Appends, AppendsAt, AppendsNowhere, HasPrefix};

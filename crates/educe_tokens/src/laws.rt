@@ -1,11 +1,12 @@
-//! Laws of tokens that hold with no call: each function does nothing, and its contract is the law.
+//! Laws of tokens that don't depend on a call: each function does nothing, and its contract is the
+//! law.
 ghost use Rattle.std.specs.Prelude.{◌≡◌};
 ghost use Rattle.educe_tokens.specs.Laws.{LexingLaws, PrintingLaws, KindLaws, CopyingLaws, ValueLaws};
 
 use crate::brackets::NESTING;
 use crate::span::SOURCE_LIMIT;
 
-/// The numbers of the limits.
+/// The values of the limits.
 pub fn limits()
     // A source has at most 128 KiB.
     ensures source { SOURCE_LIMIT ≡ 131072 }
@@ -13,13 +14,13 @@ pub fn limits()
     ensures nesting { NESTING ≡ 128 }
 {}
 
-/// Each text is tokens whose brackets close in order, at most 128 deep, or has a cause of a
-/// rejection, and never both; there is one such list, and one such cause.
+/// Each text is either tokens whose brackets close in order, at most 128 deep, or has a cause of
+/// rejection; it has at most one such list and one such cause.
 pub fn lexing_laws()
     ensures { LexingLaws }
 {}
 
-/// The text of well-formed tokens lexes as them.
+/// The printed text of well-formed tokens lexes as these tokens.
 pub fn printing_laws()
     ensures { PrintingLaws }
 {}
@@ -30,12 +31,12 @@ pub fn kind_laws()
     ensures { KindLaws }
 {}
 
-/// Copying changes the jointness of puncts alone, where they could not stand joint.
+/// Copying changes only the jointness of puncts, where they could not stand joint.
 pub fn copying_laws()
     ensures { CopyingLaws }
 {}
 
-/// A string and documentation have one value, and no other token has one.
+/// Strings and documentation have exactly one value, other tokens none.
 pub fn value_laws()
     ensures { ValueLaws }
 {}

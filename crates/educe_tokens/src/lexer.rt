@@ -1,4 +1,4 @@
-//! Texts into tokens.
+//! The lexer: from a text to its tokens.
 ghost use Rattle.std.specs.Prelude.{◌≡◌, ◌<◌, ◌≤◌, ◌^◌, ◌⊎◌, length, map, IfOk, IfErr, OnOk, chars, encode_utf8_all, IsTrue, List};
 ghost use Rattle.std.specs.List.{AllByRecursion};
 ghost use Rattle.std.specs.Str.{IsCharBoundary};
@@ -79,7 +79,7 @@ fn push_piece(
     }
 }
 
-/// Where the last token lies; where there is none, nothing at the end.
+/// The span of the last token, or the empty span at the end where there is no token.
 fn last_place(tokens: &[Token], end: u32) -> Span
     ensures { result ≡ last_of (map (λ token. token.span) tokens.now) (empty_at end) }
 {
@@ -89,9 +89,9 @@ fn last_place(tokens: &[Token], end: u32) -> Span
     }
 }
 
-/// The tokens among the pieces of a source, each a part of the shared text, which is the same. It is
-/// rejected where no piece fits, at the last token before, or at an unsupported literal, whichever
-/// comes first. Blanks are skipped in one step.
+/// The tokens among the pieces of a source, each a part of the shared text, which is the same. It
+/// is rejected where no piece fits, at the last token before, or at an unsupported literal,
+/// whichever comes first. Blanks are skipped in one step.
 fn token_pieces(alloc: Global, source: &str, shared: &Spelling) -> Result<TokenStream, EduceError>
     requires limit { length source.now ≤ SOURCE_LIMIT }
     requires shared { shared.now ≡ chars source.now }
@@ -155,13 +155,13 @@ pub fn lex(alloc: Global, source: &str) -> Result<TokenStream, EduceError>
     // The words are those that the message needs, and the place begins at a character or at the end.
     ensures words { IfErr result (λ e. HasWords e.kind e.words) }
     ensures place { IfErr result (λ e. IsCharBoundary source.now e.span.start) }
-    // Nothing in a text that is answered is a cause of a rejection.
+    // A text that lexes has no cause of rejection.
     ensures uncaused { IfOk result (λ _. (e : EduceError) → IsLexicalCause (chars source.now) e → e.kind ≡ Kind.Alloc) }
-    // Where the text has such tokens they are answered, unless memory fails: there is no other
-    // reading, and no other rejection.
+    // Where the text has such tokens, the result is these tokens or out of memory: there is no
+    // other reading, and no other rejection.
     ensures only { (tokens : List Token) → Lexes (chars source.now) tokens →
         IsBalanced (lexemes tokens) → IsShallow (lexemes tokens) → Gives result tokens }
-    // So a printed text is read back.
+    // A printed text is read back.
     ensures back { (found : List Lexeme) → LexesAside (chars source.now) found →
         IsBalanced found → IsShallow found →
         IfOk result (λ tokens. lexemes tokens ≡ found) × IfErr result (λ e. e.kind ≡ Kind.Alloc) }

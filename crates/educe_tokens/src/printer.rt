@@ -1,4 +1,4 @@
-//! Tokens into a text.
+//! The printer: from tokens to a text.
 ghost use Rattle.std.specs.Prelude.{◌≡◌, IsTrue, IfOk, OnOk, chars, [], ◌∷◌, ◌++◌, if◌then◌else◌};
 ghost use Rattle.std.specs.String.{string_bytes};
 ghost use Rattle.educe_tokens.specs.Lexes.{lexemes, LexesAside};

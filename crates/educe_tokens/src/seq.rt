@@ -33,7 +33,7 @@ impl<T> Seq<T> {
         }
     }
 
-    /// The empty list, with memory for so many items.
+    /// The empty list, with memory for `capacity` items.
     pub fn with_capacity(alloc: Global, capacity: usize) -> Result<Seq<T>, AllocError>
         ensures { IfOk result (λ seq. seq ≡ []) }
     {
@@ -41,14 +41,14 @@ impl<T> Seq<T> {
         Ok(Seq { items })
     }
 
-    /// How many items there are.
+    /// The number of items.
     pub fn len(&self) -> usize
         ensures { result ≡ length self.now }
     {
         self.items.len()
     }
 
-    /// The items, as a slice to go over.
+    /// The items as a slice.
     pub fn as_slice(&self) -> &[T]
         ensures { result.now ≡ self.now }
     {
@@ -88,7 +88,7 @@ impl<T> Seq<T> {
         self.items.clear();
     }
 
-    /// The items, given away.
+    /// Returns the items as a vector.
     pub fn into_items(self) -> Vec<T>
         ensures { result.items ≡ self }
     {

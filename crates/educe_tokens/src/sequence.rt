@@ -1,8 +1,8 @@
-//! Results that are read one behind the other (as in the module `sequence` of the crate `nom`).
+//! Combinators for results of consecutive reads (as in the module `sequence` of the crate `nom`).
 ghost use Rattle.std.specs.Prelude.{◌≡◌};
 ghost use Rattle.std.specs.Result.{result_map_both};
 
-/// Both, where the second was read too (documentation of `nom`, `pair`).
+/// The pair of both results, if the second is a success (documentation of `nom`, `pair`).
 pub fn pair<T: Drop, U: Drop, E: Drop>(first: T, second: Result<U, E>) -> Result<(T, U), E>
     ensures { result ≡ result_map_both (λ second. (first, second)) (λ error. error) second }
 {
@@ -12,7 +12,7 @@ pub fn pair<T: Drop, U: Drop, E: Drop>(first: T, second: Result<U, E>) -> Result
     }
 }
 
-/// The first, where what ends it was read too (documentation of `nom`, `terminated`).
+/// The first result, if what ends it was read (documentation of `nom`, `terminated`).
 pub fn terminated<T: Drop, U: Drop, E: Drop>(first: T, end: Result<U, E>) -> Result<T, E>
     ensures { result ≡ result_map_both (λ _. first) (λ error. error) end }
 {
@@ -22,7 +22,7 @@ pub fn terminated<T: Drop, U: Drop, E: Drop>(first: T, end: Result<U, E>) -> Res
     }
 }
 
-/// That it was read, without what was read.
+/// The success or error of a result, without its value.
 pub fn unit<T: Drop, E: Drop>(read: Result<T, E>) -> Result<(), E>
     ensures { result ≡ result_map_both (λ _. tt) (λ error. error) read }
 {

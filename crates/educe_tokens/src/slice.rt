@@ -28,7 +28,7 @@ impl Model for TokenSlice {
 }
 
 impl TokenSlice {
-    /// All tokens of a list, which is moved.
+    /// A slice of all tokens of a list, which is moved.
     pub fn new(alloc: Global, tokens: TokenStream) -> Result<TokenSlice, AllocError>
         ensures { IfOk result (λ slice. slice ≡ tokens) }
     {
@@ -41,7 +41,7 @@ impl TokenSlice {
         })
     }
 
-    /// How many tokens there are.
+    /// The number of tokens.
     pub fn len(&self) -> usize
         ensures { result ≡ length self.now }
     {
@@ -55,7 +55,7 @@ impl TokenSlice {
         self.len() == 0
     }
 
-    /// The tokens, lent.
+    /// The tokens as a slice of the list.
     pub fn as_slice(&self) -> &[Token]
         ensures { result.now ≡ self.now }
     {
@@ -63,7 +63,7 @@ impl TokenSlice {
         &tokens.as_slice()[self.start..self.end]
     }
 
-    /// The tokens from a start to an end, which share the list. No token is copied.
+    /// The tokens of a range of indices. The list is shared, and no token is copied.
     pub fn part(&self, start: usize, end: usize) -> Result<TokenSlice, AllocError>
         requires start_le_end { start ≤ end }
         requires in_bounds { end ≤ length self.now }
@@ -77,7 +77,7 @@ impl TokenSlice {
         })
     }
 
-    /// The same tokens, which share the list. No token is copied.
+    /// A second slice of these tokens. The list is shared, and no token is copied.
     pub fn duplicate(&self) -> Result<TokenSlice, AllocError>
         ensures { IfOk result (λ slice. slice ≡ self.now) }
     {

@@ -3,10 +3,10 @@ ghost use Rattle.std.specs.Prelude.{◌≡◌, ◌≤◌, length};
 ghost use Rattle.educe_tokens.specs.Span.{line_of, column_of};
 ghost use Rattle.std.specs.Str.{IsCharBoundary};
 
-/// How many bytes a source may have.
+/// The limit on the size of a source, in bytes.
 pub const SOURCE_LIMIT: usize = 131_072;
 
-/// Byte offsets into a source, the end excluded. Both are 0 for what the program makes.
+/// Byte offsets into a source, the end excluded. Both are 0 for generated tokens.
 #[derive(Clone, Copy, Debug, PartialEq, Eq)]
 pub struct Span {
     pub start: u32,
@@ -14,7 +14,7 @@ pub struct Span {
 }
 
 impl Span {
-    /// The span of no place: of what the program makes, and of a rejection that has none.
+    /// The span of no place: that of generated tokens, and of a rejection that has no place.
     pub const NONE: Span = Span { start: 0, end: 0 };
 
     /// The line and the column of the start, both counted from 1: a line ends at a line feed, a

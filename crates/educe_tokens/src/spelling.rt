@@ -48,8 +48,8 @@ impl Model for Spelling {
 }
 
 impl Spelling {
-    /// A copy of a text, which takes memory only if it is long. One of 4 GiB or more counts as out
-    /// of memory.
+    /// A copy of a text, which takes memory only if the text is long. A text of 4 GiB or more is
+    /// reported as out of memory.
     pub fn from_str(alloc: Global, text: &str) -> Result<Spelling, AllocError>
         ensures { IfOk result (λ spelling. spelling ≡ chars text.now) }
     {
@@ -70,7 +70,7 @@ impl Spelling {
         })
     }
 
-    /// The text, lent.
+    /// The text as a string slice.
     pub fn as_str(&self) -> &str
         ensures chars { chars result.now ≡ self.now }
         ensures bytes { result.now ≡ encode_utf8_all self.now }
@@ -84,7 +84,7 @@ impl Spelling {
         }
     }
 
-    /// The part from a byte offset to another.
+    /// The part between two byte offsets.
     pub fn part(&self, start: u32, end: u32) -> Result<Spelling, AllocError>
         requires start_le_end { start ≤ end }
         requires start { IsCharBoundary (encode_utf8_all self.now) start }
@@ -114,7 +114,7 @@ impl Spelling {
         }
     }
 
-    /// The same text.
+    /// A second spelling of this text, which shares it if it is long.
     pub fn duplicate(&self, _alloc: Global) -> Result<Spelling, AllocError>
         ensures { IfOk result (λ spelling. spelling ≡ self.now) }
     {
@@ -132,14 +132,14 @@ impl Spelling {
         Ok(Spelling { text })
     }
 
-    /// Whether both are the same characters.
+    /// Whether the spelling and the text are the same characters.
     pub fn is(&self, text: &str) -> bool
         ensures { IsTrue result ↔ (self.now ≡ chars text.now) }
     {
         self.as_str() == text
     }
 
-    /// Whether this is a given text of ASCII characters.
+    /// Whether the spelling is this text of ASCII characters.
     pub fn spells(&self, text: &str) -> bool
         requires { IsTrue (list_all is_ascii text.now) }
         ensures { result ≡ bytes_eq self.now text.now }

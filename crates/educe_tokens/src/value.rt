@@ -25,13 +25,13 @@ pub fn int_value(token: &Token) -> Option<u128>
     }
 }
 
-/// The value of a string literal with its escapes resolved, the text of documentation without its
-/// marks, and none of any other token (Rust Reference, String literals, Doc comments).
+/// The value of a string literal with its escapes resolved, or the text of documentation without
+/// `///`, `/**` and `*/`; any other token has none (Rust Reference, String literals, Doc comments).
 pub fn string_value(alloc: Global, token: &Token) -> Result<Option<String>, AllocError>
     ensures some { IfOk result (λ value. IfSome value (λ text.
         IsStringValue (lexeme_of token.now) (chars (string_bytes text)))) }
     ensures none { IfOk result (λ value. IfNone value (IsString token.now.kind → ⊥)) }
-    // So it is a function of the token.
+    // The value is a function of the token.
     ensures value { IfOk result (λ value. option_map (λ text. chars (string_bytes text)) value ≡ text_in token.now) }
 {
     match token.kind {

@@ -9,7 +9,7 @@ use crate::spelling::Spelling;
 use educe_tokens_pieces::{LiteralKind, TokenKind};
 use std::alloc::{AllocError, Global};
 
-/// A text that spells one identifier or one integer: a name, or the index of a tuple's field.
+/// A text that is one identifier or one integer: a name, or the index of a tuple's field.
 #[derive(Drop)]
 pub struct Word {
     pub text: Spelling,
@@ -35,14 +35,14 @@ impl Word {
         Ok(Word { text })
     }
 
-    /// The text, lent.
+    /// The text as a string slice.
     pub fn as_str(&self) -> &str
         ensures { chars result.now ≡ self.now.text }
     {
         self.text.as_str()
     }
 
-    /// Which of the two it is.
+    /// The kind of the token: an identifier or an integer.
     pub fn kind(&self) -> TokenKind
         ensures { result ≡ (word_lexeme self.now.text).kind }
     {

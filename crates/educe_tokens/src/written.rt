@@ -11,8 +11,8 @@ use crate::slice::TokenSlice;
 use crate::template::quote;
 use std::alloc::{AllocError, Global};
 
-/// Tokens as they were written: their brackets close in order, and none is documentation. There may
-/// be none, and the last may be joint: it is not where it is printed.
+/// Tokens as they were written: their brackets close in order, and none is documentation. The list
+/// may be empty, and the last token may be joint; it is printed as not joint.
 #[derive(Drop)]
 pub struct Written {
     pub tokens: TokenSlice,
@@ -42,7 +42,7 @@ impl Written {
         Ok(Written { tokens })
     }
 
-    /// The tokens, lent.
+    /// The tokens as a slice.
     pub fn tokens(&self) -> &TokenSlice
         ensures { result.now ≡ self.now.tokens }
     {

@@ -7,21 +7,21 @@ use Rattle.educe_tokens_pieces.specs.Fronts.{begins_pair}
 use Rattle.educe_tokens_pieces.specs.Spells.{BeginsWith, BeginsNot, Closes, Close, Other, Block}
 use Rattle.educe_tokens_pieces.proofs.Lists.{nil_from_empty}
 
--- what is tested to begin so begins so
+-- what passes the test for two characters begins with them
 pub pair_is : (a b : ℕ) (s : List ℕ) → begins_pair a b s ≡ true → BeginsWith (a ∷ b ∷ []) s
 pair_is a b [] h = absurd (false≢true h)
 pair_is a b (c ∷ []) h = absurd (false≢true h)
 pair_is a b (c ∷ d ∷ cs) h = let p = and_parts (c == a) (d == b) h in (cs, λ i. eqb-true c a p.0 i ∷ eqb-true d b p.1 i ∷ cs)
 
--- and what begins so passes the test
+-- what begins with these two characters passes the test for it
 pub pair_from : (a b : ℕ) (s : List ℕ) → BeginsWith (a ∷ b ∷ []) s → begins_pair a b s ≡ true
 pair_from a b s m = ap (begins_pair a b) m.1 ∙ and_from (a == a) _ (eq-eqb a a refl) (eq-eqb b b refl)
 
--- so the test fails where the text doesn't begin so
+-- the test fails where the text doesn't begin with the two characters
 pub pair_none : (a b : ℕ) (s : List ℕ) → BeginsNot (a ∷ b ∷ []) s → begins_pair a b s ≡ false
 pair_none a b s h = false_from_ne_true _ (λ e. h (pair_is a b s e))
 
--- and the text doesn't where it fails
+-- the text doesn't begin with the two characters where the test fails
 pub pair_not : (a b : ℕ) (s : List ℕ) → begins_pair a b s ≡ false → BeginsNot (a ∷ b ∷ []) s
 pair_not a b s h = λ m. false≢true (sym h ∙ pair_from a b s m)
 

@@ -51,7 +51,7 @@ closing_no_space Byte = refl
 abbrev before : Bool → Quote → Within
 before behind_break q = cond behind_break (places.Break q) (Open q)
 
--- so it ends it from either place
+-- the closing quote ends a string from either state before a part
 before_ends : (q : Quote) (b : Bool) → is_single q ≡ false → step (before b q) (closing q) ≡ End
 before_ends q true e = cond-false (is_space_character (closing q)) (Go (places.Break q)) (open_step q (closing q)) (closing_no_space q) ∙ open_ends q e
 before_ends q false e = open_ends q e
@@ -137,7 +137,7 @@ one_value q text a b x y = sym (body_ends q text a x).1 ∙ (body_ends q text b 
 abbrev Body : Quote → List ℕ → Type 0
 Body q text = (parts : List Part) × IsBody q text parts
 
--- the same behind a part, where a single one is done
+-- parts up to the closing quote, where a single character or byte already has its part
 record Rest (q : Quote) (text : List ℕ) : Type 0 where
   pub parts : List Part
   pub hold : list_all (may_hold q) parts ≡ true
@@ -184,7 +184,7 @@ Ahead (Brace q) cs = not (is_bytes q) ≡ true → Body q (92 ∷ 117 ∷ cs)
 Ahead (Code q n v) cs = Digits q n v cs
 Ahead (Close q) cs = is_single q ≡ true → Rest q cs
 
--- the same of each place, where the text ends as a literal
+-- the text ahead of every state in which it ends the literal
 abbrev AllAhead : List ℕ → Type 0
 AllAhead cs = (w : Within) → ends w cs ≡ true → Ahead w cs
 

@@ -82,7 +82,7 @@ line_doc-append [] [] h = refl
 line_doc-append [] (c ∷ r) h = and_left _ _ (no_slash c h)
 line_doc-append (c ∷ s) r h = ap (λ b. (c == 47) && not b) (begins-append (λ d. d == 47) s r (begins_none (λ d. d == 47) r no_slash h))
 
--- nor whether it is inner documentation
+-- what follows a line doesn't change whether it opens inner documentation
 line_inner-append : (s r : List ℕ) → begins is_in_line r ≡ false → opens_inner (s ++ r) ≡ opens_inner s
 line_inner-append s r h = begins-append (λ c. c == 33) s r (begins_none (λ c. c == 33) r no_inner h)
 
@@ -92,7 +92,7 @@ block_doc-append [] r h = absurd (false≢true h)
 block_doc-append (c ∷ []) r h = absurd (false≢true h)
 block_doc-append (c ∷ d ∷ s) r h = refl
 
--- nor whether it is inner documentation
+-- what follows a block doesn't change whether it opens inner documentation
 block_inner-append : (s r : List ℕ) → closes_comment 0 s ≡ true → opens_inner (s ++ r) ≡ opens_inner s
 block_inner-append [] r h = absurd (false≢true h)
 block_inner-append (c ∷ s) r h = refl
@@ -335,7 +335,7 @@ ends_line-feed_behind s r b = ap (λ x. not (is_line s && x)) (begins-append is_
 pub ends_line-feed : (s r : List ℕ) → ends_line_before s (10 ∷ r) ≡ true
 ends_line-feed s r = not_from_false _ (and_right (is_line s) false refl)
 
--- and at the end
+-- each comment may stand at the end of the text
 pub ends_line-nil : (s : List ℕ) → ends_line_before s [] ≡ true
 ends_line-nil s = not_from_false _ (and_right (is_line s) false refl)
 

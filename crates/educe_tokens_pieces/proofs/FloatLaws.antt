@@ -29,7 +29,7 @@ float_type_is P a b t h =
 abbrev is_suffix_word : List ℕ → Bool
 is_suffix_word t = list_all is_ascii_word t && begins (λ c. not (is_exponent_mark c)) t
 
--- so is a type of floats
+-- a float type is such a suffix
 type_is_word : (t : List ℕ) → is_float_type t ≡ true → is_suffix_word t ≡ true
 type_is_word t h = float_type_is is_suffix_word refl refl t h
 
@@ -84,7 +84,7 @@ end_whole (c ∷ cs) r h k =
     (λ e. let parts = and_parts (is_exponent_mark c) _ e in exponent_whole c cs r parts.0 parts.1 k)
     (or_cases (is_float_suffix (c ∷ cs)) _ h)
 
--- so are digits and an end
+-- digits and the end of a float are all of the fraction, where the rest doesn't continue it
 pub fraction_whole : (t r : List ℕ) → ends_float (behind_digits t) ≡ true → begins is_xid_continue r ≡ false → fraction_len (t ++ r) ≡ length t
 fraction_whole t r h k =
     let apart = begins_no_part r k in
@@ -136,12 +136,12 @@ end_within (c ∷ cs) =
     (λ e. let some = begins_some is_sign cs (and_parts (is_exponent_mark c) _ e).1 in omega (arith, some, length-drop 1 cs, prefix_len-le-length is_xid_continue (drop 1 cs)))
     (λ _. prefix_len-le-length is_xid_continue (c ∷ cs))
 
--- nor are digits and an end
+-- a fraction is no longer than the text
 fraction_within : (cs : List ℕ) → fraction_len cs ≤ length cs
 fraction_within cs =
     omega (arith, prefix_len-le-length is_decimal_part cs, end_within (behind_digits cs), length-drop (prefix_len is_decimal_part cs) cs)
 
--- nor is what makes digits a float
+-- the tail that makes digits a float is no longer than the text
 pub tail_within : (cs : List ℕ) → tail_len cs ≤ length cs
 tail_within [] = omega arith
 tail_within (c ∷ cs) =
@@ -157,7 +157,7 @@ no_tail c cs (suc n) h =
     let type = false_from_ne_true (is_float_type (c ∷ take n cs)) (λ e. false≢true (sym more.0 ∙ float_type_is (begins (λ d. d == 102)) refl refl (c ∷ take n cs) e)) in
     cond-false _ _ _ apart.0 ∙ or_from (is_float_suffix (c ∷ take n cs)) _ type (and_left _ (is_exponent_number (unsigned (take n cs))) more.1)
 
--- nor does what no word goes on with, where no float begins
+-- a rest that continues no word and makes no float gives no float tail
 pub rest_no_tail : (r : List ℕ) → begins is_xid_continue r ≡ false → makes_float r ≡ false → is_float_tail (take (tail_len r) r) ≡ false
 rest_no_tail [] h k = refl
 rest_no_tail (c ∷ cs) h k = ap (λ n. is_float_tail (take n (c ∷ cs))) (cond-false _ _ _ k ∙ end_len_none (c ∷ cs) h)

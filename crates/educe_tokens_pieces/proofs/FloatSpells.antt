@@ -34,7 +34,7 @@ front_digits s h =
 suffix_spelled : (s : List ℕ) → is_float_suffix s ≡ true → IsFloatSuffix s
 suffix_spelled s h = ⊎_elim (λ e. inl (nil_from_empty s e)) (λ e. inr e) (or_cases (is_empty s) (is_float_type s) h)
 
--- and each suffix passes it
+-- each suffix of a float passes the test
 suffix_tested : (s : List ℕ) → IsFloatSuffix s → is_float_suffix s ≡ true
 suffix_tested s h = ⊎_elim (λ e. ap is_float_suffix e) (λ e. or_right (is_empty s) _ e) h
 
@@ -87,7 +87,7 @@ unsigned_is s w =
     ⊎_elim (λ e. ap (λ t. unsigned (t ++ rest)) e ∙ unsigned_digits w.digits w.suffix w.each w.some)
     (λ e. ap (λ t. unsigned (t ++ rest)) e.2 ∙ cond-true _ _ _ e.1) w.signs
 
--- and each exponent passes it
+-- each exponent passes the test
 exponent_tested : (s : List ℕ) → IsExponent s → is_exponent s ≡ true
 exponent_tested s w =
     let none = suffix_none is_decimal_part refl w.suffix w.typed in
@@ -100,7 +100,7 @@ exponent_tested s w =
 end_spelled : (s : List ℕ) → ends_float s ≡ true → EndsFloat s
 end_spelled s h = ⊎_elim (λ e. inl (suffix_spelled s e)) (λ e. inr (exponent_spelled s e)) (or_cases (is_float_suffix s) (is_exponent s) h)
 
--- and each end passes it
+-- each end of a float passes the test
 end_tested : (s : List ℕ) → EndsFloat s → ends_float s ≡ true
 end_tested s h = ⊎_elim (λ e. or_left _ _ (suffix_tested s e)) (λ e. or_right (is_float_suffix s) _ (exponent_tested s e)) h
 
@@ -130,7 +130,7 @@ digits_begin : (ds s : List ℕ) → IsDigits ds → begins is_ascii_digit (ds +
 digits_begin [] s h = absurd (false≢true h.0)
 digits_begin (d ∷ ds) s h = h.0
 
--- and all that makes a float passes it
+-- each tail of a float passes the test
 tail_tested : (s : List ℕ) → IsTail s → is_float_tail s ≡ true
 tail_tested s Dot = refl
 tail_tested s (Fraction digits end h k) =
@@ -151,7 +151,7 @@ float_spelled s h =
     let p = and_parts (begins is_ascii_digit s) _ h in
     record { digits = digits_front s; tail = behind_digits s; is = front_back s; own = front_digits s p.0; makes = tail_spelled (behind_digits s) p.1 }
 
--- and each float passes it
+-- each float passes the test
 pub float_tested : (s : List ℕ) → IsFloat s → is_float s ≡ true
 float_tested s w =
     let back = cut_back is_decimal_part w.digits w.tail w.own.1 (tail_none w.tail w.makes) in

@@ -192,7 +192,7 @@ first_closes (c ∷ d ∷ cs) first none l =
     let flat : ((c == 47) && (d == 42)) ≡ false = apart 47 42 c d (λ e f. none [] cs (λ i. e i ∷ f i ∷ cs)) in
     rw (stays, flat) (first_closes (d ∷ cs) (λ xs ws ys e. first (c ∷ xs) ws ys (ap (λ t. c ∷ t) e)) (λ xs ys e. none (c ∷ xs) ys (ap (λ t. c ∷ t) e)) l)
 
--- so what is before it and itself are the front
+-- the text up to the first `*/` is a block comment, where no `/*` stands before it
 pub flat_ends : (text front rest : List ℕ) → text ≡ (front ++ block_end) ++ rest → IsFirstRun block_end front → ((xs ys : List ℕ) → front ≢ xs ++ (block_start ++ ys)) → is_last 47 front ≡ false
     → HasFront (closes_comment 0) text rest
 flat_ends text front rest e first none l = record { front = front ++ block_end; is = e; passes = first_closes front first none l }

@@ -37,7 +37,7 @@ makes_none c = (c == 46) || ((c == 102) || is_exponent_mark c)
 abbrev is_int_word : List ℕ → Bool
 is_int_word t = list_all is_ascii_word t && begins (λ c. not (makes_none c)) t
 
--- so is a type of integers
+-- an integer type is such a word
 type_is_word : (t : List ℕ) → is_integer_type t ≡ true → is_int_word t ≡ true
 unfolding is_integer_type
 type_is_word t h = type_is integer_types is_int_word refl t h
@@ -97,7 +97,7 @@ suffix_no_tail : (t r : List ℕ) → is_int_suffix t ≡ true → begins is_xid
 suffix_no_tail [] r h k m = rest_no_tail r k (not-true _ m)
 suffix_no_tail (c ∷ cs) r h k m = no_tail c (cs ++ r) _ (not-true _ (and_parts (list_all is_ascii_word (c ∷ cs)) _ (type_is_word (c ∷ cs) h)).1)
 
--- nor behind the zero of a mark
+-- no tail of a float follows the zero of a radix prefix
 mark_no_tail : (c d : ℕ) (cs : List ℕ) → (c == 48) ≡ true → ((d == 98) || ((d == 111) || (d == 120))) ≡ true → IsNoTail (behind_digits (c ∷ d ∷ cs))
 mark_no_tail c d cs h k =
     let zero : is_decimal_part c ≡ true = grind (arith, nat_tests) in
@@ -135,7 +135,7 @@ int_no_tail (c ∷ d ∷ cs) r h k m =
 word_is_ascii : (c : ℕ) → is_ascii_word c ≡ true → c < 128
 word_is_ascii c h = grind (arith, nat_tests)
 
--- so is a list of them
+-- a list of ASCII letters, digits and `_` is ASCII
 words_ascii : (s : List ℕ) → list_all is_ascii_word s ≡ true → IsAscii s
 words_ascii [] h = IsAscii-nil
 words_ascii (c ∷ cs) h = let parts = and_parts (is_ascii_word c) _ h in IsAscii-cons c cs (word_is_ascii c parts.0) (words_ascii cs parts.1)
@@ -144,7 +144,7 @@ words_ascii (c ∷ cs) h = let parts = and_parts (is_ascii_word c) _ h in IsAsci
 pub int_bytes : (bs : List ℕ) → IsUtf8 bs → is_int (chars bs) ≡ true → bs ≡ chars bs
 int_bytes bs text h = sym (encodes-chars bs text) ∙ encodes-IsAscii (chars bs) (words_ascii (chars bs) (int_words (chars bs) (and_parts (has_int_form (chars bs)) _ h).0))
 
--- so what its bytes spell, its characters do
+-- an integer in bytes is one in characters
 pub int_chars : (bs : List ℕ) → is_int bs ≡ true → is_int (chars bs) ≡ true
 int_chars bs h =
     let same = chars-IsAscii bs (words_ascii bs (int_words bs (and_parts (has_int_form bs) _ h).0)) in

@@ -54,7 +54,7 @@ type_opens : (t : List ℕ) → is_integer_type t ≡ true → begins opens_type
 unfolding is_integer_type
 type_opens t h = type_is integer_types (begins opens_type) refl t h
 
--- so no suffix begins with what neither is
+-- no suffix of an integer begins with a character other than `u` and `i`
 suffix_none : (p : ℕ → Bool) → p 117 ≡ false → p 105 ≡ false → (s : List ℕ) → (s ≡ []) ⊎ (is_integer_type s ≡ true) → begins p s ≡ false
 suffix_none p u i s h =
     let neither : (c : ℕ) → opens_type c ≡ true → not (p c) ≡ true = λ c e. not_from_false _ (⊎_elim (at_equal (λ x. p x ≡ false) c 117 u) (at_equal (λ x. p x ≡ false) c 105 i) (or_cases (c == 117) (c == 105) e)) in
@@ -78,7 +78,7 @@ decimal_plain : (ds s : List ℕ) → list_all (is_digit_or_mark Decimal) ds ≡
 decimal_plain [] s each none = none
 decimal_plain (d ∷ ds) s each none = decimal_no_mark d (and_parts (is_digit_or_mark Decimal d) _ each).0
 
--- so digits without a mark are decimal
+-- digits without a radix prefix are decimal
 decimal_base : (ds s : List ℕ) → list_all (is_digit_or_mark Decimal) ds ≡ true → has_digit Decimal ds ≡ true → begins marks_base s ≡ false → base_of (ds ++ s) ≡ Decimal
 decimal_base [] s each some none = absurd (false≢true some)
 decimal_base (d ∷ ds) s each some none =
@@ -110,7 +110,7 @@ unmarked_is Hexadecimal s = refl
 abbrev digits_at : Base → List ℕ → List ℕ
 digits_at base s = take (prefix_len (is_digit_or_mark base) s) s
 
--- and what stands behind them
+-- the suffix after the digits, were this the base
 abbrev suffix_at : Base → List ℕ → List ℕ
 suffix_at base s = drop (prefix_len (is_digit_or_mark base) s) s
 
@@ -140,7 +140,7 @@ form_tested s base digits w =
     let suffix : is_int_suffix w.suffix ≡ true = ⊎_elim (λ e. ap is_int_suffix e) (λ e. or_right (is_empty w.suffix) _ e) w.typed in
     and_from _ _ w.first (and_from _ _ ((λ i. has_digit (parts.base_is i) (parts.digits_are i)) ∙ w.some) (ap is_int_suffix parts.suffix_is ∙ suffix))
 
--- and has their value
+-- what has the parts of an integer has their value
 value_same : (s : List ℕ) (base : Base) (digits : List ℕ) → IsIntegerOf s base digits → int_value_of s ≡ digits_number base digits
 value_same s base digits w = let parts = parts_are s base digits w in λ i. digits_number (parts.base_is i) (parts.digits_are i)
 
@@ -148,7 +148,7 @@ value_same s base digits w = let parts = parts_are s base digits w in λ i. digi
 pub int_spelled : (s : List ℕ) → is_int s ≡ true → IsInteger s
 int_spelled s h = let p = and_parts (has_int_form s) _ h in (base_of s, digits_of s, form_spelled s p.0, ltb-true _ _ p.1)
 
--- and each one passes it
+-- each supported integer passes the test
 pub int_tested : (s : List ℕ) → IsInteger s → is_int s ≡ true
 int_tested s h = and_from _ _ (form_tested s h.0 h.1 h.2) (ap (λ v. nat_lt v (2 ^ 128)) (value_same s h.0 h.1 h.2) ∙ lt-ltb _ _ h.3)
 
@@ -156,6 +156,6 @@ int_tested s h = and_from _ _ (form_tested s h.0 h.1 h.2) (ap (λ v. nat_lt v (2
 pub wide_int_spelled : (s : List ℕ) → is_wide_int s ≡ true → IsWideInteger s
 wide_int_spelled s h = let p = and_parts (has_int_form s) _ h in (base_of s, digits_of s, form_spelled s p.0, ltb-false _ _ (not-true _ p.1))
 
--- and each one passes it
+-- each unsupported integer passes the test
 pub wide_int_tested : (s : List ℕ) → IsWideInteger s → is_wide_int s ≡ true
 wide_int_tested s h = and_from _ _ (form_tested s h.0 h.1 h.2) (not_from_false _ (ap (λ v. nat_lt v (2 ^ 128)) (value_same s h.0 h.1 h.2) ∙ le-ltb _ _ h.3))

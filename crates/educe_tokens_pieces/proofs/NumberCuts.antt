@@ -10,7 +10,7 @@ use Rattle.educe_tokens_pieces.proofs.Classes.{prefix_len-append}
 pub cut_front : (p : ℕ → Bool) (xs ys : List ℕ) → list_all p xs ≡ true → begins p ys ≡ false → take (prefix_len p (xs ++ ys)) (xs ++ ys) ≡ xs
 cut_front p xs ys each none = ap (λ n. take n (xs ++ ys)) (prefix_len-append p xs ys each none) ∙ take-append_seam xs ys
 
--- and the other is what stands behind it
+-- what follows characters that pass a test is the rest after the prefix that passes
 pub cut_back : (p : ℕ → Bool) (xs ys : List ℕ) → list_all p xs ≡ true → begins p ys ≡ false → drop (prefix_len p (xs ++ ys)) (xs ++ ys) ≡ ys
 cut_back p xs ys each none = ap (λ n. drop n (xs ++ ys)) (prefix_len-append p xs ys each none) ∙ drop-append_seam xs ys
 

@@ -33,7 +33,7 @@ form_begins s h = (and_parts (begins is_ascii_digit s) _ h).0
 pub int_begins : (s : List ℕ) → is_int s ≡ true → begins is_ascii_digit s ≡ true
 int_begins s h = form_begins s (and_parts (has_int_form s) _ h).0
 
--- so does one that is not
+-- an unsupported integer begins with a decimal digit
 pub wide_int_begins : (s : List ℕ) → is_wide_int s ≡ true → begins is_ascii_digit s ≡ true
 wide_int_begins s h = form_begins s (and_parts (has_int_form s) _ h).0
 
@@ -118,7 +118,7 @@ int_finds s r h m =
     let parts = and_parts (has_int_form s) _ h in
     form_finds s r parts.0 m ∙ ap (λ kind. Some (kind, length s)) (cond-true _ _ _ parts.1)
 
--- so is an unsupported one
+-- an unsupported integer is found
 pub wide_int_finds : (s r : List ℕ) → is_wide_int s ≡ true → may_follow_int s r ≡ true → number_at (s ++ r) ≡ Some (Uncarried WideInt, length s)
 wide_int_finds s r h m =
     let parts = and_parts (has_int_form s) _ h in

@@ -25,11 +25,11 @@ is_ascii_word c = is_ascii_alphanumeric c || (c == 95)
 pub ascii_word_continues : (c : ℕ) → is_ascii_word c ≡ true → is_xid_continue c ≡ true
 ascii_word_continues c h = let small : c < 128 = grind (arith, nat_tests) in is_xid_continue-ascii c small ∙ h
 
--- so what no word goes on with is none of them
+-- a character that continues no word is none of these ASCII characters
 pub no_continue_no : (q : ℕ → Bool) → ((c : ℕ) → q c ≡ true → is_ascii_word c ≡ true) → (c : ℕ) → is_xid_continue c ≡ false → q c ≡ false
 no_continue_no q among c h = false_from_ne_true (q c) (λ e. false≢true (sym h ∙ ascii_word_continues c (among c e)))
 
--- nor does it begin a word
+-- a character that continues no word begins none
 pub no_continue_no_start : (c : ℕ) → is_xid_continue c ≡ false → is_word_start c ≡ false
 no_continue_no_start c h =
     or_from (is_xid_start c) (c == 95) (false_from_ne_true _ (λ e. false≢true (sym h ∙ is_xid_start-is_xid_continue c e)))

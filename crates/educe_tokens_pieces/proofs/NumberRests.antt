@@ -15,7 +15,7 @@ use Rattle.educe_tokens_pieces.proofs.Lists.{begins-append}
 pub space_no_continue : is_xid_continue 32 ≡ false
 space_no_continue = is_xid_continue-ascii 32 (omega arith)
 
--- nor with a line feed
+-- a line feed continues no word
 pub line_feed_no_continue : is_xid_continue 10 ≡ false
 line_feed_no_continue = is_xid_continue-ascii 10 (omega arith)
 

@@ -31,7 +31,7 @@ prefixed_parts letter q mark (c ∷ cs) h =
 pub quoted_from : (q : Quote) (mark : ℕ) (cs : List ℕ) → ends (Open q) cs ≡ true → is_quoted q mark (mark ∷ cs) ≡ true
 quoted_from q mark cs h = and_from (mark == mark) _ (eq-eqb mark mark refl) h
 
--- so is a letter before it
+-- a letter before an opening quote makes a prefixed literal
 pub prefixed_from : (letter : ℕ) (q : Quote) (mark : ℕ) (cs : List ℕ) → ends (Open q) cs ≡ true → is_prefixed letter q mark (letter ∷ mark ∷ cs) ≡ true
 prefixed_from letter q mark cs h = and_from (letter == letter) _ (eq-eqb letter letter refl) (quoted_from q mark cs h)
 

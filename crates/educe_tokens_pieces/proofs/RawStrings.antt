@@ -251,7 +251,7 @@ closes_last n (c ∷ front) back h =
     (λ e. closes_last n front back (rw e at h))
     (cases_Bool ((c == 34) && nat_le n (mark_count (front ++ 34 ∷ (marks_of n ++ back)))))
 
--- so the value ends at the first `"` that closes
+-- the value ends at the first `"` that closes the raw text
 value_first : (n : ℕ) (value front back : List ℕ) → closes_raw n (value ++ 34 ∷ marks_of n) ≡ true → value ++ 34 ∷ marks_of n ≡ front ++ 34 ∷ (marks_of n ++ back) → front ≡ value
 value_first n value front back h e =
     let none = closes_last n front back (ap (closes_raw n) (sym e) ∙ h) in

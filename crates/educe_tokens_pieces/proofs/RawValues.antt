@@ -86,6 +86,6 @@ value_chars bs opening rest t =
 pub slice_value : (bs opening rest slice : List ℕ) (t : IsRawText bs opening rest) → slice ≡ slice_range rest 0 (length rest - length opening) → chars slice ≡ raw_value (chars bs)
 slice_value bs opening rest slice t e = ap chars e ∙ value_chars bs opening rest t ∙ sym (raw_value_is (chars bs) t.value t.law)
 
--- and the raw string is one of it
+-- the slice between the quotes is the value of the raw string
 pub slice_law : (bs opening rest slice : List ℕ) (t : IsRawText bs opening rest) → slice ≡ slice_range rest 0 (length rest - length opening) → IsRawOf (chars bs) (chars slice)
 slice_law bs opening rest slice t e = subst (IsRawOf (chars bs)) (sym (ap chars e ∙ value_chars bs opening rest t)) t.law

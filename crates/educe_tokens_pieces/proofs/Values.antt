@@ -22,7 +22,7 @@ chars-push : (old new : List ℕ) (c : ℕ) → IsUtf8 old → IsUtf8 new → ne
 chars-push old new c from to e =
     sym (chars_from_encodes (chars old ++ c ∷ []) new to (encodes-append (chars old) (c ∷ []) ∙ (λ i. encodes-chars old from i ++ append-nil (encode_utf8 c) i) ∙ sym e))
 
--- the same where it was pushed
+-- the value so far, after a character was pushed to it
 pub pushed : {A E : Type 0} (r : Result A E) (old new : List ℕ) (c : ℕ) (o : Option ℕ) → IsUtf8 old → IsUtf8 new → new ≡ cond (is_ok r) (old ++ encode_utf8 c) old → o ≡ Some c → OnOk r (chars new ≡ chars old ++ option_to_list o)
 pushed (Ok a) old new c o from to e is = chars-push old new c from to e ∙ ap (λ p. chars old ++ option_to_list p) (sym is)
 pushed (Err a) old new c o from to e is = tt
@@ -47,7 +47,7 @@ value_here whole old text i c w x front h item at last =
     value_whole whole old (given w (drop i text)) front
     (⊎_elim (λ e. given_at text i c w End h item (sym at ∙ e)) (λ e. given_at text i c w Stop h item (sym at ∙ e)) last)
 
--- and at the end of the text
+-- the value is complete at the end of the text
 pub value_end : (whole old text : List ℕ) (i : ℕ) (w : Within) → whole ≡ old ++ given w (drop i text) → i ≡ length text → old ≡ whole
 value_end whole old text i w front all = value_whole whole old (given w (drop i text)) front (ap (given w) (drop_all i text (omega (arith, all))))
 

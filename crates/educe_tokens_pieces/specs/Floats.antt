@@ -9,28 +9,28 @@ use Rattle.educe_tokens_pieces.specs.Chars.{begins, is_only, is_empty}
 abbrev pub is_decimal_part : ℕ → Bool
 is_decimal_part c = is_ascii_digit c || (c == 95)
 
--- What stands behind the digits and `_` at the front.
+-- The text after the digits and `_` at its start.
 abbrev pub behind_digits : List ℕ → List ℕ
 behind_digits cs = drop (prefix_len is_decimal_part cs) cs
 
--- `f32` or `f64`.
+-- A float type: `f32` or `f64`.
 unfoldable pub is_float_type : List ℕ → Bool
 is_float_type cs = bytes_eq (codes "f32") cs || bytes_eq (codes "f64") cs
 
--- Nothing, or a type of floats.
+-- The suffix of a float: empty, or a float type.
 abbrev pub is_float_suffix : List ℕ → Bool
 is_float_suffix cs = is_empty cs || is_float_type cs
 
--- Without the sign in front, if there is one.
+-- The text without its leading sign, if it has one.
 abbrev pub unsigned : List ℕ → List ℕ
 unsigned [] = []
 unsigned (c ∷ cs) = cond ((c == 43) || (c == 45)) cs (c ∷ cs)
 
--- Digits and `_`, a digit among them, and a suffix.
+-- The number of an exponent: digits and `_`, at least one digit among them, and an optional float type.
 abbrev pub is_exponent_number : List ℕ → Bool
 is_exponent_number cs = list_any is_ascii_digit (take (prefix_len is_decimal_part cs) cs) && is_float_suffix (behind_digits cs)
 
--- `e` or `E`, a sign or none, and the number.
+-- An exponent: `e` or `E`, an optional sign, and the number.
 abbrev pub is_exponent : List ℕ → Bool
 is_exponent [] = false
 is_exponent (c ∷ cs) = ((c == 101) || (c == 69)) && is_exponent_number (unsigned cs)
@@ -39,19 +39,19 @@ is_exponent (c ∷ cs) = ((c == 101) || (c == 69)) && is_exponent_number (unsign
 abbrev pub ends_float : List ℕ → Bool
 ends_float cs = is_float_suffix cs || is_exponent cs
 
--- A digit, more of them and `_`, and an end.
+-- The fraction after a `.`: a digit, more digits and `_`, and the end of a float.
 abbrev pub is_fraction : List ℕ → Bool
 is_fraction cs = begins is_ascii_digit cs && ends_float (behind_digits cs)
 
--- What makes the digits before it a float: a `.` alone, a `.` and a fraction, or an end that is not empty.
+-- What turns the digits before it into a float: a `.` alone, a `.` and a fraction, or a non-empty end of a float.
 abbrev pub is_float_tail : List ℕ → Bool
 is_float_tail [] = false
 is_float_tail (c ∷ cs) = cond (c == 46) (is_empty cs || is_fraction cs) (ends_float (c ∷ cs))
 
--- Decimal digits, and what makes them a float.
+-- A float: decimal digits, and a tail that makes them one.
 abbrev pub is_float : List ℕ → Bool
 is_float cs = begins is_ascii_digit cs && is_float_tail (behind_digits cs)
 
--- The float is digits and a `.` alone.
+-- The float consists of digits and a trailing `.` only.
 abbrev pub ends_with_dot : List ℕ → Bool
 ends_with_dot cs = is_only 46 (behind_digits cs)

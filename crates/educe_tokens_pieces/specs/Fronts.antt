@@ -1,7 +1,7 @@
--- What stands at the front of a text, and what follows it.
+-- Prefixes of a text and the rest after them.
 use Rattle.std.specs.Prelude.{◌≡◌, ℕ, ◌==◌, Bool, false, ◌&&◌, IsTrue, List, [], ◌∷◌, ◌++◌}
 
--- The text is a front that passes, and then the rest.
+-- The text is a prefix that passes the test, followed by the rest.
 pub record HasFront (test : List ℕ → Bool) (text rest : List ℕ) : Type 0 where
   pub front : List ℕ
   pub is : text ≡ front ++ rest
@@ -13,7 +13,7 @@ is_last mark [] = false
 is_last mark (c ∷ []) = c == mark
 is_last mark (c ∷ d ∷ cs) = is_last mark (d ∷ cs)
 
--- The list begins with these two.
+-- The list begins with these two characters, in this order.
 abbrev pub begins_pair : ℕ → ℕ → List ℕ → Bool
 begins_pair a b [] = false
 begins_pair a b (c ∷ []) = false

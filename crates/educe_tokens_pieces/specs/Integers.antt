@@ -14,19 +14,19 @@ radix Octal = 8
 radix Decimal = 10
 radix Hexadecimal = 16
 
--- How many characters write the base: none for the decimal one.
+-- The length of the radix prefix: 2 characters, none for decimal integers.
 abbrev pub mark_length : Base → ℕ
 mark_length Binary = 2
 mark_length Octal = 2
 mark_length Decimal = 0
 mark_length Hexadecimal = 2
 
--- The base that the character behind a `0` says: `b`, `o` or `x`.
+-- The base that the character after a leading `0` selects: `b`, `o` or `x`; decimal for any other.
 abbrev pub base_behind : List ℕ → Base
 base_behind [] = Decimal
 base_behind (c ∷ cs) = cond (c == 98) Binary (cond (c == 111) Octal (cond (c == 120) Hexadecimal Decimal))
 
--- The base by how the text begins.
+-- The base of an integer, by its radix prefix.
 abbrev pub base_of : List ℕ → Base
 base_of [] = Decimal
 base_of (c ∷ cs) = cond (c == 48) (base_behind cs) Decimal
@@ -35,22 +35,22 @@ base_of (c ∷ cs) = cond (c == 48) (base_behind cs) Decimal
 abbrev pub is_digit_or_mark : Base → ℕ → Bool
 is_digit_or_mark base c = is_digit c (radix base) || (c == 95)
 
--- What stands behind the mark of the base.
+-- The text after the radix prefix.
 abbrev pub unmarked : List ℕ → List ℕ
 unmarked cs = drop (mark_length (base_of cs)) cs
 
--- How many digits and `_` stand there.
+-- The number of digits and `_` after the radix prefix.
 abbrev pub digit_count : List ℕ → ℕ
 digit_count cs = prefix_len (is_digit_or_mark (base_of cs)) (unmarked cs)
 
--- The digits, `_` among them, and what stands behind them.
+-- The digits, `_` among them, and the suffix after them.
 abbrev pub digits_of : List ℕ → List ℕ
 digits_of cs = take (digit_count cs) (unmarked cs)
 
 abbrev pub suffix_of : List ℕ → List ℕ
 suffix_of cs = drop (digit_count cs) (unmarked cs)
 
--- The types of integers.
+-- The integer types, which may be suffixes.
 abbrev pub integer_types : List (List ℕ)
 integer_types =
     codes "u8" ∷ codes "u16" ∷ codes "u32" ∷ codes "u64" ∷ codes "u128" ∷ codes "usize"
@@ -59,13 +59,14 @@ integer_types =
 unfoldable pub is_integer_type : List ℕ → Bool
 is_integer_type text = list_any (λ type. bytes_eq type text) integer_types
 
--- An integer of any size: a digit first, a digit of the base, and no suffix or a type of integers.
+-- The form of an integer of any size: a decimal digit first, at least one digit of the base, and no suffix or an
+-- integer type.
 abbrev pub has_int_form : List ℕ → Bool
 has_int_form cs =
     begins is_ascii_digit cs
     && (list_any (λ c. is_digit c (radix (base_of cs))) (digits_of cs) && (is_empty (suffix_of cs) || is_integer_type (suffix_of cs)))
 
--- The number that the digits write, `_` aside.
+-- The number that the digits write; `_` is ignored.
 abbrev pub int_value_of : List ℕ → ℕ
 int_value_of cs = digits_value (radix (base_of cs)) (filter (λ c. not (c == 95)) (digits_of cs))
 
@@ -73,7 +74,7 @@ int_value_of cs = digits_value (radix (base_of cs)) (filter (λ c. not (c == 95)
 abbrev pub fits_u128 : List ℕ → Bool
 fits_u128 cs = nat_lt (int_value_of cs) (2 ^ 128)
 
--- A supported integer.
+-- A supported integer: one whose value fits in `u128`.
 abbrev pub is_int : List ℕ → Bool
 is_int cs = has_int_form cs && fits_u128 cs
 
@@ -81,7 +82,8 @@ is_int cs = has_int_form cs && fits_u128 cs
 abbrev pub is_wide_int : List ℕ → Bool
 is_wide_int cs = has_int_form cs && not (fits_u128 cs)
 
--- Digits before this are a float: a `.`, and then not `.`, `_` or XID_Start (Rust Reference, Floating-point literals).
+-- The rest turns the digits before it into a float: a `.`, not followed by `.`, `_` or XID_Start (Rust Reference,
+-- Floating-point literals).
 abbrev pub makes_float : List ℕ → Bool
 makes_float [] = false
 makes_float (c ∷ cs) = (c == 46) && not (begins (λ d. (d == 46) || is_word_start d) cs)

@@ -1,4 +1,5 @@
--- Literals between quotes, character by character. What they are is said in `Quotes`; that both agree is proved.
+-- Quoted literals as a state machine over characters. `Quotes` defines the same literals by their parts; that both
+-- agree is proved.
 use Rattle.std.specs.Prelude.{ℕ, ◌+◌, ◌*◌, ◌==◌, Bool, false, cond, ◌&&◌, ◌||◌, not, Option, Some, None, List, [], ◌∷◌, ◌++◌, nat_lt, nat_le}
 use Rattle.std.specs.Char.{digit_value}
 use Rattle.educe_tokens_pieces.specs.declared.quotes.Quote.{Quote}
@@ -10,22 +11,22 @@ use Rattle.educe_tokens_pieces.specs.declared.quotes.Next.TheVariants.{Go, End, 
 use Rattle.educe_tokens_pieces.specs.Chars.{is_empty}
 use Rattle.educe_tokens_pieces.specs.Quotes.{closing, is_single, is_bytes, top_digit, is_escape, escape_value, is_hex, is_scalar, is_plain}
 
--- Behind a part.
+-- The state after a complete part: a character or byte literal must close, others go on.
 abbrev pub behind_part : Quote → Within
 behind_part quote = cond (is_single quote) (Close quote) (Open quote)
 
--- Space, tab, line feed and carriage return.
+-- White space that a string continuation skips: space, tab, line feed and carriage return.
 abbrev pub is_space_character : ℕ → Bool
 is_space_character c = (c == 32) || (c == 9) || (c == 10) || (c == 13)
 
--- Before a part or the mark at the end.
+-- The step from the start of a part: a part begins, or the closing quote ends the literal.
 abbrev pub open_step : Quote → ℕ → Next
 open_step quote c =
     cond ((c == closing quote) && not (is_single quote)) End
     (cond (c == 92) (Go (Escape quote))
     (cond (is_plain quote c) (Go (behind_part quote)) Stop))
 
--- Behind a `\`.
+-- The step after a `\`.
 abbrev pub escape_step : Quote → ℕ → Next
 escape_step quote c =
     cond (is_escape c) (Go (behind_part quote))
@@ -34,7 +35,7 @@ escape_step quote c =
     (cond ((c == 10) && not (is_single quote)) (Go (Break quote))
     (cond ((c == 13) && not (is_single quote)) (Go (Return quote)) Stop))))
 
--- Behind `\u{` and digits.
+-- The step after `\u{` and the digits so far.
 abbrev pub code_step : Quote → ℕ → ℕ → ℕ → Next
 code_step quote digits value c =
     cond (c == 125) (cond (nat_lt 0 digits && is_scalar value) (Go (behind_part quote)) Stop)
@@ -52,7 +53,7 @@ step (Brace quote) c = cond (c == 123) (Go (Code quote 0 0)) Stop
 step (Code quote digits value) c = code_step quote digits value c
 step (Close quote) c = cond (c == closing quote) End Stop
 
--- The characters of the value that a character completes.
+-- The character of the value that this character completes, if it completes one.
 abbrev pub gives : Within → ℕ → List ℕ
 gives (Open quote) c = cond ((c == closing quote) || (c == 92)) [] (c ∷ [])
 gives (Break quote) c = cond (is_space_character c || ((c == closing quote) || (c == 92))) [] (c ∷ [])
@@ -64,12 +65,12 @@ gives (Brace quote) c = []
 gives (Code quote digits value) c = cond (c == 125) (value ∷ []) []
 gives (Close quote) c = []
 
--- The last of these characters is the first at which the literal ends.
+-- The literal ends with the last of these characters, and not earlier.
 abbrev pub ends : Within → List ℕ → Bool
 ends within [] = false
 ends within (c ∷ cs) = elim (step within c) [ Go more ↦ ends more cs | End ↦ is_empty cs | Stop ↦ false ]
 
--- What they give together, up to the end.
+-- The value that these characters give, up to the end of the literal.
 abbrev pub given : Within → List ℕ → List ℕ
 given within [] = []
 given within (c ∷ cs) = elim (step within c) [ Go more ↦ gives within c ++ given more cs | End ↦ [] | Stop ↦ [] ]
@@ -78,17 +79,17 @@ abbrev pub plus : ℕ → Option ℕ → Option ℕ
 plus k None = None
 plus k (Some n) = Some (k + n)
 
--- How many characters it takes until the literal ends.
+-- The number of characters up to and including the closing quote, if the literal ends.
 abbrev pub end_at : Within → List ℕ → Option ℕ
 end_at within [] = None
 end_at within (c ∷ cs) = elim (step within c) [ Go more ↦ plus 1 (end_at more cs) | End ↦ Some 1 | Stop ↦ None ]
 
--- A quote, and the rest of the literal.
+-- An opening quote and the rest of the literal.
 abbrev pub is_quoted : Quote → ℕ → List ℕ → Bool
 is_quoted quote mark [] = false
 is_quoted quote mark (c ∷ cs) = (c == mark) && ends (Open quote) cs
 
--- A `b` or `c`, a quote, and the rest of the literal.
+-- The letter of a prefix, an opening quote and the rest of the literal.
 abbrev pub is_prefixed : ℕ → Quote → ℕ → List ℕ → Bool
 is_prefixed letter quote mark [] = false
 is_prefixed letter quote mark (c ∷ cs) = (c == letter) && is_quoted quote mark cs

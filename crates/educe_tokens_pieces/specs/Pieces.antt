@@ -63,19 +63,19 @@ is_piece (Uncarried kind) cs = spells_uncarried kind cs
 abbrev pub is_joint : List ℕ → Bool
 is_joint rest = begins is_punct rest && not (opens_comment rest)
 
--- No character follows that goes on with a word.
+-- The rest does not begin with a character that continues a word.
 abbrev pub ends_word_before : List ℕ → Bool
 ends_word_before rest = not (begins is_xid_continue rest)
 
--- An integer may stand before this: without a suffix it may not become a float.
+-- An integer may stand before this rest: one without a suffix must not become a float.
 abbrev pub may_follow_int : List ℕ → List ℕ → Bool
 may_follow_int spelling rest = ends_word_before rest && (not (is_empty (suffix_of spelling)) || not (makes_float rest))
 
--- A float may stand before this: its last `.` may not become one of two.
+-- A float may stand before this rest: a trailing `.` must not become `..`.
 abbrev pub may_follow_float : List ℕ → List ℕ → Bool
 may_follow_float spelling rest = ends_word_before rest && not (ends_with_dot spelling && begins (λ c. c == 46) rest)
 
--- What may follow a piece of the kind that is spelled so.
+-- A piece of the kind with this spelling may stand before the rest.
 abbrev pub may_precede : PieceKind → List ℕ → List ℕ → Bool
 may_precede Blank spelling rest = true
 may_precede Comment spelling rest = ends_line_before spelling rest
@@ -94,6 +94,6 @@ may_precede (Uncarried Float) spelling rest = may_follow_float spelling rest
 may_precede (Uncarried WideInt) spelling rest = may_follow_int spelling rest
 may_precede (Uncarried CStr) spelling rest = ends_word_before rest
 
--- The spelling of one identifier or one integer.
+-- The spelling is exactly one identifier or one integer.
 abbrev pub is_name_or_index : List ℕ → Bool
 is_name_or_index cs = spells Ident cs || spells (Literal Int) cs

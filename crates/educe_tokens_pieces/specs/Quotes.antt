@@ -1,5 +1,5 @@
--- Literals between quotes that are not raw: what they consist of, and their value (Rust Reference, Character and string
--- literals; Byte and byte string literals; C string literals).
+-- Quoted literals that are not raw: their parts and their values (Rust Reference, Character and string literals; Byte
+-- and byte string literals; C string literals).
 use Rattle.std.specs.Prelude.{◌≡◌, ℕ, ◌+◌, ◌*◌, ◌==◌, Bool, true, false, cond, ◌&&◌, ◌||◌, not, IsTrue, List, [], ◌∷◌, ◌++◌, length, nat_lt, nat_le}
 use Rattle.std.specs.List.{list_all, flat_map, filter}
 use Rattle.std.specs.Str.Parse.{digits_value}
@@ -7,7 +7,7 @@ use Rattle.std.specs.Char.{is_ascii, is_digit, digit_value}
 use Rattle.educe_tokens_pieces.specs.declared.quotes.Quote.{Quote}
 use Rattle.educe_tokens_pieces.specs.declared.quotes.Quote.TheVariants.{Str, ByteStr, CStr, Char, Byte}
 
--- The mark at the end.
+-- The closing quote: `'` for characters and bytes, `"` for strings.
 abbrev pub closing : Quote → ℕ
 closing Str = 34
 closing ByteStr = 34
@@ -15,7 +15,7 @@ closing CStr = 34
 closing Char = 39
 closing Byte = 39
 
--- One character or byte, and not a list of them.
+-- The literal holds a single character or byte.
 abbrev pub is_single : Quote → Bool
 is_single Str = false
 is_single ByteStr = false
@@ -23,7 +23,7 @@ is_single CStr = false
 is_single Char = true
 is_single Byte = true
 
--- Bytes: of ASCII characters, and without `\u`.
+-- The literal holds bytes: ASCII characters, and no `\u`.
 abbrev pub is_bytes : Quote → Bool
 is_bytes Str = false
 is_bytes ByteStr = true
@@ -31,7 +31,7 @@ is_bytes CStr = false
 is_bytes Char = false
 is_bytes Byte = true
 
--- The greatest first digit of `\x`: in text 7, since the value is ASCII there.
+-- The greatest first digit of `\x`: 7 in text, where the value must be ASCII, and 15 in bytes.
 abbrev pub top_digit : Quote → ℕ
 top_digit Str = 7
 top_digit ByteStr = 15
@@ -39,19 +39,19 @@ top_digit CStr = 15
 top_digit Char = 7
 top_digit Byte = 15
 
--- What a literal consists of.
+-- A part of a quoted literal.
 pub data Part : Type 0 where
-  -- A character as it stands.
+  -- A character that stands for itself.
   Plain : (c : ℕ) → Part
-  -- `\` and a letter or a mark.
+  -- An escape of one character: `\` and a letter, a quote or `\`.
   Escape : (c : ℕ) → Part
-  -- `\x` and two digits.
+  -- An escape of a byte: `\x` and two hexadecimal digits.
   Hex : (high low : ℕ) → Part
-  -- `\u`, and digits and `_` in braces.
+  -- An escape of a character: `\u`, and hexadecimal digits and `_` in braces.
   Unicode : (digits : List ℕ) → Part
-  -- `\` before the end of a line: a line feed.
+  -- A string continuation: `\` before a line feed.
   Break : Part
-  -- The same before a carriage return and a line feed.
+  -- A string continuation: `\` before a carriage return and a line feed.
   ReturnBreak : Part
 
 abbrev pub spelled : Part → List ℕ
@@ -62,7 +62,7 @@ spelled (Unicode digits) = 92 ∷ 117 ∷ 123 ∷ (digits ++ 125 ∷ [])
 spelled Break = 92 ∷ 10 ∷ []
 spelled ReturnBreak = 92 ∷ 13 ∷ 10 ∷ []
 
--- N r t \ 0 ' ".
+-- The characters after `\` that make a simple escape: n r t \ 0 ' ".
 abbrev pub is_escape : ℕ → Bool
 is_escape c = (c == 110) || (c == 114) || (c == 116) || (c == 92) || (c == 48) || (c == 39) || (c == 34)
 
@@ -72,11 +72,11 @@ escape_value c = cond (c == 110) 10 (cond (c == 114) 13 (cond (c == 116) 9 (cond
 abbrev pub is_hex : ℕ → Bool
 is_hex c = is_digit c 16
 
--- The number is that of a character: at most 10FFFF, and no surrogate.
+-- The number is a Unicode scalar value: at most 10FFFF, and no surrogate.
 abbrev pub is_scalar : ℕ → Bool
 is_scalar n = nat_lt n 55296 || (nat_le 57344 n && nat_lt n 1114112)
 
--- One to six digits, each followed by any number of `_`.
+-- The content of the braces: one to six hexadecimal digits, each followed by any number of `_`.
 abbrev pub is_code : List ℕ → Bool
 is_code [] = false
 is_code (d ∷ ds) = is_hex d && (list_all (λ c. is_hex c || (c == 95)) ds && nat_le (length (filter is_hex (d ∷ ds))) 6)
@@ -84,18 +84,18 @@ is_code (d ∷ ds) = is_hex d && (list_all (λ c. is_hex c || (c == 95)) ds && n
 abbrev pub code_value : List ℕ → ℕ
 code_value digits = digits_value 16 (filter (λ c. not (c == 95)) digits)
 
--- Line feed, carriage return and tab.
+-- A line feed, carriage return or tab.
 abbrev pub is_line_control : ℕ → Bool
 is_line_control c = (c == 10) || (c == 13) || (c == 9)
 
--- A character that stands for itself: neither the mark at the end nor `\`; in bytes ASCII; and where it stands alone,
--- neither a line feed, a carriage return nor a tab.
+-- A character that stands for itself: neither the closing quote nor `\`; ASCII in byte literals; and in a single
+-- character neither line feed, carriage return nor tab.
 abbrev pub is_plain : Quote → ℕ → Bool
 is_plain quote c =
     (not (c == closing quote) && not (c == 92))
     && ((not (is_bytes quote) || is_ascii c) && not (is_single quote && is_line_control c))
 
--- The part may stand in such a literal.
+-- A literal of this kind may contain the part.
 abbrev pub may_hold : Quote → Part → Bool
 may_hold quote (Plain c) = is_plain quote c
 may_hold quote (Escape c) = is_escape c
@@ -104,17 +104,17 @@ may_hold quote (Unicode digits) = not (is_bytes quote) && (is_code digits && is_
 may_hold quote Break = not (is_single quote)
 may_hold quote ReturnBreak = not (is_single quote)
 
--- One part, where the literal is a single character or byte.
+-- A character or byte has exactly one part; a string has any number.
 abbrev pub has_count : Quote → List Part → Bool
 has_count quote parts = not (is_single quote) || (length parts == 1)
 
--- The text is these parts, and then the mark at the end.
+-- The text after the opening quote is these parts and the closing quote.
 pub record IsBody (quote : Quote) (text : List ℕ) (parts : List Part) : Type 0 where
   pub hold : IsTrue (list_all (may_hold quote) parts)
   pub count : IsTrue (has_count quote parts)
   pub is : text ≡ flat_map spelled parts ++ closing quote ∷ []
 
--- The `\` before the end of a line, which has no value.
+-- The part is a string continuation, which has no value.
 abbrev pub is_break : Part → Bool
 is_break (Plain c) = false
 is_break (Escape c) = false
@@ -123,7 +123,7 @@ is_break (Unicode digits) = false
 is_break Break = true
 is_break ReturnBreak = true
 
--- Space, tab, line feed and carriage return, as they stand.
+-- The part is a plain space, tab, line feed or carriage return.
 abbrev pub is_space : Part → Bool
 is_space (Plain c) = (c == 32) || (c == 9) || (c == 10) || (c == 13)
 is_space (Escape c) = false

@@ -5,53 +5,54 @@ use Rattle.std.specs.Char.{is_ascii}
 use Rattle.educe_tokens_pieces.specs.Chars.{begins}
 use Rattle.educe_tokens_pieces.specs.Machine.{plus}
 
--- How many `#` stand at the front.
+-- The number of `#` at the start of the text.
 abbrev pub mark_count : List ℕ → ℕ
 mark_count cs = prefix_len (λ c. c == 35) cs
 
--- Behind the opening quote and so many `#` before it: the text ends with the first `"` that as many `#` follow.
+-- The text after the opening quote ends with the first `"` that is followed by that many `#`.
 abbrev pub closes_raw : ℕ → List ℕ → Bool
 closes_raw marks [] = false
 closes_raw marks (c ∷ cs) = cond ((c == 34) && nat_le marks (mark_count cs)) (length cs == marks) (closes_raw marks cs)
 
--- At most 255 `#`, `"`, and a text up to `"` and as many `#`.
+-- A raw text: at most 255 `#`, `"`, the characters, and `"` followed by as many `#`.
 abbrev pub is_raw : List ℕ → Bool
 is_raw cs =
     (nat_le (mark_count cs) 255 && begins (λ c. c == 34) (drop (mark_count cs) cs))
     && closes_raw (mark_count cs) (drop (mark_count cs + 1) cs)
 
--- `r` and a raw text.
+-- A raw string: `r` and a raw text.
 abbrev pub is_raw_str : List ℕ → Bool
 is_raw_str [] = false
 is_raw_str (c ∷ cs) = (c == 114) && is_raw cs
 
--- `br` and a raw text of ASCII characters.
+-- A raw byte string: `br` and a raw text of ASCII characters.
 abbrev pub is_raw_byte_str : List ℕ → Bool
 is_raw_byte_str [] = false
 is_raw_byte_str (c ∷ cs) = (c == 98) && (is_raw_str cs && list_all is_ascii cs)
 
--- `cr` and a raw text.
+-- A raw C string: `cr` and a raw text.
 abbrev pub is_raw_c_str : List ℕ → Bool
 is_raw_c_str [] = false
 is_raw_c_str (c ∷ cs) = (c == 99) && is_raw_str cs
 
--- Behind the opening quote and so many `#` before it: how many characters it takes until the raw text ends.
+-- The number of characters after the opening quote up to the end of the raw text, which that many `#` close.
 abbrev pub raw_closing_len : ℕ → List ℕ → Option ℕ
 raw_closing_len marks [] = None
 raw_closing_len marks (c ∷ cs) = cond ((c == 34) && nat_le marks (mark_count cs)) (Some (1 + marks)) (plus 1 (raw_closing_len marks cs))
 
--- How many characters the raw text at the front has, from its first `#` or `"` on.
+-- The length of the raw text at the start, counted from its first `#` or `"`.
 abbrev pub raw_len : List ℕ → Option ℕ
 raw_len cs =
     cond (nat_le (mark_count cs) 255 && begins (λ c. c == 34) (drop (mark_count cs) cs))
     (plus (mark_count cs + 1) (raw_closing_len (mark_count cs) (drop (mark_count cs + 1) cs))) None
 
--- The text between the quotes: behind `r`, the `#` and a quote, and without the quote and as many `#` at the end.
+-- The value of a raw string: the characters between its quotes.
 abbrev pub raw_value : List ℕ → List ℕ
 raw_value literal =
     take (length literal - (2 * mark_count (drop 1 literal) + 3)) (drop (mark_count (drop 1 literal) + 2) literal)
 
--- The literal is `r`, at most 255 `#`, `"`, the value, `"` and as many `#`, and no `"` that as many `#` follow stands earlier.
+-- The literal is `r`, at most 255 `#`, `"`, the value, `"` and as many `#`, and no earlier `"` is followed by as many
+-- `#`.
 pub record IsRawOf (literal value : List ℕ) : Type 0 where
   pub marks : ℕ
   pub few : marks ≤ 255

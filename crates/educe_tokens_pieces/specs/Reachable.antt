@@ -1,10 +1,11 @@
--- Which places in a literal are reached from its start: there the digits of an escape are few, so the number that they
--- write is small.
+-- The states that a scan of a quoted literal reaches from its start. In these the digits of an escape are few, so that
+-- the number they write is small.
 use Rattle.std.specs.Prelude.{◌^◌, Bool, true, ◌&&◌, nat_lt, nat_le}
 use Rattle.educe_tokens_pieces.specs.declared.quotes.Within.{Within}
 use Rattle.educe_tokens_pieces.specs.declared.quotes.Within.TheVariants.{Open, Break, Escape, Return, High, Low, Brace, Code, Close}
 
--- The first digit of `\x` is below 16; behind `\u{` stand at most six digits, and their value is one of so many.
+-- The first digit of `\x` is below 16; after `\u{` there are at most six digits, and their value is below 16 to the
+-- power of their number.
 abbrev pub is_reachable : Within → Bool
 is_reachable (Open quote) = true
 is_reachable (Break quote) = true

@@ -1,5 +1,5 @@
--- What spells a piece, in the subject's words (Rust Reference, Lexical structure). `Pieces` says the same by tests that
--- compute; that both agree is proved.
+-- The spellings of pieces in the terms of the Rust Reference (Lexical structure). `Pieces` defines the same by
+-- computable tests; that both agree is proved.
 use Rattle.std.specs.Prelude.{◌≡◌, ◌⊎◌, ℕ, ◌^◌, ◌<◌, ◌≤◌, not, IsTrue, List, [], ◌∷◌, ◌++◌}
 use Rattle.std.specs.List.{list_all, list_any}
 use Rattle.std.specs.Char.{is_ascii, is_ascii_digit}
@@ -24,15 +24,15 @@ use Rattle.educe_tokens_pieces.specs.Quotes.{Part, closing, IsBody}
 use Rattle.educe_tokens_pieces.specs.RawStrings.{IsRawOf}
 use Rattle.educe_tokens_pieces.specs.Pieces.{opener, closer}
 
--- The text begins with the mark.
+-- The text begins with this prefix.
 abbrev pub BeginsWith : List ℕ → List ℕ → Type 0
 BeginsWith mark text = (more : List ℕ) × (text ≡ mark ++ more)
 
--- It does not.
+-- The text does not begin with this prefix.
 abbrev pub BeginsNot : List ℕ → List ℕ → Type 0
 BeginsNot mark text = BeginsWith mark text → ⊥
 
--- XID_Start or `_`, then any number of XID_Continue.
+-- A word: XID_Start or `_`, then any number of XID_Continue.
 pub record IsWord (text : List ℕ) : Type 0 where
   pub first : ℕ
   pub more : List ℕ
@@ -40,28 +40,28 @@ pub record IsWord (text : List ℕ) : Type 0 where
   pub starts : IsTrue (is_word_start first)
   pub continues : IsTrue (list_all is_xid_continue more)
 
--- `r#` and a word that may be raw.
+-- A raw word: `r#` and a word that may be raw.
 pub record IsRawWord (text : List ℕ) : Type 0 where
   pub word : List ℕ
   pub is : text ≡ 114 ∷ 35 ∷ word
   pub own : IsWord word
   pub rawable : IsTrue (not (is_never_raw word))
 
--- `'` and a word.
+-- A lifetime: `'` and a word.
 pub record IsLifetime (text : List ℕ) : Type 0 where
   pub word : List ℕ
   pub is : text ≡ 39 ∷ word
   pub own : IsWord word
 
--- What writes the base: nothing before a decimal integer.
+-- The radix prefix of a base, empty for decimal integers.
 abbrev pub mark_of : Base → List ℕ
 mark_of Binary = 48 ∷ 98 ∷ []
 mark_of Octal = 48 ∷ 111 ∷ []
 mark_of Decimal = []
 mark_of Hexadecimal = 48 ∷ 120 ∷ []
 
--- An integer of any size: the mark of the base, digits and `_`, a digit of the base among them, and no suffix or a type of
--- integers; a decimal digit is the first character.
+-- An integer of any size: the radix prefix, digits and `_`, at least one digit of the base among them, and no suffix or
+-- an integer type; its first character is a decimal digit.
 pub record IsIntegerOf (text : List ℕ) (base : Base) (digits : List ℕ) : Type 0 where
   pub suffix : List ℕ
   pub is : text ≡ mark_of base ++ (digits ++ suffix)
@@ -74,19 +74,19 @@ pub record IsIntegerOf (text : List ℕ) (base : Base) (digits : List ℕ) : Typ
 abbrev pub IsInteger : List ℕ → Type 0
 IsInteger text = (base : Base) × (digits : List ℕ) × IsIntegerOf text base digits × (digits_number base digits < 2 ^ 128)
 
--- An integer from 2^128 on.
+-- An integer of at least 2^128.
 abbrev pub IsWideInteger : List ℕ → Type 0
 IsWideInteger text = (base : Base) × (digits : List ℕ) × IsIntegerOf text base digits × (2 ^ 128 ≤ digits_number base digits)
 
--- A decimal digit, more of them and `_`.
+-- Decimal digits and `_`, a digit first.
 abbrev pub IsDigits : List ℕ → Type 0
 IsDigits digits = IsTrue (begins is_ascii_digit digits) × IsTrue (list_all is_decimal_part digits)
 
--- Nothing, or a type of floats.
+-- The suffix of a float: empty, or a float type.
 abbrev pub IsFloatSuffix : List ℕ → Type 0
 IsFloatSuffix text = (text ≡ []) ⊎ IsTrue (is_float_type text)
 
--- `e` or `E`, a sign or none, digits and `_`, a digit among them, and a suffix.
+-- An exponent: `e` or `E`, an optional sign, digits and `_`, at least one digit among them, and an optional float type.
 pub record IsExponent (text : List ℕ) : Type 0 where
   pub letter : ℕ
   pub sign : List ℕ
@@ -99,20 +99,20 @@ pub record IsExponent (text : List ℕ) : Type 0 where
   pub some : IsTrue (list_any is_ascii_digit digits)
   pub typed : IsFloatSuffix suffix
 
--- What ends a float: a suffix, or an exponent.
+-- The end of a float: a suffix, or an exponent.
 abbrev pub EndsFloat : List ℕ → Type 0
 EndsFloat text = IsFloatSuffix text ⊎ IsExponent text
 
--- What makes the digits before it a float.
+-- The tail that makes the digits before it a float.
 pub data IsTail : List ℕ → Type 0 where
   -- A `.` alone.
   Dot : IsTail (46 ∷ [])
-  -- A `.`, digits, and an end.
+  -- A `.`, a fraction's digits, and the end of a float.
   Fraction : (digits end : List ℕ) → IsDigits digits → EndsFloat end → IsTail (46 ∷ (digits ++ end))
-  -- An end that is not empty.
+  -- A non-empty end of a float.
   End : (c : ℕ) (cs : List ℕ) → EndsFloat (c ∷ cs) → IsTail (c ∷ cs)
 
--- Digits, and what makes them a float.
+-- A float: digits, and a tail that makes them one.
 pub record IsFloat (text : List ℕ) : Type 0 where
   pub digits : List ℕ
   pub tail : List ℕ
@@ -120,60 +120,60 @@ pub record IsFloat (text : List ℕ) : Type 0 where
   pub own : IsDigits digits
   pub makes : IsTail tail
 
--- Letters, the quote, parts that such a literal may hold, and the quote again.
+-- A quoted literal: its prefix letters, the quote, parts that this kind of literal may contain, and the quote again.
 pub record IsQuoted (letters : List ℕ) (quote : Quote) (text : List ℕ) : Type 0 where
   pub body : List ℕ
   pub parts : List Part
   pub is : text ≡ letters ++ closing quote ∷ body
   pub holds : IsBody quote body parts
 
--- Letters before a raw string.
+-- Prefix letters and a raw string.
 pub record IsRaw (letters text : List ℕ) : Type 0 where
   pub raw : List ℕ
   pub value : List ℕ
   pub is : text ≡ letters ++ raw
   pub own : IsRawOf raw value
 
--- `//`, and no line feed behind it.
+-- A line comment or documentation: `//` and the rest of its line.
 pub record IsLineOf (text line : List ℕ) : Type 0 where
   pub is : text ≡ 47 ∷ 47 ∷ line
   pub one : IsTrue (list_all is_in_line line)
 
--- What stands behind `/*`, up to the `*/` that closes it: each `/*` in it has its own `*/`.
+-- The text after `/*`, up to the `*/` that closes it: each `/*` in it has its own `*/`.
 pub data Closes : List ℕ → Type 0 where
-  -- `*/`.
+  -- The closing `*/`.
   Close : Closes (42 ∷ 47 ∷ [])
-  -- A character that begins neither `/*` nor `*/`, and more.
+  -- A character that begins neither `/*` nor `*/`, and the rest.
   Other : (c : ℕ) (more : List ℕ) → BeginsNot (47 ∷ 42 ∷ []) (c ∷ more) → BeginsNot (42 ∷ 47 ∷ []) (c ∷ more) → Closes more → Closes (c ∷ more)
-  -- A whole block, and more.
+  -- A complete nested block, and the rest.
   Block : (inside more : List ℕ) → Closes inside → Closes more → Closes (47 ∷ 42 ∷ (inside ++ more))
 
--- `/*`, and what stands behind it up to the `*/` that closes it.
+-- A block comment or documentation: `/*` and the text up to the `*/` that closes it.
 pub record IsBlockOf (text inside : List ℕ) : Type 0 where
   pub is : text ≡ 47 ∷ 42 ∷ inside
   pub closes : Closes inside
 
--- Behind `//` a third `/`, and no fourth, makes documentation.
+-- The text after `//` begins with `/` and not with `//`: outer documentation.
 abbrev pub DocumentsLine : List ℕ → Type 0
 DocumentsLine line = BeginsWith (47 ∷ []) line × BeginsNot (47 ∷ 47 ∷ []) line
 
--- Behind `/*` another `*`, and behind that neither `*` nor `/`.
+-- The text after `/*` begins with `*`, but with neither `**` nor `*/`: outer documentation.
 abbrev pub DocumentsBlock : List ℕ → Type 0
 DocumentsBlock inside = BeginsWith (42 ∷ []) inside × BeginsNot (42 ∷ 42 ∷ []) inside × BeginsNot (42 ∷ 47 ∷ []) inside
 
--- Documentation of a line.
+-- Outer documentation on one line.
 abbrev pub IsLineDoc : List ℕ → Type 0
 IsLineDoc text = (line : List ℕ) × IsLineOf text line × DocumentsLine line
 
--- Documentation of a block.
+-- Outer documentation as a block.
 abbrev pub IsBlockDoc : List ℕ → Type 0
 IsBlockDoc text = (inside : List ℕ) × IsBlockOf text inside × DocumentsBlock inside
 
--- A comment of a line: no documentation, nor inner documentation, which begins with `!`.
+-- A line comment: neither outer documentation nor inner documentation, which begins with `!`.
 abbrev pub IsLineComment : List ℕ → Type 0
 IsLineComment text = (line : List ℕ) × IsLineOf text line × (DocumentsLine line → ⊥) × BeginsNot (33 ∷ []) line
 
--- A comment of a block, the same.
+-- A block comment: neither outer documentation nor inner documentation, which begins with `!`.
 abbrev pub IsBlockComment : List ℕ → Type 0
 IsBlockComment text = (inside : List ℕ) × IsBlockOf text inside × (DocumentsBlock inside → ⊥) × BeginsNot (33 ∷ []) inside
 

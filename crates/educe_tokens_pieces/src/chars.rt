@@ -51,8 +51,8 @@ pub fn is_word_start(c: char) -> bool
     is_xid_start(c) || c == '_'
 }
 
-/// Whether the text begins with the mark, as a quote or a `#` (Rust Reference, Character and string
-/// literals).
+/// Whether the text begins with this character, as a quote or a `#` (Rust Reference, Character and
+/// string literals).
 pub fn begins_with(text: &[char], mark: char) -> bool
     ensures { result ≡ begins (λ c. c == mark) text.now }
 {

@@ -78,7 +78,7 @@ fn opens_block_doc(rest: &[char]) -> bool
     }
 }
 
-/// What a comment is that documents what follows it, or doesn't.
+/// The kind of a comment: documentation, or a comment that documents nothing.
 pub fn comment_kind(documents: bool) -> PieceKind
     ensures { result ≡ comment_kind documents }
 {

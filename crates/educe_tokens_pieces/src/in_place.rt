@@ -1,5 +1,5 @@
-//! Pieces where they stand in a text, with no list of its characters. Each function answers what
-//! follows the piece.
+//! Scanners that work on the text itself, with no list of its characters. Each function returns the
+//! rest of the text after the piece.
 ghost use Rattle.std.specs.Prelude.{◌≡◌, ◌+◌, ◌<◌, ◌++◌, ◌∷◌, ◌==◌, [], false, chars, length, IsTrue, IfSome, MatchOption};
 ghost use Rattle.std.specs.List.{list_all};
 ghost use Rattle.educe_tokens_pieces.specs.Chars.{begins, is_blank, is_in_line};
@@ -27,7 +27,7 @@ pub fn first_of(text: &str) -> Option<(char, &str)>
     Some((first, rest.as_str()))
 }
 
-/// Whether a text begins with the mark.
+/// Whether a text begins with this character.
 pub fn text_begins(text: &str, mark: char) -> bool
     ensures { result ≡ begins (λ c. c == mark) (chars text.now) }
 {
@@ -37,7 +37,7 @@ pub fn text_begins(text: &str, mark: char) -> bool
     }
 }
 
-/// Whether no character stands at the front that goes on with a word (Rust Reference, Identifiers).
+/// Whether the text begins with no character that continues a word (Rust Reference, Identifiers).
 pub fn ends_word(rest: &str) -> bool
     ensures { result ≡ ends_word_before (chars rest.now) }
 {
@@ -47,7 +47,7 @@ pub fn ends_word(rest: &str) -> bool
     }
 }
 
-/// Whether a character stands at the front that makes a word before it no piece (Rust Reference,
+/// Whether the text begins with a character that makes a word before it no piece (Rust Reference,
 /// Reserved prefixes).
 pub fn text_touches_word(rest: &str) -> bool
     ensures { result ≡ begins touches_word (chars rest.now) }
@@ -58,7 +58,7 @@ pub fn text_touches_word(rest: &str) -> bool
     }
 }
 
-/// What follows the mark, where a text begins with it.
+/// The rest of the text after its first character, where that is the given one.
 pub fn behind_mark(text: &str, mark: char) -> Option<&str>
     ensures parts { IfSome result (λ rest. chars text.now ≡ mark ∷ chars rest.now) }
     ensures none { result ≡ None → begins (λ c. c == mark) (chars text.now) ≡ false }
@@ -68,7 +68,7 @@ pub fn behind_mark(text: &str, mark: char) -> Option<&str>
     if c == mark { Some(rest) } else { None }
 }
 
-/// What follows the blanks at the front.
+/// The rest of the text after its leading blanks.
 pub fn behind_blanks(text: &str) -> &str
     ensures { HasFront (list_all is_blank) (chars text.now) (chars result.now) }
 {
@@ -83,7 +83,7 @@ pub fn behind_blanks(text: &str) -> &str
     rest
 }
 
-/// What follows the characters at the front that go on with a word.
+/// The rest of the text after the leading characters that continue a word.
 fn behind_continues(text: &str) -> &str
     ensures { HasFront (list_all is_xid_continue) (chars text.now) (chars result.now) }
 {
@@ -98,7 +98,7 @@ fn behind_continues(text: &str) -> &str
     rest
 }
 
-/// What follows the word at the front, if one is there.
+/// The rest of the text after its first word, if it begins with one.
 pub fn behind_word(text: &str) -> Option<&str>
     ensures { IfSome result (λ rest. HasFront is_word (chars text.now) (chars rest.now)) }
 {
@@ -110,7 +110,7 @@ pub fn behind_word(text: &str) -> Option<&str>
     }
 }
 
-/// The line at the front, and what follows it: nothing, or a line feed first.
+/// The first line of the text and the rest, which is empty or begins with a line feed.
 pub fn split_line(text: &str) -> (&str, &str)
     ensures line { IsTrue (list_all is_in_line (chars result.0.now)) }
     ensures parts { chars text.now ≡ chars result.0.now ++ chars result.1.now }
@@ -128,7 +128,7 @@ fn ends_in_slash(text: &str) -> bool
     text.ends_with('/')
 }
 
-/// What follows the two marks, which are ASCII, where a text begins with them.
+/// The rest of the text after the two given ASCII characters, where it begins with them.
 fn behind_pair(text: &str, first: u8, second: u8) -> Option<&str>
     requires ascii { (first < 128) × (second < 128) }
     ensures parts { IfSome result (λ rest. chars text.now ≡ first ∷ second ∷ chars rest.now) }
@@ -149,7 +149,8 @@ fn behind_pair(text: &str, first: u8, second: u8) -> Option<&str>
     }
 }
 
-/// What follows the block comment that the text is in, if it closes and maybe has others in it.
+/// The rest of the text after the end of the block comment that it is in, which may nest others, if
+/// it closes.
 fn behind_nested(text: &str) -> Option<&str>
     ensures front { IfSome result (λ rest. HasFront (closes_comment 0) (chars text.now) (chars rest.now)) }
     ensures none { result ≡ None → closing_len 0 (chars text.now) ≡ None }
@@ -173,7 +174,8 @@ fn behind_nested(text: &str) -> Option<&str>
     }
 }
 
-/// What follows the block comment that the text is in, if it closes. Few have another in them.
+/// The rest of the text after the end of the block comment that it is in, if it closes. Fast where
+/// none is nested in it.
 pub fn behind_block(text: &str) -> Option<&str>
     ensures front { IfSome result (λ rest. HasFront (closes_comment 0) (chars text.now) (chars rest.now)) }
     ensures none { result ≡ None → closing_len 0 (chars text.now) ≡ None }
@@ -186,7 +188,7 @@ pub fn behind_block(text: &str) -> Option<&str>
     }
 }
 
-/// What follows the literal behind its opening quote, if it ends.
+/// The rest of the text after the literal whose opening quote stands before it, if it ends.
 pub fn behind_quoted(quote: Quote, text: &str) -> Option<&str>
     ensures { IfSome result (λ rest. HasFront (ends (Within.Open quote)) (chars text.now) (chars rest.now)) }
 {

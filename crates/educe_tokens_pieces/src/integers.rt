@@ -24,8 +24,8 @@ pub(crate) fn begins_digit(text: &[char]) -> bool
     matches!(text, [c, ..] if c.is_ascii_digit())
 }
 
-/// Digits before this are a float: a `.`, and then not `.`, `_` or XID_Start (Rust Reference,
-/// Floating-point literals).
+/// Whether the rest turns the digits before it into a float: a `.`, not followed by `.`, `_` or
+/// XID_Start (Rust Reference, Floating-point literals).
 pub(crate) fn makes_float(rest: &[char]) -> bool
     ensures { result ≡ makes_float rest.now }
 {
@@ -47,7 +47,7 @@ fn radix(base: Base) -> u32
     }
 }
 
-/// How many characters write the base: none for the decimal one.
+/// The length of the radix prefix: none for decimal integers.
 fn mark_length(base: Base) -> usize
     ensures { result ≡ mark_length base }
 {
@@ -57,7 +57,7 @@ fn mark_length(base: Base) -> usize
     }
 }
 
-/// The base by what stands behind a `0`.
+/// The base that the character after a leading `0` selects.
 fn base_behind(mark: char) -> Base
     ensures { result ≡ base_behind (mark ∷ []) }
 {
@@ -69,7 +69,7 @@ fn base_behind(mark: char) -> Base
     }
 }
 
-/// The base by how the spelling begins.
+/// The base of an integer, by its radix prefix.
 fn base_of(spelling: &[char]) -> Base
     ensures { result ≡ base_of spelling.now }
 {
@@ -85,14 +85,14 @@ fn is_digit_or_mark(base: Base, c: char) -> bool
     c.is_digit(radix(base)) || c == '_'
 }
 
-/// What stands behind the mark of the base.
+/// The spelling after its radix prefix.
 fn unmarked(spelling: &[char]) -> &[char]
     ensures { result.now ≡ unmarked spelling.now }
 {
     &spelling[mark_length(base_of(spelling))..]
 }
 
-/// How many digits and `_` stand there.
+/// The number of digits and `_` after the radix prefix.
 fn digit_count(spelling: &[char]) -> usize
     ensures value { result ≡ digit_count spelling.now }
     ensures within { result ≤ length (unmarked spelling.now) }
@@ -104,14 +104,14 @@ fn digit_count(spelling: &[char]) -> usize
         .count()
 }
 
-/// The digits, `_` among them.
+/// The digits of an integer, `_` among them.
 fn digits_of(spelling: &[char]) -> &[char]
     ensures { result.now ≡ digits_of spelling.now }
 {
     &unmarked(spelling)[..digit_count(spelling)]
 }
 
-/// What stands behind the digits.
+/// What follows the digits of an integer.
 pub(crate) fn suffix_of(spelling: &[char]) -> &[char]
     ensures { result.now ≡ suffix_of spelling.now }
 {
@@ -132,14 +132,14 @@ fn is_integer_type(suffix: &[char]) -> bool
     }
 }
 
-/// No suffix, or a type of integers.
+/// Whether the suffix is empty or an integer type.
 fn is_int_suffix(suffix: &[char]) -> bool
     ensures { result ≡ is_int_suffix suffix.now }
 {
     suffix.is_empty() || is_integer_type(suffix)
 }
 
-/// A digit of the base is among them.
+/// Whether at least one digit of the base is in the list.
 fn has_digit(base: Base, digits: &[char]) -> bool
     ensures { result ≡ has_digit base digits.now }
 {
@@ -147,7 +147,7 @@ fn has_digit(base: Base, digits: &[char]) -> bool
     digits.iter().any(|c| c.is_digit(radix))
 }
 
-/// An integer of any size.
+/// Whether the spelling has the form of an integer, of any size.
 pub(crate) fn has_int_form(spelling: &[char]) -> bool
     ensures { result ≡ has_int_form spelling.now }
 {
@@ -156,7 +156,7 @@ pub(crate) fn has_int_form(spelling: &[char]) -> bool
         && is_int_suffix(suffix_of(spelling))
 }
 
-/// The value with one more digit, or with one more `_`, if it is within `u128`.
+/// The value with one more digit, or with one more `_`, if it fits in `u128`.
 fn with_digit(base: Base, value: u128, c: char) -> Option<u128>
     requires { IsTrue (is_digit_or_mark base c) }
     ensures { SomeIff result (with_digit base value c < 2 ^ 128) (with_digit base value c) }
@@ -171,7 +171,7 @@ fn with_digit(base: Base, value: u128, c: char) -> Option<u128>
     }
 }
 
-/// The number that digits write, `_` aside, if it is within `u128`.
+/// The number that digits write, `_` ignored, if it fits in `u128`.
 fn digits_number(base: Base, digits: &[char]) -> Option<u128>
     requires { IsTrue (list_all (is_digit_or_mark base) digits.now) }
     ensures { SomeIff result (digits_number base digits.now < 2 ^ 128) (digits_number base digits.now) }
@@ -183,14 +183,14 @@ fn digits_number(base: Base, digits: &[char]) -> Option<u128>
     Some(value)
 }
 
-/// The value is within `u128`.
+/// Whether the value of the integer fits in `u128`.
 pub(crate) fn fits_u128(spelling: &[char]) -> bool
     ensures { result ≡ fits_u128 spelling.now }
 {
     digits_number(base_of(spelling), digits_of(spelling)).is_some()
 }
 
-/// The base by how the bytes begin.
+/// The base of an integer, by the radix prefix among its bytes.
 fn base_of_bytes(bytes: &[u8]) -> Base
     ensures { result ≡ base_of bytes.now }
 {
@@ -200,8 +200,8 @@ fn base_of_bytes(bytes: &[u8]) -> Base
     }
 }
 
-/// The value of an integer literal of at most 2^128 - 1, which each integer token is (Rust
-/// Reference, Integer literals). Never None for such a text.
+/// The value of an integer literal, at most 2^128 - 1 (Rust Reference, Integer literals). It is
+/// never None for the spelling of an integer token.
 pub fn int_value(text: &str) -> Option<u128>
     requires { IsTrue (is_int (chars text.now)) }
     ensures { result ≡ Some (int_value_of (chars text.now)) }

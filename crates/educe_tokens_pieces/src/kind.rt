@@ -52,6 +52,6 @@ pub enum PieceKind {
     /// A comment that is no documentation.
     Comment,
     Token(TokenKind),
-    /// A literal that no token carries.
+    /// An unsupported literal.
     Uncarried(UncarriedKind),
 }

@@ -8,7 +8,7 @@ use crate::integers::{fits_u128, has_int_form, makes_float, suffix_of};
 use crate::kind::{LiteralKind, PieceKind, TokenKind, UncarriedKind};
 use crate::words::{continue_len, ends_word_before};
 
-/// An integer is supported where its value is within `u128`.
+/// The kind of an integer: supported where its value fits in `u128`.
 fn int_kind(spelling: &[char]) -> PieceKind
     ensures { result ≡ int_kind spelling.now }
 {
@@ -19,7 +19,7 @@ fn int_kind(spelling: &[char]) -> PieceKind
     }
 }
 
-/// So many characters as an integer, if they are one.
+/// The first `len` characters as an integer, if they have the form of one.
 fn int_at(text: &[char], len: usize) -> Option<(PieceKind, usize)>
     requires { len ≤ length text.now }
     ensures value { result ≡ int_at text.now len }
@@ -49,15 +49,15 @@ pub fn number_at(text: &[char]) -> Option<(PieceKind, usize)>
     }
 }
 
-/// An integer may stand before this: without a suffix it may not become a float (Rust Reference,
-/// Integer literals).
+/// Whether an integer may stand before this rest: one without a suffix must not become a float
+/// (Rust Reference, Integer literals).
 pub fn may_follow_int(spelling: &[char], rest: &[char]) -> bool
     ensures { result ≡ may_follow_int spelling.now rest.now }
 {
     ends_word_before(rest) && (!suffix_of(spelling).is_empty() || !makes_float(rest))
 }
 
-/// A float may stand before this: its last `.` may not become one of two (Rust Reference,
+/// Whether a float may stand before this rest: a trailing `.` must not become `..` (Rust Reference,
 /// Floating-point literals).
 pub fn may_follow_float(spelling: &[char], rest: &[char]) -> bool
     ensures { result ≡ may_follow_float spelling.now rest.now }

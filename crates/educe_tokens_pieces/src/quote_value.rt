@@ -18,8 +18,8 @@ fn push_given(value: &mut String, given: Option<char>) -> Result<(), AllocError>
     }
 }
 
-/// The value of a string literal that is not raw; of any other text, what it gives up to where it is
-/// none. Fails only when out of memory (Rust Reference, String literals).
+/// The value of a string literal that is not raw; for any other text, the value of its characters
+/// up to the first error. Fails only when out of memory (Rust Reference, String literals).
 pub fn str_value(alloc: Global, literal: &str) -> Result<String, AllocError>
     ensures given { IfOk result (λ s. chars (string_bytes s) ≡ given (Within.Open Quote.Str) (drop 1 (chars literal.now))) }
     ensures value { IfOk result (λ s. (parts : List Part) → IsBody Quote.Str (drop 1 (chars literal.now)) parts → chars (string_bytes s) ≡ value_of parts) }

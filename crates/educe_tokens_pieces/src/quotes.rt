@@ -17,10 +17,10 @@ pub enum Quote {
     Byte,
 }
 
-/// Where in a literal a character stands.
+/// The state of a scan in a quoted literal.
 #[derive(Clone, Copy)]
 pub enum Within {
-    /// Before a part or the mark at the end.
+    /// Before a part or the closing quote.
     Open(Quote),
     /// Behind a `\` at the end of a line: spaces that follow have no value.
     Break(Quote),
@@ -40,14 +40,14 @@ pub enum Within {
     Close(Quote),
 }
 
-/// What a character does.
+/// The effect of one character on the scan of a literal.
 #[derive(Clone, Copy)]
 pub enum Next {
     /// The literal goes on.
     Go(Within),
     /// The literal ends here.
     End,
-    /// This is no such literal.
+    /// The text is no such literal.
     Stop,
 }
 
@@ -228,7 +228,7 @@ fn code_step(quote: Quote, digits: u32, value: u32, c: char) -> Next
     }
 }
 
-/// What a character does that stands there.
+/// The step that a character makes from a state.
 #[inline(always)]
 pub(crate) fn step(within: Within, c: char) -> Next
     requires { IsTrue (is_reachable within) }
@@ -328,8 +328,9 @@ pub(crate) fn gives(within: Within, c: char) -> Option<char>
     }
 }
 
-/// How many characters of a text behind the opening quote the literal takes, with the mark at its
-/// end: None where no such literal stands there (Rust Reference, Literal expressions).
+/// The number of characters that a literal takes after its opening quote, the closing quote
+/// included: None where the text does not continue such a literal (Rust Reference, Literal
+/// expressions).
 pub fn quote_end(quote: Quote, text: &[char]) -> Option<usize>
     ensures value { result ≡ end_at (Within.Open quote) text.now }
     ensures within { IfSome result (λ n. n ≤ length text.now) }
@@ -345,8 +346,8 @@ pub fn quote_end(quote: Quote, text: &[char]) -> Option<usize>
     None
 }
 
-/// Whether the text, which stands behind an opening quote, is the rest of such a literal: its parts
-/// and the mark at the end (Rust Reference, Literal expressions). Its parts have one value only.
+/// Whether the text, which stands after an opening quote, is the rest of such a literal: its parts
+/// and the closing quote (Rust Reference, Literal expressions).
 pub fn is_body(quote: Quote, text: &[char]) -> bool
     ensures value { result ≡ ends (Within.Open quote) text.now }
     ensures is { IsTrue result → (parts : List Part) × IsBody quote text.now parts }

@@ -20,7 +20,7 @@ fn closes(marks: usize, first: char, rest: &[char]) -> bool
     first == '"' && marks <= mark_count(rest)
 }
 
-/// How many characters it takes until the raw text ends, behind its opening quote.
+/// The number of characters after the opening quote up to the end of the raw text.
 fn raw_closing_len(marks: usize, text: &[char]) -> Option<usize>
     ensures value { result ≡ raw_closing_len marks text.now }
     ensures within { IfSome result (λ n. n ≤ length text.now) }
@@ -61,7 +61,7 @@ fn split_marks(text: &str) -> (usize, &str)
     (count, rest)
 }
 
-/// How the raw text with the most `#` ends. The end of any other one begins so.
+/// The end of the raw text with the most `#`, of which the end of any other is a prefix.
 const LONGEST_END: &str = "\"\
     ###################################################\
     ###################################################\

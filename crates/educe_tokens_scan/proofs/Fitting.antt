@@ -17,7 +17,7 @@ pub behind_one : (test : List ℕ → Bool) (kind : PieceKind) (c : ℕ) (cs : L
 behind_one test kind c cs None h f = tt
 behind_one test kind c cs (Some n) h f = longer_fits kind c cs n h.2 (f (take n cs) h.0)
 
--- the same behind two
+-- behind two characters: what passes is a piece with them
 pub behind_two : (test : List ℕ → Bool) (kind : PieceKind) (c d : ℕ) (cs : List ℕ) (o : Option ℕ) → FrontPasses test cs o → ((s : List ℕ) → test s ≡ true → is_piece kind (c ∷ d ∷ s) ≡ true) → Fits (c ∷ d ∷ cs) (longer_by 2 kind o)
 behind_two test kind c d cs None h f = tt
 behind_two test kind c d cs (Some n) h f =
@@ -32,6 +32,6 @@ longer_found k n m kind o h e = ap (longer_by k kind) h ∙ same_length kind _ _
 pub behind_one_found : (kind : PieceKind) (c : ℕ) (s cs r : List ℕ) (o : Option ℕ) → s ≡ c ∷ cs → candidate (c ∷ (cs ++ r)) ≡ longer_by 1 kind o → o ≡ Some (length cs) → candidate (s ++ r) ≡ Some (kind, length s)
 behind_one_found kind c s cs r o is tries found = subst (λ x. candidate (x ++ r) ≡ Some (kind, length x)) (sym is) (tries ∙ longer_found 1 (length cs) _ kind o found (omega arith))
 
--- the same behind two
+-- a piece that is two characters and what was found behind them is found
 pub behind_two_found : (kind : PieceKind) (c d : ℕ) (s cs r : List ℕ) (o : Option ℕ) → s ≡ c ∷ d ∷ cs → candidate (c ∷ d ∷ (cs ++ r)) ≡ longer_by 2 kind o → o ≡ Some (length cs) → candidate (s ++ r) ≡ Some (kind, length s)
 behind_two_found kind c d s cs r o is tries found = subst (λ x. candidate (x ++ r) ≡ Some (kind, length x)) (sym is) (tries ∙ longer_found 2 (length cs) _ kind o found (omega arith))

@@ -61,7 +61,7 @@ before_end Doc s e h = absurd (false≢true h)
 line_feed_no_touch : touches_word 10 ≡ false
 line_feed_no_touch = ap (λ b. b || ((10 == 34) || (10 == 39) || (10 == 35))) line_feed_no_continue
 
--- so may a lifetime
+-- a lifetime may stand before a line feed
 line_feed_no_lifetime : touches_lifetime 10 ≡ false
 line_feed_no_lifetime = ap (λ b. b || (10 == 39)) line_feed_no_continue
 
@@ -70,11 +70,11 @@ opens_comment-line_feed : (r b : List ℕ) → opens_comment (r ++ 10 ∷ b) ≡
 opens_comment-line_feed [] b = refl
 opens_comment-line_feed (c ∷ r) b = ap (λ t. (c == 47) && t) (begins-append is_slash_or_star r (10 ∷ b) refl)
 
--- nor whether a punct before it is joint
+-- a line feed behind a list doesn't change whether a punct before it is joint
 is_joint-line_feed : (r b : List ℕ) → is_joint (r ++ 10 ∷ b) ≡ is_joint r
 is_joint-line_feed r b = λ i. begins-append is_punct r (10 ∷ b) refl i && not (opens_comment-line_feed r b i)
 
--- nor whether a literal may
+-- a line feed behind a list doesn't change whether a literal may stand before it
 literal-line_feed : (kind : LiteralKind) (s r b : List ℕ) → may_precede (Token (Literal kind)) s (r ++ 10 ∷ b) ≡ may_precede (Token (Literal kind)) s r
 literal-line_feed Int s r b = may_follow_int-line_feed s r b
 literal-line_feed Str s r b = ends_word_before-line_feed r b

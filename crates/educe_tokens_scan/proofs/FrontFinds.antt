@@ -96,7 +96,7 @@ behind_word [] [] h m = refl
 behind_word [] (d ∷ r) h m = (or_parts (is_xid_continue d) _ m).1
 behind_word (d ∷ cs) r h m = continue_no_mark d (and_parts (is_xid_continue d) _ h).0
 
--- so no raw string goes on there
+-- no raw string continues where neither a quote nor `#` stands behind the word
 no_mark_no_raw : (text : List ℕ) → NoMark text → opens_raw text ≡ false
 no_mark_no_raw [] h = refl
 no_mark_no_raw (c ∷ cs) h = let p = or_parts (c == 34) (c == 35) (mark_parts c h).0 in or_from _ _ p.0 (and_left _ _ p.1)
@@ -105,13 +105,13 @@ no_mark_no_raw (c ∷ cs) h = let p = or_parts (c == 34) (c == 35) (mark_parts c
 no_r : (d : ℕ) → is_xid_continue d ≡ false → (d == 114) ≡ false
 no_r d h = false_from_ne_true _ (λ e. false≢true (sym h ∙ at_equal (λ x. is_xid_continue x ≡ true) d 114 (is_xid_continue-ascii 114 (omega arith)) e))
 
--- nor does a raw string behind one more letter
+-- no prefixed raw string continues behind a word that nothing touches
 no_prefixed_raw : (cs r : List ℕ) → list_all is_xid_continue cs ≡ true → begins touches_word r ≡ false → opens_prefixed_raw (cs ++ r) ≡ false
 no_prefixed_raw [] [] h m = refl
 no_prefixed_raw [] (d ∷ r) h m = and_left _ _ (no_r d (or_parts (is_xid_continue d) _ m).0)
 no_prefixed_raw (d ∷ cs) r h m = and_right (d == 114) _ (no_mark_no_raw (cs ++ r) (behind_word cs r (and_parts (is_xid_continue d) _ h).1 m))
 
--- nor anything else than a word
+-- the text continues a word and nothing else: no raw string, raw word or quoted literal
 pub record IsApart (text : List ℕ) : Type 0 where
   pub raw : opens_raw text ≡ false
   pub prefixed : opens_prefixed_raw text ≡ false
@@ -119,7 +119,7 @@ pub record IsApart (text : List ℕ) : Type 0 where
   pub double : begins (λ c. c == 34) text ≡ false
   pub single : begins (λ c. c == 39) text ≡ false
 
--- the same, with what is known of the raw strings behind one more letter
+-- a text where neither a quote nor `#` follows, nor a prefixed raw string, continues a word and nothing else
 no_mark_apart : (text : List ℕ) → NoMark text → opens_prefixed_raw text ≡ false → IsApart text
 no_mark_apart [] h p = record { raw = refl; prefixed = p; word = refl; double = refl; single = refl }
 no_mark_apart (c ∷ cs) h p =

@@ -37,7 +37,7 @@ if_ascii_is : (text : List ℕ) (o : Option ℕ) → FrontPasses is_raw text o �
 if_ascii_is text None h = tt
 if_ascii_is text (Some n) h = cond_both (list_all is_ascii (take n text)) (Some n) None (FrontPasses is_raw_ascii text) (λ e. (and_from _ _ h.0 e, h.1, h.2)) (λ _. tt)
 
--- so is what was found
+-- the raw text that was found is of ASCII characters
 raw_ascii_is : (text : List ℕ) → FrontPasses is_raw_ascii text (raw_ascii_len text)
 raw_ascii_is text = if_ascii_is text (raw_len text) (raw_is text)
 

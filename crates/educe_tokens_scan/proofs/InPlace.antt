@@ -43,11 +43,11 @@ pub stands_bytes : (text rest : List ℕ) (kind : PieceKind) → IsUtf8 text →
 stands_bytes text rest kind u v s =
     sym (encodes-chars text u) ∙ ap encode_utf8_all s.is ∙ encodes-append s.spelling (chars rest) ∙ ap (λ bs. encode_utf8_all s.spelling ++ bs) (encodes-chars rest v)
 
--- so the rest is no longer than the text
+-- the rest is no longer than the text
 pub rest_within : (text rest : List ℕ) (kind : PieceKind) → IsUtf8 text → IsUtf8 rest → Stands kind (chars text) (chars rest) → length rest ≤ length text
 rest_within text rest kind u v s = omega (arith, ap length (stands_bytes text rest kind u v s), length-append (encode_utf8_all s.spelling) rest)
 
--- so many bytes are the piece at the front
+-- the bytes before the rest are the piece at the start of the text
 pub front_is : (text rest : List ℕ) (kind : PieceKind) → IsUtf8 text → IsUtf8 rest → Stands kind (chars text) (chars rest) → IsFront text (kind, length text - length rest)
 front_is text rest kind u v s =
     let bytes = stands_bytes text rest kind u v s in
@@ -82,7 +82,7 @@ two_ahead (Uncarried Float) s c d xs ys = refl
 two_ahead (Uncarried WideInt) s c d xs ys = refl
 two_ahead (Uncarried CStr) s c d xs ys = refl
 
--- the same before more text
+-- whether a piece may stand before two characters is not changed by more text behind them
 pub two_before : (kind : PieceKind) (s r more : List ℕ) → 2 ≤ length r → may_precede kind s r ≡ may_precede kind s (r ++ more)
 two_before kind s [] more h = absurd (omega (arith, h))
 two_before kind s (c ∷ []) more h = absurd (omega (arith, h))

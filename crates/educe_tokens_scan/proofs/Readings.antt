@@ -24,7 +24,7 @@ pub piece_is : (text : List ℕ) → IsFound text (piece_at text)
 unfolding piece_at
 piece_is text = checked_found text (candidate text) (candidate_fits text)
 
--- the same where the scan's answer has a name
+-- what the scan finds is a piece, where its answer has a name
 pub found_is : (rest : List ℕ) (o : Option (PieceKind × ℕ)) (kind : PieceKind) (n : ℕ) → o ≡ piece_at rest → o ≡ Some (kind, n) → IsFound rest (Some (kind, n))
 found_is rest o kind n given is = subst (IsFound rest) (sym given ∙ is) (piece_is rest)
 
@@ -65,7 +65,7 @@ one_piece p q x y a b h =
     let text = sym (take-append_seam p.spelling x) ∙ (λ i. take (same.1 i) (h i)) ∙ take-append_seam q.spelling y in
     (same_piece p q same.0 text, sym (drop-append_seam p.spelling x) ∙ (λ i. drop (same.1 i) (h i)) ∙ drop-append_seam q.spelling y)
 
--- so the piece is the longest
+-- the piece at a place is the longest there
 pub piece_longest : (p : Piece) (text rest : List ℕ) → text ≡ p.spelling ++ rest → IsPiece p rest → IsLongest p text
 piece_longest p text rest e h = λ q more f k.
     let same = ap (λ (x : Piece). length x.spelling) (one_piece p q rest more h k (sym e ∙ f)).0 in

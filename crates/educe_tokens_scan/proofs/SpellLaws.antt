@@ -36,7 +36,7 @@ word_spelled : (s : List ℕ) → is_word s ≡ true → IsWord s
 word_spelled [] h = absurd (false≢true h)
 word_spelled (c ∷ cs) h = let p = and_parts _ _ h in record { first = c; more = cs; is = refl; starts = p.0; continues = p.1 }
 
--- and each word passes it
+-- each word passes the test
 word_tested : (s : List ℕ) → IsWord s → is_word s ≡ true
 word_tested s w = ap is_word w.is ∙ and_from _ _ w.starts w.continues
 
@@ -47,7 +47,7 @@ raw_word_spelled s h =
     let q = and_parts (is_word p.0) _ p.2 in
     record { word = p.0; is = p.1; own = word_spelled p.0 q.0; rawable = q.1 }
 
--- and each raw word passes it
+-- each raw word passes the test
 raw_word_tested : (s : List ℕ) → IsRawWord s → is_raw_word s ≡ true
 raw_word_tested s w = ap is_raw_word w.is ∙ and_from ((114 == 114) && (35 == 35)) _ refl (and_from _ _ (word_tested w.word w.own) w.rawable)
 
@@ -58,7 +58,7 @@ lifetime_spelled (c ∷ cs) h =
     let p = and_parts (c == 39) _ h in
     record { word = cs; is = ap (λ x. x ∷ cs) (eqb-true c 39 p.0); own = word_spelled cs p.1 }
 
--- and each lifetime passes it
+-- each lifetime passes the test
 lifetime_tested : (s : List ℕ) → IsLifetime s → is_lifetime s ≡ true
 lifetime_tested s w = ap is_lifetime w.is ∙ and_from (39 == 39) _ refl (word_tested w.word w.own)
 
@@ -69,7 +69,7 @@ quoted_spelled q s h =
     let b = ends_body q p.0 p.2 in
     record { body = p.0; parts = b.0; is = p.1; holds = b.1 }
 
--- and each literal between quotes passes it
+-- each quoted literal passes the test
 quoted_tested : (q : Quote) (s : List ℕ) → IsQuoted [] q s → is_quoted q (closing q) s ≡ true
 quoted_tested q s w = ap (is_quoted q (closing q)) w.is ∙ quoted_from q (closing q) w.body (body_ends q w.body w.parts w.holds).0
 
@@ -80,7 +80,7 @@ prefixed_spelled letter q s h =
     let b = ends_body q p.0 p.2 in
     record { body = p.0; parts = b.0; is = p.1; holds = b.1 }
 
--- and each one behind a letter passes it
+-- each prefixed quoted literal passes the test
 prefixed_tested : (letter : ℕ) (q : Quote) (s : List ℕ) → IsQuoted (letter ∷ []) q s → is_prefixed letter q (closing q) s ≡ true
 prefixed_tested letter q s w = ap (is_prefixed letter q (closing q)) w.is ∙ prefixed_from letter q (closing q) w.body (body_ends q w.body w.parts w.holds).0
 
@@ -88,7 +88,7 @@ prefixed_tested letter q s w = ap (is_prefixed letter q (closing q)) w.is ∙ pr
 raw_spelled : (s : List ℕ) → is_raw_str s ≡ true → IsRaw [] s
 raw_spelled s h = let v = raw_str_of s h in record { raw = s; value = v.0; is = refl; own = v.1 }
 
--- and each raw string passes it
+-- each raw string passes the test
 raw_tested : (s : List ℕ) → IsRaw [] s → is_raw_str s ≡ true
 raw_tested s w = ap is_raw_str w.is ∙ raw_str_from w.raw w.value w.own
 
@@ -104,7 +104,7 @@ raw_byte_spelled (c ∷ cs) h =
     let q = and_parts (is_raw_str cs) _ p.1 in
     (lettered 98 c cs p.0 q.0, and_from (is_ascii c) _ (at_equal (λ x. is_ascii x ≡ true) c 98 refl p.0) q.1)
 
--- and each raw byte string passes it
+-- each raw byte string passes the test
 raw_byte_tested : (s : List ℕ) → IsRaw (98 ∷ []) s → list_all is_ascii s ≡ true → is_raw_byte_str s ≡ true
 raw_byte_tested s w a =
     let ascii = and_parts (is_ascii 98) _ (ap (list_all is_ascii) (sym w.is) ∙ a) in
@@ -115,7 +115,7 @@ raw_c_spelled : (s : List ℕ) → is_raw_c_str s ≡ true → IsRaw (99 ∷ [])
 raw_c_spelled [] h = absurd (false≢true h)
 raw_c_spelled (c ∷ cs) h = let p = and_parts (c == 99) _ h in lettered 99 c cs p.0 p.1
 
--- and each raw C string passes it
+-- each raw C string passes the test
 raw_c_tested : (s : List ℕ) → IsRaw (99 ∷ []) s → is_raw_c_str s ≡ true
 raw_c_tested s w = ap is_raw_c_str w.is ∙ and_from (99 == 99) _ refl (raw_str_from w.raw w.value w.own)
 
@@ -128,7 +128,7 @@ line_spelled (c ∷ d ∷ cs) h =
     let q = and_parts (c == 47) (d == 47) p.0 in
     record { is = λ i. eqb-true c 47 q.0 i ∷ eqb-true d 47 q.1 i ∷ cs; one = p.1 }
 
--- and each line passes it
+-- each line comment passes the test
 line_tested : (s line : List ℕ) → IsLineOf s line → is_line s ≡ true
 line_tested s line w = ap is_line w.is ∙ and_from ((47 == 47) && (47 == 47)) _ refl w.one
 
@@ -141,7 +141,7 @@ block_spelled (c ∷ d ∷ cs) h =
     let q = and_parts (c == 47) (d == 42) p.0 in
     record { is = λ i. eqb-true c 47 q.0 i ∷ eqb-true d 42 q.1 i ∷ cs; closes = block_closes cs p.1 }
 
--- and each block passes it
+-- each block comment passes the test
 block_tested : (s inside : List ℕ) → IsBlockOf s inside → is_block s ≡ true
 block_tested s inside w = ap is_block w.is ∙ and_from ((47 == 47) && (42 == 42)) _ refl (closes_counted inside w.closes)
 
@@ -154,7 +154,7 @@ begins_is a (c ∷ cs) h = (cs, ap (λ x. x ∷ cs) (eqb-true c a h))
 begins_not : (a : ℕ) (s : List ℕ) → begins (λ c. c == a) s ≡ false → BeginsNot (a ∷ []) s
 begins_not a s h = λ m. false≢true (sym h ∙ ap (begins (λ c. c == a)) m.1 ∙ eq-eqb a a refl)
 
--- and what does not fails it
+-- a text that doesn't begin with the character fails the test
 begins_none : (a : ℕ) (s : List ℕ) → BeginsNot (a ∷ []) s → begins (λ c. c == a) s ≡ false
 begins_none a s h = false_from_ne_true _ (λ e. h (begins_is a s e))
 
@@ -165,7 +165,7 @@ line_documents (c ∷ cs) h =
     let p = and_parts (c == 47) _ h in
     (begins_is 47 (c ∷ cs) p.0, λ m. false≢true (sym (not-true _ p.1) ∙ ap (λ t. begins (λ d. d == 47) (drop 1 t)) m.1))
 
--- and what does passes it
+-- a line that documents passes the test
 documents_line : (s : List ℕ) → DocumentsLine s → opens_line_doc s ≡ true
 documents_line s h =
     let none = begins_none 47 h.0.0 (λ m. h.1 (m.0, h.0.1 ∙ ap (λ t. 47 ∷ t) m.1)) in
@@ -187,7 +187,7 @@ begins_neither : (s : List ℕ) → BeginsNot (42 ∷ []) s → BeginsNot (47 �
 begins_neither [] star slash = refl
 begins_neither (c ∷ cs) star slash = or_from (c == 47) (c == 42) (begins_none 47 (c ∷ cs) slash) (begins_none 42 (c ∷ cs) star)
 
--- and what does passes it
+-- a block that documents passes the test
 documents_block : (s : List ℕ) → DocumentsBlock s → opens_block_doc s ≡ true
 documents_block s h =
     let behind : (a : ℕ) → BeginsNot (42 ∷ a ∷ []) s → BeginsNot (a ∷ []) h.0.0 = λ a no m. no (m.0, h.0.1 ∙ ap (λ t. 42 ∷ t) m.1) in
@@ -201,7 +201,7 @@ doc_spelled s h =
     (λ b. let p = and_parts (is_block s) _ b in inr (drop 2 s, block_spelled s p.0, block_documents (drop 2 s) p.1))
     (or_cases (is_line_doc s) (is_block_doc s) h)
 
--- and all documentation passes it
+-- all documentation passes the test
 doc_tested : (s : List ℕ) → IsLineDoc s ⊎ IsBlockDoc s → is_doc s ≡ true
 doc_tested s h =
     ⊎_elim (λ l. or_left _ _ (and_from (is_line s) _ (line_tested s l.0 l.1) (ap (λ t. opens_line_doc (drop 2 t)) l.1.is ∙ documents_line l.0 l.2)))
@@ -221,7 +221,7 @@ comment_spelled s h =
     inr (drop 2 s, block_spelled s p.0, λ d. false≢true (sym none.0 ∙ documents_block (drop 2 s) d), begins_not 33 (drop 2 s) none.1))
     (or_cases (is_line_comment s) (is_block_comment s) h)
 
--- and each comment passes it
+-- each comment passes the test
 comment_tested : (s : List ℕ) → IsLineComment s ⊎ IsBlockComment s → is_comment s ≡ true
 comment_tested s h =
     ⊎_elim (λ l.
@@ -274,7 +274,7 @@ uncarried_sound Float s h = float_spelled s h
 uncarried_sound WideInt s h = wide_int_spelled s h
 uncarried_sound CStr s h = ⊎_elim (λ e. inl (prefixed_spelled 99 InCStr s e)) (λ e. inr (raw_c_spelled s e)) (or_cases (is_c_str s) (is_raw_c_str s) h)
 
--- and what spells one passes the test
+-- each unsupported literal passes the test
 pub uncarried_complete : (kind : UncarriedKind) (s : List ℕ) → SpellsUncarried kind s → spells_uncarried kind s ≡ true
 uncarried_complete Float s h = float_tested s h
 uncarried_complete WideInt s h = wide_int_tested s h
@@ -289,7 +289,7 @@ piece_sound Comment s h = comment_spelled s h
 piece_sound (Token kind) s h = spells_sound kind s h
 piece_sound (Uncarried kind) s h = uncarried_sound kind s h
 
--- and what is one passes the test
+-- each piece passes the test
 pub piece_complete : (kind : PieceKind) (s : List ℕ) → IsPieceOf kind s → is_piece kind s ≡ true
 piece_complete Blank s h = ap (is_piece Blank) h.2 ∙ h.1
 piece_complete Comment s h = comment_tested s h

@@ -58,11 +58,11 @@ whole_is kind s h =
     let fits : Fits s (Some (unjoined kind, length s)) = subst (Fits s) h (candidate_fits s) in
     sym (same_spelling kind s) ∙ sym (ap (is_piece (unjoined kind)) (take-length s)) ∙ fits.0
 
--- and it takes each
+-- the scan takes each piece for one
 whole_only : (kind : PieceKind) (s : List ℕ) → is_piece kind s ≡ true → IsWhole (unjoined kind) s
 whole_only kind s h = ap candidate (sym (append-nil s)) ∙ candidate_finds (unjoined kind) s [] (same_spelling kind s ∙ h) (ends_text kind s)
 
--- so a test for that is the test for the piece
+-- a test that agrees with the scan of a whole text is the test for the piece
 pub whole_value : (kind : PieceKind) (s : List ℕ) (b : Bool) → (b ≡ true → IsWhole (unjoined kind) s) → (IsWhole (unjoined kind) s → b ≡ true) → b ≡ is_piece kind s
 whole_value kind s true is only = sym (whole_is kind s (is refl))
 whole_value kind s false is only = sym (false_from_ne_true _ (λ e. false≢true (only (whole_only kind s e))))

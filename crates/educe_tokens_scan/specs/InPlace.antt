@@ -1,4 +1,4 @@
--- The piece at the front of a text, where it stands.
+-- The piece at the start of a text, given by the bytes that it takes.
 use Rattle.std.specs.Prelude.{◌≡◌, ℕ, ◌==◌, Bool, ◌&&◌, IsTrue, Some, List, [], ◌∷◌, ◌++◌, take, drop, length, chars}
 use Rattle.std.specs.List.{list_all}
 use Rattle.std.specs.Char.{is_ascii_digit}
@@ -14,14 +14,14 @@ use Rattle.educe_tokens_pieces.specs.Pieces.{is_piece, may_precede}
 use Rattle.educe_tokens_scan.specs.Reading.{Piece}
 use Rattle.educe_tokens_scan.specs.Scan.{piece_at}
 
--- The characters are a piece of the kind that may stand before the rest, and the rest.
+-- The text is a piece of the kind followed by the rest, before which the piece may stand.
 pub record Stands (kind : PieceKind) (text rest : List ℕ) : Type 0 where
   pub spelling : List ℕ
   pub is : text ≡ spelling ++ rest
   pub piece : IsTrue (is_piece kind spelling)
   pub before : IsTrue (may_precede kind spelling rest)
 
--- So many bytes at the front of the text are the piece there.
+-- The piece at the start of the text has the found kind and takes the found number of bytes.
 pub record IsFront (text : List ℕ) (found : PieceKind × ℕ) : Type 0 where
   pub count : ℕ
   pub is : piece_at (chars text) ≡ Some (found.0, count)
@@ -29,11 +29,11 @@ pub record IsFront (text : List ℕ) (found : PieceKind × ℕ) : Type 0 where
   pub back : chars (drop found.1 text) ≡ drop count (chars text)
   pub boundary : IsCharBoundary text found.1
 
--- The piece that is so many bytes at the front of the text.
+-- The piece that consists of the found number of bytes at the start of the text.
 abbrev pub byte_piece : List ℕ → PieceKind × ℕ → Piece
 byte_piece text found = record { kind = found.0; spelling = chars (take found.1 text) }
 
--- How a literal between quotes begins: its letter, if it has one, and the first quote.
+-- The opening of a quoted literal: its prefix letter, if it has one, and the quote.
 abbrev pub opening : Quote → List ℕ
 opening InStr = 34 ∷ []
 opening InByteStr = 98 ∷ 34 ∷ []
@@ -41,7 +41,7 @@ opening InCStr = 99 ∷ 34 ∷ []
 opening InChar = 39 ∷ []
 opening InByte = 98 ∷ 39 ∷ []
 
--- Its kind.
+-- The kind of piece that a quoted literal is.
 abbrev pub quoted_kind : Quote → PieceKind
 quoted_kind InStr = Token (Literal Str)
 quoted_kind InByteStr = Token (Literal ByteStr)
@@ -49,6 +49,6 @@ quoted_kind InCStr = Uncarried CStr
 quoted_kind InChar = Token (Literal Char)
 quoted_kind InByte = Token (Literal Byte)
 
--- So many ASCII digits.
+-- The list consists of `count` ASCII digits.
 abbrev pub is_digits : ℕ → List ℕ → Bool
 is_digits count cs = list_all is_ascii_digit cs && (length cs == count)

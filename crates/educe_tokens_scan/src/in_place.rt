@@ -35,7 +35,7 @@ fn documents_block(text: &str) -> bool
     }
 }
 
-/// The comment or documentation of a line, behind its `//`.
+/// The line comment or documentation whose `//` stands before the text.
 fn line_front(text: &str) -> Option<(PieceKind, &str)>
     ensures stands { IfSome result (λ x. Stands x.0 (47 ∷ 47 ∷ chars text.now) (chars x.1.now)) }
     ensures none { result ≡ None → comment_at (47 ∷ 47 ∷ chars text.now) ≡ None }
@@ -48,7 +48,7 @@ fn line_front(text: &str) -> Option<(PieceKind, &str)>
     }
 }
 
-/// The comment or documentation of a block, behind its `/*`.
+/// The block comment or documentation whose `/*` stands before the text.
 fn block_front(text: &str) -> Option<(PieceKind, &str)>
     ensures stands { IfSome result (λ x. Stands x.0 (47 ∷ 42 ∷ chars text.now) (chars x.1.now)) }
     ensures none { result ≡ None → comment_at (47 ∷ 42 ∷ chars text.now) ≡ None }
@@ -105,7 +105,7 @@ fn quoted_kind(quote: Quote) -> PieceKind
     }
 }
 
-/// A literal between quotes, behind the first of them.
+/// The quoted literal whose opening quote stands before the text.
 fn quoted_front(quote: Quote, body: &str) -> Option<(PieceKind, &str)>
     ensures { IfSome result (λ x. Stands x.0 (opening quote ++ chars body.now) (chars x.1.now)) }
 {
@@ -154,7 +154,7 @@ fn text_touches_lifetime(rest: &str) -> bool
     }
 }
 
-/// A lifetime, behind its `'`.
+/// The lifetime whose `'` stands before the text.
 fn lifetime_front(word: &str) -> Option<(PieceKind, &str)>
     ensures { IfSome result (λ x. Stands x.0 (39 ∷ chars word.now) (chars x.1.now)) }
 {

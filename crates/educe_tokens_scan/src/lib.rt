@@ -1,4 +1,5 @@
-//! The scan of Rust texts: the one piece at the front of a text, and whether a text is one piece.
+//! The scanner of Rust texts: it finds the one piece at the start of a text, and tests whether a
+//! text is one piece.
 #![tactic(auto)]
 
 mod decimals;

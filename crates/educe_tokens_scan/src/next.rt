@@ -23,8 +23,8 @@ fn front(alloc: Global, text: &str) -> Result<Option<(PieceKind, &str)>, AllocEr
     }
 }
 
-/// The piece at the front of a text, and how many bytes it has; none where no piece stands there
-/// (Rust Reference, Lexical structure).
+/// The kind of the piece at the front of a text and its length in bytes; none where no piece stands
+/// there (Rust Reference, Lexical structure).
 pub fn next_piece(alloc: Global, text: &str) -> Result<Option<(PieceKind, usize)>, AllocError>
     ensures value { IfOk result (λ found. MatchOption found (piece_at (chars text.now) ≡ None) (IsFront text.now)) }
     ensures stands { IfOk result (λ found. IfSome found (λ x. IsPiece (byte_piece text.now x) (chars (drop x.1 text.now)))) }

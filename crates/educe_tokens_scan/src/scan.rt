@@ -212,8 +212,8 @@ pub(crate) fn candidate(text: &[char]) -> Option<(PieceKind, usize)>
     }
 }
 
-/// The piece at the front of a text, and how many characters it has; none where no piece stands
-/// there (Rust Reference, Lexical structure).
+/// The kind of the piece at the front of a text and its length in characters; none where no piece
+/// stands there (Rust Reference, Lexical structure).
 #[tactic(auto, unfolding(crate::specs::Scan::piece_at))]
 pub fn piece_at(text: &[char]) -> Option<(PieceKind, usize)>
     ensures value { result ≡ piece_at text.now }

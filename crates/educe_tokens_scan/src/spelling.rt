@@ -29,8 +29,8 @@ fn is_whole(kind: PieceKind, text: &[char]) -> bool
     }
 }
 
-/// Whether the text is one piece of the kind, by itself. For a punctuation character it makes no
-/// difference whether it is joint (Rust Reference, Lexical structure).
+/// Whether the text is one piece of the kind, by itself. Whether a punctuation character is joint
+/// makes no difference (Rust Reference, Lexical structure).
 pub fn is_piece(kind: PieceKind, text: &[char]) -> bool
     ensures value { result ≡ is_piece kind text.now }
     ensures is { IsTrue result → IsPieceOf kind text.now }

@@ -28,7 +28,7 @@ the_former value = value
 abbrev pub the_weighed : {value : Former {0}} → Weighed value → Weighed (the_former value)
 the_weighed weight = weight
 
--- The one field is a `Box`: a pointer, its allocator, and the value.
+-- The fields of a box: one `Box`, which is a pointer, its allocator, and the value.
 abbrev the_fields : Former {0}
 the_fields =
     via (pair (const (Ptr × Global)) this) Inside (λ Value b. ((b.inner.ptr, b.inner.alloc), b.inner.value))

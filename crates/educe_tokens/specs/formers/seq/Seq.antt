@@ -34,7 +34,7 @@ the_items Item items = items
 pub the_items_listed : (Item : Type 0) (items : List Item) → listed _ (children (the_former this) Item items) ≡ the_items Item items
 the_items_listed Item items = list-listed Item items
 
--- The one field is a `Vec` of the items.
+-- The fields of a `Seq`: one `Vec` of the items.
 abbrev the_fields : Former {0}
 the_fields = via (vec.the_former this Global) Inside (λ Item s. s.items) (λ Item v. record { items = v }) (λ Item s. refl) (λ Item v. refl)
 
