@@ -50,5 +50,5 @@ chars_u64 = ascii_chars (codes "u64") refl
 pub chars_u128 : chars (codes "u128") ≡ codes "u128"
 chars_u128 = ascii_chars (codes "u128") refl
 
--- those of the integer types
+-- the characters of the names of the integer types
 pub ruleset integer_names = (chars_isize, chars_i8, chars_i16, chars_i32, chars_i64, chars_i128, chars_usize, chars_u8, chars_u16, chars_u32, chars_u64, chars_u128)

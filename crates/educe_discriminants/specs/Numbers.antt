@@ -1,14 +1,14 @@
--- The fields that write a whole number.
+-- The representation of whole numbers: a sign and a magnitude.
 use Rattle.std.specs.Prelude.{◌≡◌, ℤ, pos, negsuc, true, false, refl}
 use Rattle.std.specs.Int.{complement_if}
 use Rattle.educe_discriminants.specs.declared.number.Number.TheInside.{Inside}
 
--- The fields of a number.
+-- The fields that represent a number.
 abbrev pub fields_of : ℤ → Inside
 fields_of (pos n) = record { is_negative = false; magnitude = n }
 fields_of (negsuc n) = record { is_negative = true; magnitude = n }
 
--- The fields are those of the number that they write.
+-- A representation is that of the number it stands for.
 pub fields_of-complement_if : (fields : Inside) → fields_of (complement_if fields.is_negative fields.magnitude) ≡ fields
 fields_of-complement_if fields =
     elim fields.is_negative as (λ b. fields_of (complement_if b fields.magnitude) ≡ record { is_negative = b; magnitude = fields.magnitude }) [

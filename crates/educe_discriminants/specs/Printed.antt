@@ -1,4 +1,4 @@
--- The tokens that a type is printed as.
+-- The printed tokens of discriminant types.
 use Rattle.std.specs.Prelude.{◌≡◌, true, List, ◌++◌, codes, refl}
 use Rattle.educe_tokens.specs.Lexes.{Lexeme}
 use Rattle.educe_tokens.specs.Quote.{quoted}
@@ -7,11 +7,11 @@ use Rattle.educe_discriminants.specs.declared.discriminant_type.DiscriminantType
 use Rattle.educe_discriminants.specs.declared.discriminant_type.DiscriminantType.TheVariants.{ISize, I8, I16, I32, I64, I128, USize, U8, U16, U32, U64, U128}
 use Rattle.educe_discriminants.specs.Types.{name_of}
 
--- `:: core :: primitive ::` and the name.
+-- The tokens of the type: `:: core :: primitive ::` and its name.
 abbrev pub primitive_lexemes : DiscriminantType → List Lexeme
 primitive_lexemes ty = quoted (codes ":: core :: primitive ::") ++ quoted (name_of ty)
 
--- A name is a template whose token may stand anywhere.
+-- The name of each type is a template of one token, which may stand side by side with others.
 pub name_printable : (ty : DiscriminantType) → is_printable_template (name_of ty) ≡ true
 name_printable ISize = refl
 name_printable I8 = refl
@@ -26,7 +26,7 @@ name_printable U32 = refl
 name_printable U64 = refl
 name_printable U128 = refl
 
--- The tokens may stand side by side with others.
+-- The tokens of each type may stand side by side with others.
 pub primitive_printable : (ty : DiscriminantType) → IsPrintable (primitive_lexemes ty)
 primitive_printable ty =
     printable-append (quoted (codes ":: core :: primitive ::")) (quoted (name_of ty)) (printable-quoted (codes ":: core :: primitive ::") refl)

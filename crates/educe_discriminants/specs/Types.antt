@@ -1,15 +1,15 @@
--- The integer types that discriminants have, and their names (Rust Reference, Numeric types).
+-- The integer types that discriminants may have, and their names (Rust Reference, Numeric types).
 use Rattle.std.specs.Prelude.{ℕ, Bool, true, false, List, [], ◌∷◌, Option, Some, None, if◌then◌else◌, codes}
 use Rattle.std.specs.Int.{Width, w8, w16, w32, w64, w128}
 use Rattle.std.specs.Str.{bytes_eq}
 use Rattle.educe_discriminants.specs.declared.discriminant_type.DiscriminantType.{DiscriminantType}
 use Rattle.educe_discriminants.specs.declared.discriminant_type.DiscriminantType.TheVariants.{ISize, I8, I16, I32, I64, I128, USize, U8, U16, U32, U64, U128}
 
--- The types, those with a sign first.
+-- All discriminant types, signed ones first.
 abbrev pub types : List DiscriminantType
 types = ISize ∷ I8 ∷ I16 ∷ I32 ∷ I64 ∷ I128 ∷ USize ∷ U8 ∷ U16 ∷ U32 ∷ U64 ∷ U128 ∷ []
 
--- The name of a type.
+-- The name of the type.
 abbrev pub name_of : DiscriminantType → List ℕ
 name_of ISize = codes "isize"
 name_of I8 = codes "i8"
@@ -24,16 +24,16 @@ name_of U32 = codes "u32"
 name_of U64 = codes "u64"
 name_of U128 = codes "u128"
 
--- The first of these types that has this name.
+-- The first of these types with this name.
 abbrev pub first_named : List DiscriminantType → List ℕ → Option DiscriminantType
 first_named [] name = None
 first_named (ty ∷ more) name = if bytes_eq name (name_of ty) then Some ty else first_named more name
 
--- The type of this name.
+-- The discriminant type with this name.
 unfoldable pub type_named : List ℕ → Option DiscriminantType
 type_named name = first_named types name
 
--- How many bits a type has; `isize` and `usize` have 64.
+-- The number of bits of the type; `isize` and `usize` are taken to have 64.
 abbrev pub width : DiscriminantType → Width
 width ISize = w64
 width I8 = w8
@@ -48,7 +48,7 @@ width U32 = w32
 width U64 = w64
 width U128 = w128
 
--- Whether a type has numbers below 0.
+-- The type is signed.
 abbrev pub is_signed : DiscriminantType → Bool
 is_signed ISize = true
 is_signed I8 = true

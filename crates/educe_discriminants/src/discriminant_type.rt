@@ -31,7 +31,7 @@ pub enum DiscriminantType {
 }
 
 impl DiscriminantType {
-    /// The types, those with a sign first.
+    /// All discriminant types, signed ones first.
     pub const VARIANTS: [DiscriminantType; 12] = [
         DiscriminantType::ISize,
         DiscriminantType::I8,
@@ -47,7 +47,7 @@ impl DiscriminantType {
         DiscriminantType::U128,
     ];
 
-    /// The type of this name, and none where it is the name of none (Rust Reference, Numeric types).
+    /// The type of this name; none where no type has it (Rust Reference, Numeric types).
     pub fn parse_str(name: &str) -> Option<DiscriminantType>
         ensures value { result ≡ spec.type_named (chars name.now) }
         ensures named { IfSome result (λ ty. chars name.now ≡ spec.name_of ty) }
@@ -119,8 +119,8 @@ impl DiscriminantType {
         }
     }
 
-    /// The number of the type that `wrapping_add` gives for a number and this distance behind it
-    /// (documentation of the primitive integer types, `wrapping_add`).
+    /// The number that is `steps` further than the given one in the range of the type, wrapping
+    /// around at its end (documentation of the primitive integer types, `wrapping_add`).
     pub fn wrapping_add(self, number: Number, steps: usize) -> Number
         ensures { result ≡ wrapped self (number +ℤ pos steps) }
     {
@@ -143,7 +143,7 @@ impl ToTokens for DiscriminantType {
 
     ghost lexes_back = { λ ty. lexes_back_from (primitive_printable ty) };
 
-    /// Appends the path of the type, which no name of the input can stand for.
+    /// Appends the absolute path of the type, which no name of the input can shadow.
     fn to_tokens(&self, alloc: Global, tokens: &mut TokenStream) -> Result<(), AllocError> {
         quote(alloc, tokens, ":: core :: primitive ::")?;
         quote(alloc, tokens, self.as_str())

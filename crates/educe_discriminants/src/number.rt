@@ -7,7 +7,7 @@ ghost use Rattle.std.specs.Cmp.{partial_equiv_from_equiv, int_eq_equiv, int_cmp_
 use std::cmp::Ordering;
 use std::marker::Model;
 
-/// A whole number between -2^128 and 2^128, as a literal or a minus and a literal write it. A contract
+/// A whole number between -2^128 and 2^128, as written by a literal or its negation. A contract
 /// sees the number.
 #[derive(Clone, Copy)]
 pub struct Number {
@@ -33,7 +33,7 @@ impl Model for Number {
 }
 
 impl Number {
-    /// The number as it is.
+    /// A number that is not negative.
     pub fn new(magnitude: u128) -> Number
         ensures { result ≡ pos magnitude }
     {
@@ -43,7 +43,7 @@ impl Number {
         }
     }
 
-    /// The number behind a minus.
+    /// The negation of a number.
     pub fn negated(magnitude: u128) -> Number
         ensures { result ≡ neg_ℤ (pos magnitude) }
     {

@@ -114,7 +114,7 @@ operator_stays (t ∷ u ∷ ts) rest o n h some = (
 )
 
 module _ (readers : Readers) (parts : Parts) (budget : ℕ) where
-  -- the same where less may stand behind
+  -- reading again with less that may stand behind
   pub again_weaker : {A : Type 0} {g : Rule A} {F G : Behind A} → Again readers parts budget g G
       → ((front rest : Tokens) (x : A) → Parses parts budget g front x → F x rest → G x rest) → Again readers parts budget g F
   again_weaker ag weaker = record { reads = λ front rest x h f. ag.reads front rest x h (weaker front rest x h f) }

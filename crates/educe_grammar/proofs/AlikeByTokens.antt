@@ -42,7 +42,7 @@ open_aside outer (kind.Start b) = refl
 open_aside outer (kind.Stop b) = refl
 open_aside outer kind.Doc = refl
 
--- nor whether brackets close in order
+-- whether brackets close in order doesn't depend on jointness
 closes_aside : (outer : List Bracket) (ks : List TokenKind) → brackets.closes outer ks ≡ brackets.closes outer (map kind_aside ks)
 closes_aside [] [] = refl
 closes_aside (o ∷ outer) [] = refl

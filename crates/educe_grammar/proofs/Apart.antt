@@ -61,7 +61,7 @@ firsts_apart f g = true
 contrary : (a b : Bool) → (b ≡ true → a ≡ false) → a ≡ true → b ≡ false
 contrary a b h is = false_from_ne_true b (λ other. both_ways a (h other) is)
 
--- so a token that is the one isn't the other
+-- a token in one of two disjoint first sets is not in the other
 firsts_apart_fit : (f g : First) (t : Token) → firsts_apart f g ≡ true → fits f t ≡ true → fits g t ≡ false
 firsts_apart_fit (in_set s) (in_set u) t h is = disjoint_sound s u t.kind t.spelling h is
 firsts_apart_fit (in_set s) (opening c) t h is = no_start s c t.kind t.spelling is
@@ -84,7 +84,7 @@ firsts_apart_fit documented documented t h is = absurd (false≢true h)
 firsts_apart_fit nothing g t h is = absurd (false≢true is)
 firsts_apart_fit f nothing t h is = refl
 
--- and no list begins with both
+-- no list begins with both of two disjoint first sets
 firsts_apart_sound : (f g : First) (ts : Tokens) → firsts_apart f g ≡ true → has_first f ts ≡ true → has_first g ts ≡ false
 firsts_apart_sound f g (t ∷ ts) h is = firsts_apart_fit f g t h is
 firsts_apart_sound nothing nothing [] h is = absurd (false≢true h)
@@ -108,7 +108,7 @@ pub record Paired (c d : ℕ) (ts : Tokens) : Type 0 where
   pub joins : is_joint c first.kind ≡ true
   pub ends : is_sign d second.kind ≡ true
 
--- so does the test of a pair say
+-- the test of a pair finds two tokens
 pub paired : (c d : ℕ) (ts : Tokens) → begins_pair c d ts ≡ true → Paired c d ts
 unfolding begins_pair
 paired c d [] h = absurd (false≢true h)
@@ -206,7 +206,7 @@ set_seen : (c : ℕ) (s : TokenSet) (ts : Tokens) → is_within (only_signs (c �
 set_seen c s [] h is = absurd (false≢true is)
 set_seen c s (t ∷ ts) h is = within_sound (only_signs (c ∷ [])) s t.kind t.spelling h is
 
--- and then with such a token
+-- a list that begins with that terminal's set begins with that terminal
 one_seen : (asked : Terminal) (ts : Tokens) → has_first (in_set (set_of asked)) ts ≡ true → begins (one asked) ts ≡ true
 unfolding sees accepts
 one_seen asked [] h = absurd (false≢true h)
@@ -265,7 +265,7 @@ left_behind true (t ∷ []) = []
 left_behind true (t ∷ u ∷ ts) = ts
 left_behind false (t ∷ ts) = ts
 
--- that is what stands behind a beginning
+-- what is left behind a beginning is what is left behind one or two tokens
 behind_is : (a : Ahead) (ts : Tokens) → behind a ts ≡ left_behind (is_pair a) ts
 unfolding behind
 behind_is (pair c d) [] = refl
@@ -274,7 +274,7 @@ behind_is (pair c d) (t ∷ u ∷ ts) = refl
 behind_is a [] = refl
 behind_is a (t ∷ ts) = refl
 
--- so behind beginnings that take as many stands the same
+-- behind beginnings that take as many tokens the same is left
 pub same_behind : (a b : Ahead) (ts : Tokens) → takes_alike a b ≡ true → behind a ts ≡ behind b ts
 same_behind a b ts h = behind_is a ts ∙ ap (λ two. left_behind two ts) (alike (is_pair a) (is_pair b) h) ∙ sym (behind_is b ts)
   where

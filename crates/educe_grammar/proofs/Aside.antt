@@ -25,7 +25,7 @@ use Rattle.educe_grammar.proofs.Apart.{all_apart, all_apart_sound, way_within, w
 pub aside_first : (t u : Token) (ts us : Tokens) → AreEqualAside (t ∷ ts) (u ∷ us) → lexeme_aside t ≡ lexeme_aside u
 aside_first t u ts us same = (cons_parts _ _ _ _ same).0
 
--- and equal rests
+-- equal lists have equal rests
 pub aside_rest : (t u : Token) (ts us : Tokens) → AreEqualAside (t ∷ ts) (u ∷ us) → AreEqualAside ts us
 aside_rest t u ts us same = (cons_parts _ _ _ _ same).1
 
@@ -88,7 +88,7 @@ set_aside set (kind.Start b) text = refl
 set_aside set (kind.Stop b) text = refl
 set_aside set kind.Doc text = refl
 
--- nor does the test of an opening bracket
+-- the test of an opening bracket doesn't take account of jointness
 start_aside : (b : Bracket) (k : TokenKind) (text : List ℕ) → is_start b k ≡ is_start b (kind_aside k)
 start_aside b (kind.Punct c joint) text = refl
 start_aside b kind.Ident text = refl
@@ -185,7 +185,7 @@ one_behind finish (t ∷ ts) steady = refl
 behind_same : (a : Ahead) (ts us : Tokens) → is_steady_at a ≡ true → AreEqualAside ts us → AreEqualAside (behind a ts) (behind a us)
 behind_same a ts us steady same = aside_as (sym (one_behind a ts steady)) (sym (one_behind a us steady)) (aside_drop 1 ts us same)
 
--- so is a row of them
+-- a sequence of steady tests agrees on equal lists
 meets_same : (way : List Ahead) (ts us : Tokens) → list_all is_steady_at way ≡ true → AreEqualAside ts us → meets way ts ≡ meets way us
 meets_same [] ts us steady same = refl
 meets_same (a ∷ more) ts us steady same =
@@ -193,7 +193,7 @@ meets_same (a ∷ more) ts us steady same =
     ap (λ b. b && meets more (behind a ts)) (begins_same a ts us w.0 same)
     ∙ ap (λ b. begins a us && b) (meets_same more (behind a ts) (behind a us) w.1 (behind_same a ts us w.0 same))
 
--- and one of several
+-- a steady lookahead agrees on equal lists
 pub steady_same : (look : Look) (ts us : Tokens) → is_steady look ≡ true → AreEqualAside ts us → sees_any look ts ≡ sees_any look us
 unfolding is_steady sees_any
 steady_same [] ts us steady same = refl
@@ -230,7 +230,7 @@ loosened_steady (pair c d ∷ more) = loosened_steady more
 loosened_steady (lone c d ∷ more) = loosened_steady more
 loosened_steady (finish ∷ more) = loosened_steady more
 
--- nor do several
+-- a loosened lookahead takes no account of jointness
 loose_steady : (look : Look) → is_steady (loose look) ≡ true
 unfolding is_steady loose
 loose_steady [] = refl
@@ -260,7 +260,7 @@ loosened_seen (lone c d ∷ more) [] h = absurd (false≢true h)
 loosened_seen (lone c d ∷ more) (t ∷ ts) h =
     let w = and_parts (begins_lone c d (t ∷ ts)) _ h in sign_then c t _ (and_parts (is_sign c t.kind) _ w.0).0 (loosened_seen more ts w.1)
 
--- so is one of several
+-- where a lookahead is seen, it is also seen without account of jointness
 loose_seen : (look : Look) (ts : Tokens) → sees_any look ts ≡ true → sees_any (loose look) ts ≡ true
 unfolding loose sees_any
 loose_seen [] ts h = absurd (false≢true h)

@@ -34,7 +34,7 @@ pub kinds-append : (front rest : Tokens) → kinds_of (front ++ rest) ≡ kinds_
 kinds-append [] rest = refl
 kinds-append (t ∷ front) rest = ap (λ ks. t.kind ∷ ks) (kinds-append front rest)
 
--- the same before others
+-- kinds of lists behind one another, before others
 kinds_before : (front rest : Tokens) (more : List TokenKind) → kinds_of (front ++ rest) ++ more ≡ kinds_of front ++ (kinds_of rest ++ more)
 kinds_before front rest more = ap (λ ks. ks ++ more) (kinds-append front rest) ∙ append_assoc (kinds_of front) (kinds_of rest) more
 
@@ -118,7 +118,7 @@ balanced_kept = record {
   pair = λ b first last inside is ends whole. pair_closes b first last inside (start_kind b first.kind is) (stop_kind b last.kind ends) whole;
 }
 
--- so is documentation
+-- documentation is balanced
 balanced_documentation : OfDocumentation IsBalanced
 balanced_documentation t is outer more = ap (λ k. brackets.closes outer (k ∷ more)) (doc_kind t.kind is)
 
@@ -155,7 +155,7 @@ pub plain_even : (t : Token) → is_plain t.kind ≡ true → IsEven (t ∷ [])
 unfolding closed
 plain_even t is ts = plain_pending t.kind (closed ts) is
 
--- so is documentation
+-- documentation is even
 documentation_even : OfDocumentation IsEven
 unfolding closed
 documentation_even t is ts = ap (λ k. pending k (closed ts)) (doc_kind t.kind is)

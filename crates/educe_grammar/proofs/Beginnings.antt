@@ -206,7 +206,7 @@ single_plain (kind.Start b) text o h = absurd (no_operator h)
 single_plain (kind.Stop b) text o h = absurd (no_operator h)
 single_plain kind.Doc text o h = absurd (no_operator h)
 
--- so are the tokens of an operator of two
+-- the tokens of an operator of two are plain, and the first is an opener
 pair_plain : (k l : TokenKind) (text : List ℕ) (o : Operator) → pair_operator k l ≡ Some o → (is_plain k ≡ true) × (is_plain l ≡ true) × (is_opener k text ≡ true)
 pair_plain (kind.Punct c true) (kind.Punct d joint) text o h = (refl, refl, pair_opens c d o h)
 pair_plain k l text o h = absurd (no_operator h)

@@ -90,7 +90,7 @@ module _ {readers : Readers} {parts : Parts} {limit : ℕ} (known : Known reader
 abbrev pub NoScope : Parts → Type 0
 NoScope parts = (budget : ℕ) (front rest : Tokens) (x : Ty) → Parses parts budget (part types) front x → sees_any at_scope (front ++ rest) ≡ false
 
--- nor does any begin with `pub`
+-- no type begins with `pub`
 visibility_unseen : (ts : Tokens) → sees_any (at_word keyword.Pub) ts ≡ false → sees_any at_scope ts ≡ false → sees_any visibility_going_on ts ≡ false
 unfolding sees_any
 visibility_unseen ts first second = or_false (sees (accepts (terminal.Word keyword.Pub)) ts && true) (list_any (λ way. meets way ts) at_scope) first second

@@ -59,7 +59,7 @@ pub skip_fails : (b : Bool) (n : ℕ) (ts : Tokens) (left : ℕ) → skip_if b n
 skip_fails true n ts left h = ok_fails _ (TooDeep left) h
 skip_fails false n ts left h = syntax_fails {A = Unit {0}} (length ts) left h
 
--- nor is what is kept as it was written
+-- what is kept as it was written is not rejected as too deep
 pub written_fails : {A : Type 0} (x : A) (tokens rest : Tokens) (b : Bool) (is : may_be_copied (lexemes tokens) ≡ b) (left : ℕ) → written_if x tokens rest b is ≡ Err (TooDeep left) → ⊥
 written_fails x tokens rest true is left h = ok_fails _ (TooDeep left) h
 written_fails {A} x tokens rest false is left h = syntax_fails {A = A × Written} (length rest) left h

@@ -162,7 +162,7 @@ tuple_fields_few : Weighs tuple_fields fields_weigh
 unfolding tuple_fields computed more_computed
 tuple_fields_few = weighs_made tuple_shape _ length fields_weigh (λ x. omega arith) (weighs_nest _ _ length (weighs_count _ _ tuple_field refl))
 
--- those of a variant
+-- fields of a variant
 variant_fields_few : Weighs variant_fields fields_weigh
 unfolding variant_fields
 variant_fields_few =

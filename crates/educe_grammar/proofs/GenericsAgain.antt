@@ -22,7 +22,7 @@ use Rattle.educe_grammar.proofs.TypesAgain.{again_bounds}
 abbrev behind_param : Look
 behind_param = behind_item (terminal.Sign 44) (at_sign 62)
 
--- and before its default
+-- what stands before the default of a parameter
 abbrev before_default : Look
 before_default = (one (terminal.Sign 61) ∷ []) ∷ behind_param
 

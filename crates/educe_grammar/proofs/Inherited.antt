@@ -96,7 +96,7 @@ module _ {P : Token → Type 0} where
   unfolding Parses
   inherits_written g Q p = record { inherits = λ budget tokens x each is. (p.inherits budget tokens x.0 each is.0, subst (Each P) (sym is.1) each) }
 
-  -- the same where only these are asked
+  -- with the tokens as they were written, of which alone something is said
   pub inherits_tokens : {A : Type 0} (g : Rule A) → Inherits P (written g) (λ x. Each P x.1.tokens)
   inherits_tokens g = inherits_more (written g) (λ x. Unit {0} × Each P x.1.tokens) (λ x. Each P x.1.tokens) (λ x has. has.1) (inherits_written g (λ _. Unit {0}) (inherits_any g))
 

@@ -73,7 +73,7 @@ module _ {readers : Readers} {parts : Parts} {limit : ℕ} (known : Known reader
   pub whatever : {A : Type 0} (g : Rule A) {F : Behind A} (budget : ℕ) → budget ≤ limit → Decides g anything → Again readers parts budget g F
   whatever g budget room h = again_weaker readers parts budget (outside g anything budget room h) (λ front rest x p f. anything_seen rest)
 
-  -- the same, where nothing is asked of what follows
+  -- a rule behind which anything may stand, where nothing is asked of what follows
   pub always : {A : Type 0} (g : Rule A) (budget : ℕ) → budget ≤ limit → Decides g anything → Again readers parts budget g Always
   always g budget room h = whatever g budget room h
 
@@ -125,12 +125,12 @@ module _ {readers : Readers} {parts : Parts} {limit : ℕ} (known : Known reader
   again_then direct {g = g} {h = h} budget room first ah = again_both readers parts budget (looked direct g (firsts h anything) budget room first) ah
       (λ front rest x y p f. (fronts_seen parts 2 (part_fronts 2) known.begins h budget front rest y anything p (anything_seen rest), f))
 
-  -- the same with the value of the other
+  -- a rule that decides, and then another, with the value of the other
   pub again_skip : (direct : Bool) {A B : Type 0} {g : Rule A} {h : Rule B} {H : Behind B} (budget : ℕ) → Room limit direct budget
       → decides 2 (part_fronts 2) direct g (firsts h anything) ≡ true → Again readers parts budget h H → Again readers parts budget (skipping g h) H
   again_skip direct budget room first ah = again_made readers parts budget (again_then direct budget room first ah)
 
-  -- the same before these
+  -- a rule that decides, and then another, before these beginnings
   pub again_then_before : (direct : Bool) {A B : Type 0} {g : Rule A} {h : Rule B} (l : Look) (budget : ℕ) → Room limit direct budget
       → decides 2 (part_fronts 2) direct g (firsts h l) ≡ true → Again readers parts budget h (Seen l) → Again readers parts budget (both g h) (Seen l)
   again_then_before direct {g = g} {h = h} l budget room first ah = again_both readers parts budget (looked direct g (firsts h l) budget room first) ah

@@ -60,7 +60,7 @@ beyond l (way ∷ m) ts h = kept (list_any (way_within way) l) refl (beyond l m 
     kept false is more (inr there) = ⊎_elim (λ first. or_left (sees_one l) (meets way ts || sees_one rest) first)
         (λ second. or_right (sees_one l) (meets way ts || sees_one rest) (or_right (meets way ts) (sees_one rest) second)) (or_cases (sees_one l) (sees_one rest) (more there))
 
--- so does what begins with one of the second
+-- what begins with one of the second lookahead begins with one of both joined
 pub joined_right : (l m : Look) (ts : Tokens) → sees_any m ts ≡ true → sees_any (joined l m) ts ≡ true
 unfolding joined sees_any
 joined_right l m ts h = list_any-append (λ way. meets way ts) l (filter (λ way. not (list_any (way_within way) l)) m) ∙ beyond l m ts h
@@ -119,7 +119,7 @@ prefixed a (way ∷ look) ts first more = ⊎_elim (λ here. or_left (begins a t
     (λ there. or_right (begins a ts && meets way (behind a ts)) _ (prefixed a look ts first there))
     (or_cases (meets way (behind a ts)) (list_any (λ way. meets way (behind a ts)) look) more)
 
--- and one of the first so many of them
+-- where the beginning stands, and behind it one of these, one of the first n rows is seen
 pub before_seen : (n : ℕ) (a : Ahead) (look : Look) (ts : Tokens) → begins a ts ≡ true → sees_any look (behind a ts) ≡ true → sees_any (before n a look) ts ≡ true
 unfolding before
 before_seen n a look ts first more = tidy_seen (all_cut n (map (λ way. a ∷ way) look)) ts (all_cut_seen n (map (λ way. a ∷ way) look) ts (prefixed a look ts first more))

@@ -108,7 +108,7 @@ module _ {A : Type 0} (R : Grammar A) (p : Parser A) (look : Look) (G : Behind A
       rw (append_assoc front back rest, seen front (back ++ rest) x r g.0, again front (back ++ rest) x r g.0, go)
       (ap (λ (ys : List A). Ok (ys, rest)) (append_assoc found (x ∷ []) xs))
 
-  -- and so they are where there is a limit
+  -- items one behind the other are read where there is a limit
   links_again : {ts : Tokens} {xs : List A} → Repeated R ts xs → (rest : Tokens) (found : List A) (n : ℕ) → ChainFits R look G xs rest → length xs ≤ n
       → links look p n found (ts ++ rest) ≡ Ok (found ++ xs, rest)
   unfolding links ChainFits
@@ -179,7 +179,7 @@ module _ (readers : Readers) (parts : Parts) (budget : ℕ) where
         repeat_again (Parses parts budget g) (run readers budget g) look G ag.reads seen filled h rest [] (suc (length (front ++ rest))) f (omega (arith, length-append front rest));
   }
 
-  -- the same, where there is a limit
+  -- items one behind the other, where there is a limit
   pub again_chain : {A : Type 0} {look : Look} {g : Rule A} {G : Behind A} → Again readers parts budget g G → Begins (Parses parts budget g) look G
       → Again readers parts budget (chain look g) (ChainFits (Parses parts budget g) look G)
   unfolding Parses run

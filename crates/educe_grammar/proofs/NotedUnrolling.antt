@@ -29,7 +29,7 @@ unfolding enter
 entered_alike zero left p q same s = refl
 entered_alike (suc budget) left p q same s = same (omega arith) s
 
--- the same of what is read up to a token that ends it
+-- what is read up to a token that ends it is read alike where the content is
 ended_alike : {A : Type 0} (test : Token → Bool) (p q : Noter A) → ((s : ParseStream) → p s ≡ q s) → (s : ParseStream) → ended test p s ≡ ended test q s
 ended_alike test p q same s = λ i. and_then (same s i) (λ x s. and_then (plainly (expect test) s) (λ _ s. Ok (x, s)))
 

@@ -127,7 +127,7 @@ pub lone_opens : (c d : ℕ) (ts : Tokens) → opens_sign c ≡ true → begins_
 unfolding sees
 lone_opens c d ts opens is = let p = loned c d ts is in subst (λ us. sees opening us ≡ true) (sym p.whole) (punct_opens c p.first opens p.is)
 
--- the same of an operator
+-- a list that begins with an operator of two puncts begins with an opener
 pub pair_opens : (c d : ℕ) (ts : Tokens) → opens_sign c ≡ true → begins_pair c d ts ≡ true → sees opening ts ≡ true
 unfolding sees
 pair_opens c d ts opens is = let p = paired c d ts is in subst (λ us. sees opening us ≡ true) (sym p.whole) (punct_opens c p.first opens (joint_sign c p.first.kind p.joins))
@@ -142,7 +142,7 @@ ahead_opens (ahead.pair c d) ts opens is = pair_opens c d ts opens is
 ahead_opens (ahead.lone c d) ts opens is = lone_opens c d ts opens is
 ahead_opens ahead.finish ts opens is = absurd (cc)
 
--- the same of several, one behind the other
+-- a list that begins with a sequence of tests, the first of an opener, begins with an opener
 way_opens : (way : List Ahead) (ts : Tokens) → begins_opening way ≡ true → meets way ts ≡ true → sees opening ts ≡ true
 way_opens [] ts opens is = absurd (cc)
 way_opens (a ∷ more) ts opens is = ahead_opens a ts opens (both_hold (begins a ts) _ is).0

@@ -17,7 +17,7 @@ unfolding parts_below part_fronts
 parts_seen n zero budget p front rest x l h is = absurd h
 parts_seen n (suc depth) budget p front rest x l h is = fronts_seen (parts_below depth) n no_table (no_table_obeyed (parts_below depth)) (rule_of p) budget front rest x l h is
 
--- and so do those of the grammar
+-- the parts of the whole grammar begin with these
 pub whole_seen : (n : ℕ) → Obeys parts (part_fronts n)
 whole_seen n budget p front rest x l h is = parts_seen n (suc budget) budget p front rest x l h is
 

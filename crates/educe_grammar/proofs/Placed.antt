@@ -246,7 +246,7 @@ module _ (P : Token → Type 0) (all : Tokens) (stands : (t : Token) → P t →
       (λ x has. (record { span = has.1; name = tt; attrs = has.0.0 }, has.0.1))
       (spanned _ (λ x. AttributesKept x.0) refl (inherits_first attributes _ AttributesKept attributes_kept))
 
-  -- so does each of the fields
+  -- each of the fields is placed, with such tokens in its attributes
   abbrev FieldsKept : List Field → Type 0
   FieldsKept fields = AreFieldsPlaced all fields × AllByRecursion (FieldWithin P) fields
 
@@ -289,7 +289,7 @@ module _ (P : Token → Type 0) (all : Tokens) (stands : (t : Token) → P t →
       (inherits_made Some _ (λ (e : Expr). Each P e.written.tokens) (WrittenWithin P) (λ x has. has) (inherits_skipping _ (part exprs) _ value_kept))
       (inherits_empty None (WrittenWithin P) tt))))))
 
-  -- so does each of the variants
+  -- each of the variants is placed, with such tokens in its attributes
   abbrev VariantsKept : List Variant → Type 0
   VariantsKept variants = AllByRecursion (IsVariantPlaced all) variants × AllByRecursion (VariantWithin P) variants
 
@@ -416,7 +416,7 @@ definition_stands tokens found whole = (definition_whole tokens found whole).0
 pub shape_within : (tokens : Tokens) (d : DeriveInput) → IsWhole definition tokens d → ShapeWithin (Contains tokens) d.shape
 shape_within tokens d whole = (definition_whole tokens d whole).1
 
--- So are those inside of its attributes.
+-- the tokens inside of the definition's own attributes are some of its tokens
 pub attrs_within : (tokens : Tokens) (d : DeriveInput) → IsWhole definition tokens d → AttributesWithin (Contains tokens) d.attrs
 attrs_within tokens d whole = (definition_whole tokens d whole).2
 
@@ -433,7 +433,7 @@ pub definition_tokens : (tokens : Tokens) (d : DeriveInput) → IsWhole definiti
 unfolding Parses definition
 definition_tokens tokens d whole = ap (λ (d : DeriveInput). d.tokens) whole.1 ∙ whole.2.1
 
--- So does a path.
+-- a path keeps the tokens that it is read from
 pub path_tokens : (tokens : Tokens) (path : ExprPath) → IsWhole expr_path tokens path → path.written.tokens ≡ tokens
 unfolding Parses expr_path
 path_tokens tokens path whole = ap (λ (path : ExprPath). path.written.tokens) whole.1 ∙ whole.2.1

@@ -29,7 +29,7 @@ fewer_left front rest others more t u earlier same =
     let behind : length rest ≡ length (earlier.between ++ u ∷ more) = ap length earlier.rest in
     absurd (omega (arith, length-append earlier.between (u ∷ more)))
 
--- so many tokens are left at one token
+-- two tokens at which equally many are left are one
 one_place : (front rest others more : Tokens) (t u : Token) → front ++ t ∷ rest ≡ others ++ u ∷ more → length (t ∷ rest) ≡ length (u ∷ more) → t ≡ u
 one_place front rest others more t u same left =
     elim (places front others rest more t u same) [

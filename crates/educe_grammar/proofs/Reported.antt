@@ -48,7 +48,7 @@ cause_reported g tokens e (IsParseCause.too_deep front rest t never stop is many
     record { words = refl; place = inl (inl (record { front = front; found = t; rest = rest; is = is; at_place = refl })) }
 cause_reported g tokens e IsParseCause.memory = record { words = refl; place = inr refl }
 
--- So does a cause of the rejection of a definition, with the one word of its message where it has one.
+-- a cause of the rejection of a definition has its place and the words that its message cites
 pub refusal_reported : (tokens : Tokens) (e : EduceError) → IsRefusalOf tokens e → IsReported tokens e
 refusal_reported tokens e (IsRefusalOf.union word is) =
     record { words = refl; place = inl (inl (record { front = is.front; found = word; rest = is.rest; is = is.is; at_place = refl })) }

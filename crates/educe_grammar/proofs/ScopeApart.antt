@@ -88,13 +88,13 @@ module _ (n budget : ℕ) where
       no_path leading xs a b whole (inr p) links ok =
           segments xs b (whole ∙ ap (λ us. us ++ b) p.0) links (subst (λ l. is_path_read (path_read (l, xs)) ≡ true) p.1 ok)
 
-  -- nor does another form begin so
+  -- no other form of a type begins with a scope word
   lone_other : (t : Token) (f : FormRead) (g : Rule FormRead) → IsTrue (accepts terminal.Scope t) → all_apart (firsts g anything) (at (one terminal.Scope)) ≡ true
       → Parses (parts_below n) budget g (t ∷ []) f → ⊥
   lone_other t f g scope apart p =
       both_ways (sees_any (at (one terminal.Scope)) (t ∷ [])) (begins_not (begun n) g (at (one terminal.Scope)) budget (t ∷ []) [] f apart p) (one_seen terminal.Scope t [] scope)
 
-  -- so a scope alone is no type
+  -- a scope word alone is no type
   lone_form : (t : Token) (f : FormRead) → Parses (parts_below n) budget any_bounds_form (t ∷ []) f → IsTrue (accepts terminal.Scope t) → ⊥
   unfolding any_bounds_form plain_form Parses computed
   lone_form t f (inl p) scope = lone_other t f (made bounds_form (under (terminal.Word keyword.Dyn) (checked some_bounds bounds))) scope refl p
@@ -127,7 +127,7 @@ neither_seen : (t : Token) (rest : Tokens) → accepts terminal.Scope t ≡ fals
 unfolding sees_any sees
 neither_seen t rest scope word = rw (scope, word) refl
 
--- so the only token of a type is none
+-- the only token of a type is no scope word
 only_type : (n budget : ℕ) (t : Token) (x : Ty) → Parses (parts_below n) budget (part types) (t ∷ []) x → accepts terminal.Scope t ≡ false
 unfolding Parses
 only_type n budget t x p = false_from_ne_true (accepts terminal.Scope t) (λ is. lone_type n budget t x p is)

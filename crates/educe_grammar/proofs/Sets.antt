@@ -71,12 +71,12 @@ name_apart : (w : Keyword) (text : List ℕ) → is_name kind.Ident text ≡ tru
 name_apart w text h = false_from_ne_true (bytes_eq (text_of w) text) (λ same. both_ways (is_name kind.Ident text)
     (subst (λ t. is_name kind.Ident t ≡ false) (spells w text same) (no_name w)) h)
 
--- so a name is none of the words
+-- a name is none of the keywords
 name_not_in : (words : List Keyword) (text : List ℕ) → is_name kind.Ident text ≡ true → list_any (λ word. bytes_eq (text_of word) text) words ≡ false
 name_not_in [] text h = refl
 name_not_in (w ∷ words) text h = or_from (bytes_eq (text_of w) text) _ (name_apart w text h) (name_not_in words text h)
 
--- and one of the words is no name
+-- a keyword is no name
 word_no_name : (words : List Keyword) (text : List ℕ) → list_any (λ word. bytes_eq (text_of word) text) words ≡ true → is_name kind.Ident text ≡ false
 word_no_name words text h = false_from_ne_true (is_name kind.Ident text) (λ name. both_ways (list_any (λ word. bytes_eq (text_of word) text) words) (name_not_in words text name) h)
 
@@ -85,7 +85,7 @@ spelled_apart : (text : List ℕ) (w v : Keyword) → not (is_same_word w v) ≡
 spelled_apart text w v h is = false_from_ne_true (bytes_eq (text_of v) text) (λ other. both_ways (is_same_word w v) (not-true (is_same_word w v) h)
     ((bytes_eq-Decides (text_of w) (text_of v)).1 (spells w text is ∙ sym (spells v text other))))
 
--- and words that are spelled alike are one
+-- words that are spelled alike are one
 spelled_alike : (text : List ℕ) (w v : Keyword) → is_same_word w v ≡ true → bytes_eq (text_of w) text ≡ true → bytes_eq (text_of v) text ≡ true
 spelled_alike text w v h is = (bytes_eq-Decides (text_of v) text).1 (sym ((bytes_eq-Decides (text_of w) (text_of v)).0 h) ∙ spells w text is)
 
@@ -109,7 +109,7 @@ only_where true b c h one = and_both b c h one
     and_both false c h one = h
 only_where false b c h one = absurd (false≢true one)
 
--- so no identifier is in both
+-- no identifier is in two disjoint sets of words
 pub words_apart_sound : (s t : Words) (text : List ℕ) → words_apart s t ≡ true → word_in s text ≡ true → word_in t text ≡ false
 words_apart_sound (some_words names words) (some_words others more) text h is =
     let parts = and_parts (not (names && others)) _ h in
@@ -132,7 +132,7 @@ words_apart_sound all_words (some_words others more) text h is =
     or_from (others && is_name kind.Ident text) _ (and_left others (is_name kind.Ident text) (not-true others parts.0)) (no_word_in more text parts.1)
 words_apart_sound all_words all_words text h is = absurd (false≢true h)
 
--- so each identifier of the first is in the other
+-- each identifier of a subset of words is in the larger set
 pub words_within_sound : (s t : Words) (text : List ℕ) → words_within s t ≡ true → word_in s text ≡ true → word_in t text ≡ true
 words_within_sound (some_words names words) (some_words others more) text h is =
     let parts = and_parts (not names || others) _ h in
@@ -187,7 +187,7 @@ int_or_str literal.ByteStr h = refl
 int_or_str literal.Char h = refl
 int_or_str literal.Byte h = refl
 
--- and a string is no integer
+-- a string is no integer
 str_or_int : (l : LiteralKind) → literal_in strs l ≡ true → literal_in ints l ≡ false
 str_or_int literal.Int h = absurd (false≢true h)
 str_or_int literal.Str h = refl
@@ -195,7 +195,7 @@ str_or_int literal.ByteStr h = refl
 str_or_int literal.Char h = refl
 str_or_int literal.Byte h = refl
 
--- so no literal is in both
+-- no literal is in two disjoint sets of literals
 literals_apart_sound : (s t : Literals) (l : LiteralKind) → literals_apart s t ≡ true → literal_in s l ≡ true → literal_in t l ≡ false
 literals_apart_sound no_literals t l h is = absurd (false≢true is)
 literals_apart_sound ints no_literals l h is = refl
@@ -211,7 +211,7 @@ literals_apart_sound all_literals ints l h is = absurd (false≢true h)
 literals_apart_sound all_literals strs l h is = absurd (false≢true h)
 literals_apart_sound all_literals all_literals l h is = absurd (false≢true h)
 
--- so each literal of the first is in the other
+-- each literal of a subset of literals is in the larger set
 literals_within_sound : (s t : Literals) (l : LiteralKind) → literals_within s t ≡ true → literal_in s l ≡ true → literal_in t l ≡ true
 literals_within_sound no_literals t l h is = absurd (false≢true is)
 literals_within_sound ints no_literals l h is = absurd (false≢true h)
@@ -255,14 +255,14 @@ no_sign_in : (signs : List ℕ) (e : ℕ) → list_all (λ _. false) signs ≡ t
 no_sign_in [] e h = refl
 no_sign_in (c ∷ signs) e h = absurd (false≢true h)
 
--- so no sign is in both
+-- no punctuation character is in two disjoint sets
 signs_apart_sound : (s t : Signs) (e : ℕ) → signs_apart s t ≡ true → sign_in s e ≡ true → sign_in t e ≡ false
 signs_apart_sound (these_signs signs) (these_signs more) e h is = fails_everywhere (λ c d. not (c == d)) (λ c. c == e) (λ d. d == e) (sign_apart e) signs more h is
 signs_apart_sound (these_signs signs) all_signs e h is = absurd (both_ways (list_any (λ d. d == e) signs) (no_sign_in signs e h) is)
 signs_apart_sound all_signs (these_signs more) e h is = no_sign_in more e h
 signs_apart_sound all_signs all_signs e h is = absurd (false≢true h)
 
--- so each sign of the first is in the other
+-- each punctuation character of a subset is in the larger set
 signs_within_sound : (s t : Signs) (e : ℕ) → signs_within s t ≡ true → sign_in s e ≡ true → sign_in t e ≡ true
 signs_within_sound (these_signs signs) (these_signs more) e h is = holds_too ◌==◌ (λ c. c == e) (λ d. d == e) (sign_alike e) signs more h is
 signs_within_sound (these_signs signs) all_signs e h is = refl

@@ -63,7 +63,7 @@ no_start s b (kind.Literal l) text h = refl
 no_start s b (kind.Punct c joint) text h = refl
 no_start s b kind.Doc text h = refl
 
--- nor one that closes
+-- a token of a set is no closing bracket
 pub no_stop : (s : TokenSet) (b : Bracket) (k : TokenKind) (text : List ℕ) → token_in s k text ≡ true → is_stop b k ≡ false
 no_stop s b (kind.Start c) text h = refl
 no_stop s b (kind.Stop c) text h = absurd (false≢true h)
@@ -73,7 +73,7 @@ no_stop s b (kind.Literal l) text h = refl
 no_stop s b (kind.Punct c joint) text h = refl
 no_stop s b kind.Doc text h = refl
 
--- nor documentation
+-- a token of a set is no documentation
 pub no_doc : (s : TokenSet) (k : TokenKind) (text : List ℕ) → token_in s k text ≡ true → is_doc k ≡ false
 no_doc s (kind.Start c) text h = refl
 no_doc s (kind.Stop c) text h = refl
@@ -93,7 +93,7 @@ start_no_stop b c (kind.Literal l) h = refl
 start_no_stop b c (kind.Punct d joint) h = refl
 start_no_stop b c kind.Doc h = refl
 
--- and is no documentation
+-- an opening bracket is no documentation
 pub start_no_doc : (b : Bracket) (k : TokenKind) → is_start b k ≡ true → is_doc k ≡ false
 start_no_doc b (kind.Start d) h = refl
 start_no_doc b (kind.Stop d) h = refl
@@ -103,7 +103,7 @@ start_no_doc b (kind.Literal l) h = refl
 start_no_doc b (kind.Punct d joint) h = refl
 start_no_doc b kind.Doc h = absurd (false≢true h)
 
--- nor is one that closes
+-- a closing bracket is no documentation
 pub stop_no_doc : (b : Bracket) (k : TokenKind) → is_stop b k ≡ true → is_doc k ≡ false
 stop_no_doc b (kind.Start d) h = refl
 stop_no_doc b (kind.Stop d) h = refl

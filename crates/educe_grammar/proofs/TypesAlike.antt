@@ -463,6 +463,6 @@ any_type_related =
 pub types_related : (x y : Ty) → ReadAlike Kin any_type x y → AlikeTypes x y
 types_related x y is = any_type_related.relates x y is
 
--- so are types in which `dyn` has one bound
+-- types in which `dyn` has one bound that are read alike are alike
 pub plains_related : (x y : Typed) → ReadAlike Kin plain_type x y → AlikeTypes x.0 y.0
 plains_related x y is = plain_type_related.relates x y is

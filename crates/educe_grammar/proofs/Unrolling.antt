@@ -73,7 +73,7 @@ unfolding enter
 entered_alike zero left p q same ts = refl
 entered_alike (suc budget) left p q same ts = same (omega arith) ts
 
--- the same of what is read up to a token that ends it
+-- what is read up to a token that ends it is read alike where the content is
 ended_alike : {A : Type 0} (test : Token → Bool) (p q : Parser A) → ((ts : Tokens) → p ts ≡ q ts) → (ts : Tokens) → ended test p ts ≡ ended test q ts
 ended_alike test p q same ts = λ i. and_then (same ts i) (λ x ts. and_then (expect test ts) (λ _ ts. Ok (x, ts)))
 

@@ -1,4 +1,4 @@
--- What may stand ahead: tests on the first tokens of a list.
+-- Lookahead: tests on the first tokens of a list.
 use Rattle.std.specs.Prelude.{◌≡◌, ℕ, ◌==◌, Bool, true, false, not, ◌&&◌, List, [], ◌∷◌}
 use Rattle.std.specs.List.{list_any}
 use denote.Ref.{Bor}
@@ -11,7 +11,7 @@ use Rattle.educe_grammar.specs.declared.terminal.Terminal.{Terminal}
 use Rattle.educe_grammar.specs.Terminals.{accepts}
 use Rattle.educe_grammar.specs.Steps.{Tokens}
 
--- This punctuation character.
+-- The token is this punctuation character.
 abbrev pub is_sign : ℕ → TokenKind → Bool
 is_sign c (kind.Punct d joint) = d == c
 is_sign c kind.Ident = false
@@ -21,7 +21,7 @@ is_sign c (kind.Start b) = false
 is_sign c (kind.Stop b) = false
 is_sign c kind.Doc = false
 
--- This punctuation character, joint with the next token.
+-- The token is this punctuation character, joint with the next token.
 abbrev pub is_joint : ℕ → TokenKind → Bool
 is_joint c (kind.Punct d joint) = (d == c) && joint
 is_joint c kind.Ident = false
@@ -67,18 +67,18 @@ closes b t = is_stop b t.kind
 abbrev pub documents : Token → Bool
 documents t = is_doc t.kind
 
--- Two puncts that make one operator, as `::`: the first is joint with the second.
+-- The list begins with an operator of two puncts, such as `::`: the first is joint with the second.
 unfoldable pub begins_pair : ℕ → ℕ → Tokens → Bool
 begins_pair c d [] = false
 begins_pair c d (t ∷ []) = false
 begins_pair c d (t ∷ u ∷ ts) = is_joint c t.kind && is_sign d u.kind
 
--- The punct c, where it isn't the first half of the operator of c and d.
+-- The list begins with the punct `c`, which isn't the first half of the operator `cd`.
 unfoldable pub begins_lone : ℕ → ℕ → Tokens → Bool
 begins_lone c d [] = false
 begins_lone c d (t ∷ ts) = is_sign c t.kind && not (begins_pair c d (t ∷ ts))
 
--- The first token passes the test.
+-- The list is not empty and its first token passes the test.
 unfoldable pub sees : (Token → Bool) → Tokens → Bool
 sees test [] = false
 sees test (t ∷ ts) = test t
@@ -87,20 +87,20 @@ unfoldable pub at_end : Tokens → Bool
 at_end [] = true
 at_end (t ∷ ts) = false
 
--- What a list of tokens may begin with.
+-- One test on the start of a list of tokens.
 pub data Ahead : Type 0 where
-  -- Such a token.
+  -- A token of this terminal.
   one : Terminal → Ahead
-  -- A bracket.
+  -- An opening bracket of this kind; `stop` is a closing one.
   start : Bracket → Ahead
   stop : Bracket → Ahead
-  -- Documentation.
+  -- A documentation comment.
   doc : Ahead
-  -- The operator of the puncts c and d.
+  -- The operator of the puncts `c` and `d`.
   pair : ℕ → ℕ → Ahead
-  -- The punct c, which isn't its first half.
+  -- The punct `c`, which isn't the first half of the operator `cd`.
   lone : ℕ → ℕ → Ahead
-  -- Nothing.
+  -- The end of the list.
   finish : Ahead
 
 abbrev pub begins : Ahead → Tokens → Bool
@@ -112,7 +112,7 @@ begins (pair c d) ts = begins_pair c d ts
 begins (lone c d) ts = begins_lone c d ts
 begins finish ts = at_end ts
 
--- The tokens behind it.
+-- The tokens after those that the test looks at.
 unfoldable pub behind : Ahead → Tokens → Tokens
 behind (pair c d) [] = []
 behind (pair c d) (t ∷ []) = []
@@ -120,18 +120,18 @@ behind (pair c d) (t ∷ u ∷ ts) = ts
 behind a [] = []
 behind a (t ∷ ts) = ts
 
--- The list begins with these, one behind the other.
+-- The list begins with what these tests ask for, in sequence.
 abbrev pub meets : List Ahead → Tokens → Bool
 meets [] ts = true
 meets (a ∷ more) ts = begins a ts && meets more (behind a ts)
 
--- Several beginnings, one of which is looked for.
+-- A lookahead: alternatives, each a sequence of tests.
 abbrev pub Look : Type 0
 Look = List (List Ahead)
 
 unfoldable pub sees_any : Look → Tokens → Bool
 sees_any look ts = list_any (λ way. meets way ts) look
 
--- A function value that says whether the tokens begin so.
+-- A function value that decides whether the tokens begin with one of the alternatives.
 pub record Decides (look : Look) (post : Bor Tokens → Bool → Type 0) : Type 0 where
   pub decides : (ts : Bor Tokens) (r : Bool) → post ts r → r ≡ sees_any look ts.now

@@ -1,4 +1,4 @@
--- Tokens that are equal aside, and types that are alike.
+-- Equality of tokens without spans and jointness, and similarity of types.
 use Rattle.std.specs.Prelude.{◌≡◌, Bool, false, List, [], ◌∷◌, Option, Some, None}
 use Rattle.educe_tokens.specs.declared.written.Written.{Written}
 use Rattle.educe_tree.specs.declared.ident.Ident.{Ident}
@@ -13,23 +13,22 @@ use Rattle.educe_tree.specs.declared.path.Args.TheVariants as args
 use Rattle.educe_tree.specs.declared.path.AngleArg.{AngleArg}
 use Rattle.educe_tree.specs.declared.path.AngleArg.TheVariants as arg
 use Rattle.educe_grammar.specs.Types.{type_of, path_of, segment_of}
--- ---- tokens
+-- ---- equality of tokens
 
--- The same tokens are equal, their spans and whether puncts are joint aside.
+-- Equality of tokens, where spans and jointness are ignored.
 pub use Rattle.educe_tokens.specs.Copied.{unjoined as kind_aside}
 pub use Rattle.educe_tokens.specs.Same.{lexeme_aside, lexemes_aside, AreSameTokens as AreEqualAside}
 
--- ---- types
+-- ---- similarity of types
 
--- Types are alike: their tokens are equal, spans and jointness aside, and so are those of each type inside of them, of the
--- lengths of arrays and of constants; and their trees have the same form, names, arguments (lifetimes among them), leading
--- `::` and `mut` of references. Places are not compared. What stands in the tokens alone is compared by them: the lifetime of
--- a reference, `const` or `mut` of a pointer, what stands before `fn`.
+-- Two types are alike: their tokens are equal, spans and jointness aside, and so are those of each nested type, array
+-- length and constant; and their trees have the same form, names, arguments, leading `::` and `mut` of references.
+-- Places are not compared.
 mutual
   pub data AlikeTypes : Ty → Ty → Type 0 where
     of_forms : {f g : TypeForm} (v w : Written) → AreEqualAside v.tokens w.tokens → AlikeForms f g → AlikeTypes (type_of f v) (type_of g w)
 
-  -- Forms of types.
+  -- Two forms of types are alike.
   pub data AlikeForms : TypeForm → TypeForm → Type 0 where
     parens : {x y : Ty} → AlikeTypes x y → AlikeForms (form.Paren x) (form.Paren y)
     tuples : {xs ys : List Ty} → AllTypesAlike xs ys → AlikeForms (form.Tuple xs) (form.Tuple ys)
@@ -42,48 +41,48 @@ mutual
     functions : {xs ys : List Ty} {s t : Option Ty} → AllTypesAlike xs ys → AlikeOptions s t → AlikeForms (form.FnPtr xs s) (form.FnPtr ys t)
     objects : {ps qs : List Path} → AllPathsAlike ps qs → AlikeForms (form.TraitObject ps) (form.TraitObject qs)
 
-  -- Types, where there are any.
+  -- Two optional types are alike: both are absent, or both are there and alike.
   pub data AlikeOptions : Option Ty → Option Ty → Type 0 where
     neither : AlikeOptions None None
     both_some : {x y : Ty} → AlikeTypes x y → AlikeOptions (Some x) (Some y)
 
-  -- Types in their order.
+  -- Two lists of types are alike, item by item.
   pub data AllTypesAlike : List Ty → List Ty → Type 0 where
     no_types : AllTypesAlike [] []
     more_types : {x y : Ty} {xs ys : List Ty} → AlikeTypes x y → AllTypesAlike xs ys → AllTypesAlike (x ∷ xs) (y ∷ ys)
 
-  -- Paths.
+  -- Two paths are alike.
   pub data AlikePaths : Path → Path → Type 0 where
     of_segments : (leading : Bool) {xs ys : List Segment} → AllSegmentsAlike xs ys → AlikePaths (path_of leading xs) (path_of leading ys)
 
-  -- Paths in their order.
+  -- Two lists of paths are alike, item by item.
   pub data AllPathsAlike : List Path → List Path → Type 0 where
     no_paths : AllPathsAlike [] []
     more_paths : {p q : Path} {ps qs : List Path} → AlikePaths p q → AllPathsAlike ps qs → AllPathsAlike (p ∷ ps) (q ∷ qs)
 
-  -- Segments.
+  -- Two segments of paths are alike.
   pub data AlikeSegments : Segment → Segment → Type 0 where
     of_args : (i j : Ident) {a b : Args} → i.text ≡ j.text → AlikeArgs a b → AlikeSegments (segment_of i a) (segment_of j b)
 
-  -- Segments in their order.
+  -- Two lists of segments are alike, item by item.
   pub data AllSegmentsAlike : List Segment → List Segment → Type 0 where
     no_segments : AllSegmentsAlike [] []
     more_segments : {x y : Segment} {xs ys : List Segment} → AlikeSegments x y → AllSegmentsAlike xs ys → AllSegmentsAlike (x ∷ xs) (y ∷ ys)
 
-  -- Arguments of segments.
+  -- The arguments of two segments are alike.
   pub data AlikeArgs : Args → Args → Type 0 where
     no_args : AlikeArgs args.None args.None
     in_angles : {xs ys : List AngleArg} → AllArgsAlike xs ys → AlikeArgs (args.Angle xs) (args.Angle ys)
     in_round : {xs ys : List Ty} {s t : Option Ty} → AllTypesAlike xs ys → AlikeOptions s t → AlikeArgs (args.Round xs s) (args.Round ys t)
 
-  -- Arguments in angle brackets.
+  -- Two generic arguments are alike.
   pub data AlikeAngleArgs : AngleArg → AngleArg → Type 0 where
     lifetimes : (l m : Lifetime) → l.text ≡ m.text → AlikeAngleArgs (arg.Lifetime l) (arg.Lifetime m)
     plain_types : {x y : Ty} → AlikeTypes x y → AlikeAngleArgs (arg.Plain x) (arg.Plain y)
     bindings : (i j : Ident) {x y : Ty} → i.text ≡ j.text → AlikeTypes x y → AlikeAngleArgs (arg.Binding i x) (arg.Binding j y)
     constants : (v w : Written) → AreEqualAside v.tokens w.tokens → AlikeAngleArgs (arg.Constant v) (arg.Constant w)
 
-  -- Arguments in angle brackets, in their order.
+  -- Two lists of generic arguments are alike, item by item.
   pub data AllArgsAlike : List AngleArg → List AngleArg → Type 0 where
     no_more : AllArgsAlike [] []
     more_args : {x y : AngleArg} {xs ys : List AngleArg} → AlikeAngleArgs x y → AllArgsAlike xs ys → AllArgsAlike (x ∷ xs) (y ∷ ys)

@@ -26,19 +26,19 @@ use Rattle.educe_grammar.specs.Attributes.{attributes, span_of}
 
 -- ---- visibility
 
--- A path of names.
+-- Rule for a path of names, as in `pub(in a::b)`.
 unfoldable pub mod_path : Rule (Unit {0})
 mod_path = unit (simple_path terminal.PathSegment)
 
--- How a program sees that a scope comes, and not a type in brackets.
+-- Lookahead that tells the scope of a visibility from a type in brackets.
 abbrev pub at_scope : Look
 at_scope = (start Round ∷ one terminal.Scope ∷ stop Round ∷ []) ∷ (start Round ∷ one (terminal.Word keyword.In) ∷ []) ∷ []
 
--- `crate`, `self`, `super` or `in` and a path.
+-- Rule for the scope of a visibility: `crate`, `self`, `super`, or `in` and a path.
 unfoldable pub scope : Rule (Unit {0})
 scope = either (at_word keyword.In) (unit (both (word keyword.In) mod_path)) (unit (token terminal.Scope))
 
--- A visibility, or nothing.
+-- Rule for an optional visibility.
 unfoldable pub visibility : Rule (Unit {0})
 visibility = unit (flag (at_word keyword.Pub) (both (word keyword.Pub) (flag at_scope (nest Round scope))))
 
@@ -50,14 +50,14 @@ named_field_of p = record { attrs = p.0.0; ident = Some p.0.1; ty = p.0.2; span 
 abbrev pub flat : List Attribute × (Ident × Ty) → List Attribute × Ident × Ty
 flat p = (p.0, p.1.0, p.1.1)
 
--- A field with a name.
+-- Rule for a field with a name.
 unfoldable pub named_field : Rule Field
 named_field = made named_field_of (sliced (made flat (both attributes (skipping visibility (both name (behind_colon (part types)))))))
 
 abbrev pub tuple_field_of : (List Attribute × Ty) × Tokens → Field
 tuple_field_of p = record { attrs = p.0.0; ident = None; ty = p.0.1; span = span_of p.1 }
 
--- A field without a name.
+-- Rule for a field of a tuple struct or variant.
 unfoldable pub tuple_field : Rule Field
 tuple_field = made tuple_field_of (sliced (both attributes (skipping visibility (part types))))
 
@@ -84,13 +84,13 @@ variant_fields = either (at (start Curly)) named_fields (either (at (start Round
 abbrev pub variant_of : (List Attribute × (Ident × (FieldShape × Option Expr))) × Tokens → Variant
 variant_of p = record { attrs = p.0.0; ident = p.0.1.0; fields = p.0.1.1.0; discriminant = p.0.1.1.1; span = span_of p.1 }
 
--- A variant.
+-- Rule for a variant of an enum.
 unfoldable pub variant : Rule Variant
 variant = made variant_of (sliced (both attributes (both name (both variant_fields (optional (at_sign 61) (skipping (sign 61) (part exprs)))))))
 
 -- ---- definitions
 
--- What is defined behind the name and the parameters.
+-- What follows the name and the parameters of a definition.
 abbrev pub Body : Type 0
 Body = Shape × List WherePredicate
 
@@ -100,7 +100,7 @@ struct_body_of p = (Struct p.0, p.1)
 abbrev pub swapped : List WherePredicate × FieldShape → FieldShape × List WherePredicate
 swapped p = (p.1, p.0)
 
--- The body of a struct.
+-- Rule for the body of a struct.
 unfoldable pub struct_body : Rule Body
 struct_body = made struct_body_of
     (either (at (start Round)) (leaving (both tuple_fields where_clause) (sign 59))
@@ -109,11 +109,11 @@ struct_body = made struct_body_of
 abbrev pub enum_body_of : List WherePredicate × List Variant → Body
 enum_body_of p = (Enum p.1, p.0)
 
--- The body of an enum.
+-- Rule for the body of an enum.
 unfoldable pub enum_body : Rule Body
 enum_body = made enum_body_of (both where_clause (in_curly variant))
 
--- A name, parameters and the body.
+-- A definition without its attributes and visibility: its name, parameters and body.
 abbrev pub Item : Type 0
 Item = Ident × (List GenericParam × Body)
 
@@ -132,6 +132,6 @@ definition_of p = record {
   tokens = p.1;
 }
 
--- A definition.
+-- Rule for a definition.
 unfoldable pub definition : Rule DeriveInput
 definition = made definition_of (sliced (both attributes (skipping visibility (either (at_word keyword.Enum) enum_item struct_item))))

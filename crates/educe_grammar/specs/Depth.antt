@@ -1,4 +1,5 @@
--- Openers, and how many of them count at a place: with each level of nesting, and each link of a chain, goes one.
+-- The tokens that open a level of nesting, and how many of them count at a place: each level of nesting, and each link
+-- of a chain, takes one.
 use Rattle.std.specs.Prelude.{ℕ, ◌+◌, ◌-◌, ◌==◌, Bool, true, false, ◌&&◌, ◌||◌, if◌then◌else◌, List, [], ◌∷◌, length, take, codes}
 use Rattle.std.specs.List.{list_any}
 use Rattle.std.specs.Str.{bytes_eq}
@@ -6,11 +7,11 @@ use Rattle.educe_tokens.specs.TokenKind.{TokenKind}
 use Rattle.educe_tokens.specs.TokenKind.TheVariants as kind
 use Rattle.educe_grammar.specs.Steps.{Tokens}
 
--- `< > & * - ! + / % ^ | = .`.
+-- The signs that open a level of nesting: `< > & * - ! + / % ^ | = .`.
 abbrev pub opening_signs : List ℕ
 opening_signs = 60 ∷ 62 ∷ 38 ∷ 42 ∷ 45 ∷ 33 ∷ 43 ∷ 47 ∷ 37 ∷ 94 ∷ 124 ∷ 61 ∷ 46 ∷ []
 
--- An opening bracket, the word `as` or `dyn`, or one of these signs.
+-- The token opens a level of nesting: an opening bracket, the word `as` or `dyn`, or one of these signs.
 abbrev pub is_opener : TokenKind → List ℕ → Bool
 is_opener (kind.Start b) text = true
 is_opener (kind.Punct c joint) text = list_any (λ d. d == c) opening_signs
@@ -20,7 +21,7 @@ is_opener kind.Lifetime text = false
 is_opener (kind.Literal l) text = false
 is_opener kind.Doc text = false
 
--- The closing brackets whose opening ones stand further to the left, with one more token on the left.
+-- The number of unmatched closing brackets, after one more token to the left.
 abbrev pub pending : TokenKind → ℕ → ℕ
 pending (kind.Stop b) n = n + 1
 pending (kind.Start b) n = n - 1
@@ -30,16 +31,17 @@ pending kind.Lifetime n = n
 pending (kind.Literal l) n = n
 pending kind.Doc n = n
 
--- How many brackets are closed in the list that were not opened in it.
+-- The number of brackets that are closed in the list but not opened in it.
 unfoldable pub closed : Tokens → ℕ
 closed [] = 0
 closed (t ∷ ts) = pending t.kind (closed ts)
 
--- How many openers count at the end of the list: those that stand inside of no bracket pair that is closed there.
+-- The number of openers that count at the end of the list: those in no bracket pair that is closed there.
 unfoldable pub counted : Tokens → ℕ
 counted [] = 0
 counted (t ∷ ts) = counted ts + (if is_opener t.kind t.spelling && (closed (t ∷ ts) == 0) then 1 else 0)
 
--- The tokens up to the one at which so many are left, and that one. At an opener, no bracket pair is closed by it.
+-- The tokens up to and including the one at which this many are left. Where that one is an opener, it closes no bracket
+-- pair.
 abbrev pub up_to : ℕ → Tokens → Tokens
 up_to left ts = take (length ts + 1 - left) ts

@@ -33,20 +33,20 @@ use Rattle.educe_grammar.specs.Combining.{at, at_sign, at_word, at_colons, at_an
 use Rattle.educe_grammar.specs.Names.{segment_name}
 use Rattle.educe_grammar.specs.Types.{path_of, segment_of, angle_args, has_no_args, is_path, qualified_self, qualified_path, plain_type}
 
--- ---- trees of tokens
+-- ---- token trees
 
--- How a token tree begins.
+-- Lookahead for a token tree.
 abbrev pub at_tree : Look
 at_tree = (one terminal.Leaf ∷ []) ∷ (start Round ∷ []) ∷ (start Square ∷ []) ∷ (start Curly ∷ []) ∷ []
 
 unfoldable pub some_trees : Rule (Unit {0})
 some_trees = unit (many at_tree (part trees))
 
--- A bracket pair around trees.
+-- Rule for a bracket pair around token trees.
 unfoldable pub group : Rule (Unit {0})
 group = either (at (start Round)) (nest Round some_trees) (either (at (start Square)) (nest Square some_trees) (nest Curly some_trees))
 
--- A token or a bracket pair.
+-- Rule for a token tree: one token, or a bracket pair around token trees.
 unfoldable pub tree : Rule (Unit {0})
 tree = either (at (one terminal.Leaf)) (unit (token terminal.Leaf)) group
 
@@ -55,11 +55,11 @@ tree = either (at (one terminal.Leaf)) (unit (token terminal.Leaf)) group
 abbrev pub segment_with : Ident × Option (List AngleArg) → Segment
 segment_with p = elim p.1 [ None ↦ segment_of p.0 args.None | Some found ↦ segment_of p.0 (args.Angle found) ]
 
--- `::<`.
+-- Lookahead for `::<`.
 abbrev pub at_turbofish : Look
 at_turbofish = (pair 58 58 ∷ lone 60 61 ∷ []) ∷ []
 
--- A segment of a path in an expression.
+-- Rule for a segment of a path in an expression.
 unfoldable pub expr_segment : Rule Segment
 expr_segment = made segment_with (both segment_name (optional at_turbofish (skipping colons angle_args)))
 
@@ -75,22 +75,22 @@ qualified_expr p = (Some p.0.0, qualified_path p.0.1 p.1)
 abbrev pub expr_path_of : (Option Ty × Path) × Written → ExprPath
 expr_path_of p = record { self_type = p.0.0; path = p.0.1; written = p.1 }
 
--- A path behind its type, as in `<T as A>::b`.
+-- Rule for a qualified path, as `<T as A>::b`.
 unfoldable pub qualified_expr_path : Rule (Option Ty × Path)
 qualified_expr_path = made qualified_expr (both qualified_self (skipping colons (rule.path expr_segment)))
 
--- A path with no type before it.
+-- Rule for a path that is not qualified.
 unfoldable pub local_expr_path : Rule (Option Ty × Path)
 local_expr_path = checked is_local_path (made local_path (both (flag at_colons colons) (rule.path expr_segment)))
 
 unfoldable pub any_expr_path : Rule (Option Ty × Path)
 any_expr_path = either at_angle qualified_expr_path local_expr_path
 
--- A path in an expression.
+-- Rule for a path in an expression.
 unfoldable pub expr_path : Rule ExprPath
 expr_path = made expr_path_of (written any_expr_path)
 
--- No segment has arguments.
+-- None of the segments has arguments.
 abbrev pub no_segment_args : List Segment → Bool
 no_segment_args found = list_all (λ s. has_no_args (out-Segment s).args) found
 
@@ -98,17 +98,17 @@ abbrev pub has_no_self : Option Ty → Bool
 has_no_self None = true
 has_no_self (Some t) = false
 
--- A path without arguments.
+-- The path has neither a qualified type nor arguments.
 abbrev pub is_mod_path : ExprPath → Bool
 is_mod_path p = has_no_self p.self_type && no_segment_args (out-Path p.path).segments
 
--- ---- what stands behind a path
+-- ---- what follows a path
 
--- The word `self`.
+-- The token is the word `self`.
 abbrev pub is_self : Token → Bool
 is_self t = bytes_eq t.spelling (codes "self")
 
--- Each `self` stands before `::`.
+-- Each `self` in the list is followed by `::`.
 unfoldable pub self_begins_paths : Tokens → Bool
 self_begins_paths [] = true
 self_begins_paths (t ∷ ts) = (not (is_self t) || begins_pair 58 58 ts) && self_begins_paths ts
@@ -116,36 +116,36 @@ self_begins_paths (t ∷ ts) = (not (is_self t) || begins_pair 58 58 ts) && self
 abbrev pub is_macro_group : Unit {0} × Tokens → Bool
 is_macro_group p = self_begins_paths p.1
 
--- What a macro is called with.
+-- Rule for the bracketed input of a macro call.
 unfoldable pub macro_group : Rule (Unit {0})
 macro_group = unit (checked is_macro_group (sliced group))
 
--- How a program sees that a field comes with a value.
+-- Lookahead that tells a field with a value from a field that is its name alone.
 abbrev pub at_value : Look
 at_value = (one terminal.NameOrIndex ∷ lone 58 58 ∷ []) ∷ []
 
--- The value of a field, or its name alone.
+-- Rule for one field of a struct expression: with a value, or its name alone.
 unfoldable pub init : Rule (Unit {0})
 init =
     either at_value (unit (both (token terminal.NameOrIndex) (behind_colon (part exprs))))
     (unit (token terminal.Name))
 
--- What stands behind the fields.
+-- Lookahead for what may follow the fields of a struct expression.
 abbrev pub behind_fields : Look
 behind_fields = (stop Curly ∷ []) ∷ (pair 46 46 ∷ []) ∷ []
 
--- The fields of a struct expression.
+-- Rule for the fields of a struct expression.
 unfoldable pub inits : Rule (Unit {0})
 inits = unit (both (commas behind_fields init) (flag (at (pair 46 46)) (both (rule.operator 46 46) (part exprs))))
 
--- Nothing, the fields of a struct, or the call of a macro.
+-- Rule for what follows a path: nothing, the fields of a struct, or the input of a macro call.
 unfoldable pub path_tail : Rule Tail
 path_tail =
     either (at (start Curly)) (made (λ _. tail.Fields) (nest Curly inits))
     (either (at (lone 33 61)) (made (λ _. tail.Call) (rule.lone 33 61 macro_group))
     (empty tail.Nothing))
 
--- The path of a macro has no arguments.
+-- The path before a macro call has no arguments.
 abbrev pub fits_tail : ExprPath × Tail → Bool
 fits_tail p = elim p.1 [ tail.Nothing ↦ true | tail.Fields ↦ true | tail.Call ↦ is_mod_path p.0 ]
 
@@ -156,7 +156,7 @@ tail_form tail.Call = form.Other
 
 -- ---- operands
 
--- An operand without prefixes and postfixes.
+-- Rule for an operand without prefixes and postfixes.
 unfoldable pub primary : Rule ExprForm
 primary =
     either (at (one terminal.Literal)) (made (λ _. form.Literal) (token terminal.Literal))
@@ -164,7 +164,7 @@ primary =
     (either (at (start Round)) (made (λ _. form.Other) (in_round (part exprs)))
     (made (λ p. tail_form p.1) (checked fits_tail (both expr_path path_tail)))))
 
--- A field or a method behind `.`.
+-- Rule for a field or a method call, after `.`.
 unfoldable pub member : Rule (Unit {0})
 member =
     either (at (one terminal.Name)) (unit (both (token terminal.Name) (flag at_colons (skipping colons angle_args))))
@@ -173,7 +173,7 @@ member =
 abbrev pub at_postfix : Look
 at_postfix = (start Round ∷ []) ∷ (start Square ∷ []) ∷ (lone 46 46 ∷ []) ∷ []
 
--- What is read behind an operand.
+-- Rule for a postfix of an operand.
 unfoldable pub postfix : Rule (Unit {0})
 postfix =
     either (at (start Round)) (unit (in_round (part exprs)))
@@ -186,13 +186,13 @@ at_prefix = (one terminal.PrefixSign ∷ []) ∷ (one (terminal.Sign 38) ∷ [])
 abbrev pub is_minus : Found (accepts terminal.PrefixSign) → Bool
 is_minus found = is_sign 45 found.token.kind
 
--- A prefix, and whether it is `-`.
+-- Rule for a prefix operator; the value says whether it is `-`.
 unfoldable pub prefix : Rule Bool
 prefix =
     either (at_sign 38) (made (λ _. false) (both (sign 38) (flag (at_word keyword.Mut) (word keyword.Mut))))
     (made is_minus (token terminal.PrefixSign))
 
--- One literal behind one `-`.
+-- The form of an operand after a prefix: `-` and one literal is a negated literal.
 abbrev pub negated_form : Bool → ExprForm → ExprForm
 negated_form true form.Literal = form.Negated
 negated_form true found = form.Other
@@ -203,26 +203,26 @@ unary_form [] found [] = found
 unary_form (minus ∷ []) found [] = negated_form minus found
 unary_form prefixes found postfixes = form.Other
 
--- An operand.
+-- Rule for an operand with its prefixes and postfixes.
 unfoldable pub unary : Rule ExprForm
 unary = made (λ p. unary_form p.0 p.1.0 p.1.1) (both (chain at_prefix prefix) (both primary (chain at_postfix postfix)))
 
 -- ---- operators
 
--- How a link begins: with `as` or an operator.
+-- Lookahead for a link of an expression: `as` or an operator.
 abbrev pub at_link : Look
 at_link =
     (one (terminal.Word keyword.As) ∷ []) ∷ (one (terminal.Sign 43) ∷ []) ∷ (one (terminal.Sign 45) ∷ []) ∷ (one (terminal.Sign 42) ∷ [])
     ∷ (one (terminal.Sign 47) ∷ []) ∷ (one (terminal.Sign 37) ∷ []) ∷ (one (terminal.Sign 94) ∷ []) ∷ (one (terminal.Sign 38) ∷ [])
     ∷ (one (terminal.Sign 124) ∷ []) ∷ (one (terminal.Sign 60) ∷ []) ∷ (one (terminal.Sign 62) ∷ []) ∷ (pair 61 61 ∷ []) ∷ (pair 33 61 ∷ []) ∷ []
 
--- `as Plain`, or an operator and its second operand.
+-- Rule for a link of an expression: a cast, or an operator and its second operand.
 unfoldable pub link : Rule Link
 link =
     either (at_word keyword.As) (made (λ t. Cast t.1) (skipping (word keyword.As) plain_type))
     (made (λ p. Binary p.0) (binary unary))
 
--- Between two comparisons stands `&&` or `||`; the truth value says that one may come.
+-- Comparisons don't chain: between any two of them there is `&&` or `||`. The truth value says whether one may come.
 unfoldable pub compares_once : Bool → List Link → Bool
 compares_once may [] = true
 compares_once may (Cast ending ∷ more) = compares_once may more
@@ -245,7 +245,7 @@ abbrev pub may_stand_before : Link → Link → Bool
 may_stand_before (Cast Name) next = not (begins_with_less next)
 may_stand_before first next = true
 
--- Behind a cast to a type that ends with a name stands neither `<` nor `<<`.
+-- A cast to a type that ends with a name is followed by neither `<` nor `<<`.
 unfoldable pub casts_end : List Link → Bool
 casts_end [] = true
 casts_end (l ∷ []) = true
@@ -260,10 +260,10 @@ linked_form p = elim p.1 [ [] ↦ p.0 | _ ∷ _ ↦ form.Other ]
 abbrev pub expr_of : ExprForm × Written → Expr
 expr_of p = record { form = p.0; written = p.1 }
 
--- Operands with links between.
+-- Rule for operands with operators and casts between them.
 unfoldable pub operation : Rule ExprForm
 operation = made linked_form (both unary (checked links_fit (chain at_link link)))
 
--- An expression.
+-- Rule for an expression.
 unfoldable pub expression : Rule Expr
 expression = made expr_of (written operation)

@@ -17,50 +17,50 @@ use Rattle.educe_grammar.specs.Types.{lifetime_bounds, for_all, constant, bounds
 
 -- ---- parameters
 
--- A lifetime, and whether bounds stand behind it.
+-- Rule for a lifetime and its optional bounds; the truth value says whether bounds follow it.
 unfoldable pub bounded_lifetime : Rule (Lifetime × Bool)
 bounded_lifetime = both lifetime (flag at_colon (behind_colon lifetime_bounds))
 
 abbrev pub lifetime_param_of : (Lifetime × Bool) × Written → GenericParam
 lifetime_param_of p = param.Lifetime (record { lifetime = p.0.0; written = p.1 })
 
--- `'a: 'b`.
+-- Rule for a lifetime parameter, as `'a: 'b`.
 unfoldable pub lifetime_param : Rule GenericParam
 lifetime_param = made lifetime_param_of (written bounded_lifetime)
 
--- A name, and whether bounds stand behind it.
+-- Rule for a name and its optional bounds; the truth value says whether bounds follow it.
 unfoldable pub bounded_name : Rule (Ident × Bool)
 bounded_name = both name (flag at_colon (behind_colon bounds))
 
 abbrev pub type_param_of : (Ident × Bool) × Written → GenericParam
 type_param_of p = param.TypeParam (record { ident = p.0.0; written = p.1 })
 
--- `T: Trait = Default`, of which the default isn't kept.
+-- Rule for a type parameter, as `T: Trait = Default`, whose default isn't kept.
 unfoldable pub type_param : Rule GenericParam
 type_param = leaving (made type_param_of (written bounded_name)) (flag (at_sign 61) (skipping (sign 61) (part types)))
 
--- A constant's name, with its type behind it.
+-- Rule for the name and the type of a const parameter.
 unfoldable pub typed_const : Rule Ident
 typed_const = skipping (word keyword.Const) (leaving name (behind_colon (part types)))
 
 abbrev pub const_param_of : Ident × Written → GenericParam
 const_param_of p = param.Const (record { ident = p.0; written = p.1 })
 
--- A constant.
+-- Rule for a constant: a name, or a constant argument that is no name.
 unfoldable pub any_constant : Rule (Unit {0})
 any_constant = either (at (one terminal.Name)) (unit (token terminal.Name)) constant
 
--- `const N: usize = 1`, of which the default isn't kept.
+-- Rule for a const parameter, as `const N: usize = 1`, whose default isn't kept.
 unfoldable pub const_param : Rule GenericParam
 const_param = leaving (made const_param_of (written typed_const)) (flag (at_sign 61) (skipping (sign 61) any_constant))
 
--- A generic parameter.
+-- Rule for a generic parameter.
 unfoldable pub generic_param : Rule GenericParam
 generic_param =
     either (at (one terminal.Lifetime)) lifetime_param
     (either (at_word keyword.Const) const_param type_param)
 
--- Generic parameters, or nothing.
+-- Rule for optional generic parameters in angle brackets.
 unfoldable pub generic_params : Rule (List GenericParam)
 generic_params = either at_angle (in_angles generic_param) (empty [])
 
@@ -69,34 +69,34 @@ generic_params = either at_angle (in_angles generic_param) (empty [])
 abbrev pub predicate_of : (Unit {0}) × Written → WherePredicate
 predicate_of p = record { written = p.1 }
 
--- `'a: 'b`.
+-- Rule for a predicate about a lifetime, as `'a: 'b`.
 unfoldable pub lifetime_predicate : Rule (Unit {0})
 lifetime_predicate = unit (both lifetime (behind_colon lifetime_bounds))
 
--- `T: Trait`.
+-- Rule for a type with its bounds, as `T: Trait`.
 unfoldable pub bounded_type : Rule (Unit {0})
 bounded_type = unit (both (part types) (behind_colon bounds))
 
--- `for<'a> T: Trait`; the predicate takes the `for` that it begins with.
+-- Rule for a predicate about a type, as `for<'a> T: Trait`, its leading `for` included.
 unfoldable pub type_predicate : Rule (Unit {0})
 type_predicate = prefer (terminal.Word keyword.For) (skipping for_all bounded_type) bounded_type
 
--- What a predicate says.
+-- Rule for a predicate of either kind.
 unfoldable pub any_predicate : Rule (Unit {0})
 any_predicate = either (at (one terminal.Lifetime)) lifetime_predicate type_predicate
 
--- A predicate.
+-- Rule for a predicate with its tokens.
 unfoldable pub predicate : Rule WherePredicate
 predicate = made predicate_of (written any_predicate)
 
--- What stands behind a where-clause.
+-- Lookahead for what may follow a where-clause.
 abbrev pub behind_where : Look
 behind_where = (start Curly ∷ []) ∷ (one (terminal.Sign 59) ∷ []) ∷ (finish ∷ []) ∷ []
 
--- Predicates.
+-- Rule for the predicates of a where-clause.
 unfoldable pub predicates : Rule (List WherePredicate)
 predicates = commas behind_where predicate
 
--- A where-clause, or nothing.
+-- Rule for an optional where-clause.
 unfoldable pub where_clause : Rule (List WherePredicate)
 where_clause = either (at_word keyword.Where) (skipping (word keyword.Where) predicates) (empty [])

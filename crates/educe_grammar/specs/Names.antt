@@ -1,4 +1,4 @@
--- The trees of names and lifetimes, and paths of names.
+-- Names, lifetimes and simple paths.
 use Rattle.std.specs.Prelude.{◌≡◌, ℕ, Bool, true, IsTrue, List, []}
 use Rattle.std.proofs.Common.{refl, subst}
 use Rattle.std.specs.Bool.{passes}
@@ -16,7 +16,7 @@ use Rattle.educe_grammar.specs.Rules as rule
 use Rattle.educe_grammar.specs.Rules.{Rule, token, both, made}
 use Rattle.educe_grammar.specs.Combining.{at_colons, unit, flag, colons}
 
--- A token of a set of words alone is an identifier.
+-- A token in a set that contains only words is an identifier.
 pub word_kind : (words : Words) (k : TokenKind) (text : List ℕ) → token_in (only_words words) k text ≡ true → k ≡ kind.Ident
 word_kind words kind.Ident text h = refl
 word_kind words kind.Lifetime text h = absurd (passes _ h)
@@ -26,7 +26,7 @@ word_kind words (kind.Start b) text h = absurd (passes _ h)
 word_kind words (kind.Stop b) text h = absurd (passes _ h)
 word_kind words kind.Doc text h = absurd (passes _ h)
 
--- A token of the set of lifetimes is one.
+-- A token in the set of lifetimes is a lifetime.
 pub lifetime_kind : (k : TokenKind) (text : List ℕ) → token_in (set_of terminal.Lifetime) k text ≡ true → k ≡ kind.Lifetime
 lifetime_kind kind.Ident text h = absurd (passes _ h)
 lifetime_kind kind.Lifetime text h = refl
@@ -36,11 +36,11 @@ lifetime_kind (kind.Start b) text h = absurd (passes _ h)
 lifetime_kind (kind.Stop b) text h = absurd (passes _ h)
 lifetime_kind kind.Doc text h = absurd (passes _ h)
 
--- The identifier that a token of a set of words is.
+-- The identifier of a token that is in a set of words.
 abbrev pub ident_in : (words : Words) (t : Token) → IsTrue (token_in (only_words words) t.kind t.spelling) → Ident
 ident_in words t h = record { text = t.spelling; span = t.span; spelled = subst (λ k. IsTrue (spells k t.spelling)) (word_kind words t.kind t.spelling h) t.spelled }
 
--- What is accepted is in the set that is asked for.
+-- A token that a terminal accepts is in the terminal's set.
 pub accepted : (asked : Terminal) (t : Token) → IsTrue (accepts asked t) → IsTrue (token_in (set_of asked) t.kind t.spelling)
 unfolding accepts
 accepted asked t passes = passes
@@ -59,22 +59,23 @@ lifetime_of found = record {
       subst (λ k. IsTrue (spells k found.token.spelling)) (lifetime_kind found.token.kind found.token.spelling (accepted terminal.Lifetime found.token found.passes)) found.token.spelled;
 }
 
--- A name (Rust Reference, Identifiers).
+-- Rule for a name (Rust Reference, Identifiers).
 unfoldable pub name : Rule Ident
 name = made name_of (token terminal.Name)
 
--- The name of a segment: also `self`, `Self`, `super` and `crate` (Rust Reference, Paths).
+-- Rule for the name of a segment, which may be `self`, `Self`, `super` or `crate` (Rust Reference, Paths).
 unfoldable pub segment_name : Rule Ident
 segment_name = made segment_name_of (token terminal.PathSegment)
 
--- A lifetime (Rust Reference, Lifetimes and loop labels).
+-- Rule for a lifetime (Rust Reference, Lifetimes and loop labels).
 unfoldable pub lifetime : Rule Lifetime
 lifetime = made lifetime_of (token terminal.Lifetime)
 
--- A token of which nothing is kept.
+-- Rule for one token of the terminal, whose value is discarded.
 unfoldable pub mere_token : Terminal → Rule (Unit {0})
 mere_token asked = unit (token asked)
 
--- Such tokens with `::` between, and maybe before the first (Rust Reference, Simple paths).
+-- Rule for tokens of the terminal with `::` between them and optionally before the first (Rust Reference, Simple
+-- paths).
 unfoldable pub simple_path : Terminal → Rule (Bool × List (Unit {0}))
 simple_path asked = both (flag at_colons colons) (rule.path (mere_token asked))

@@ -1,4 +1,4 @@
--- Names that are given twice: in a definition they are apart, a leading `r#` aside (Rust Reference, Names).
+-- Duplicate names: in a definition names are distinct, a leading `r#` aside (Rust Reference, Names).
 use Rattle.std.specs.Prelude.{◌≡◌, ◌≢◌, ℕ, ◌<◌, ◌≤◌, List, [], ◌∷◌, ◌++◌, map, Option, Some, None}
 use Rattle.std.specs.List.{AllByRecursion, filter_map}
 use Rattle.educe_tokens.specs.declared.span.Span.{Span}
@@ -15,7 +15,7 @@ use Rattle.educe_tree.specs.declared.generics.GenericParam.{GenericParam}
 use Rattle.educe_tree.specs.declared.generics.GenericParam.TheVariants as param
 use Rattle.educe_tree.specs.Names.{unraw}
 
--- A name as it was written, and its place.
+-- A name as it was written, with its place.
 pub record Named : Type 0 where
   pub text : List ℕ
   pub span : Span
@@ -23,13 +23,13 @@ pub record Named : Type 0 where
 abbrev pub ident_named : Ident → Named
 ident_named ident = record { text = ident.text; span = ident.span }
 
--- The names of lifetime parameters.
+-- The name of a lifetime parameter; other parameters have none here.
 abbrev pub lifetime_named : GenericParam → Option Named
 lifetime_named (param.Lifetime p) = Some (record { text = p.lifetime.text; span = p.lifetime.span })
 lifetime_named (param.TypeParam p) = None
 lifetime_named (param.Const p) = None
 
--- The names of type and const parameters.
+-- The name of a type or const parameter; lifetime parameters have none here.
 abbrev pub type_named : GenericParam → Option Named
 type_named (param.Lifetime p) = None
 type_named (param.TypeParam p) = Some (ident_named p.ident)
@@ -44,23 +44,23 @@ field_names fields = filter_map field_named fields
 abbrev pub variant_names : List Variant → List Named
 variant_names variants = map (λ v. ident_named v.ident) variants
 
--- The lists of names of a shape, in each of which they are apart: the fields of a struct, or the variants of an enum and
+-- The scopes of a shape, in each of which names are distinct: the fields of a struct, or the variants of an enum and
 -- the fields of each.
 abbrev pub shape_scopes : Shape → List (List Named)
 shape_scopes (Struct shape) = field_names shape.fields ∷ []
 shape_scopes (Enum variants) = variant_names variants ∷ map (λ v. field_names v.fields.fields) variants
 
--- The lists of names of a definition: lifetime parameters, type and const parameters, and those of its shape.
+-- The scopes of a definition: lifetime parameters, type and const parameters, and those of its shape.
 abbrev pub scopes : DeriveInput → List (List Named)
 scopes definition =
     filter_map lifetime_named definition.generics.params ∷ filter_map type_named definition.generics.params ∷ shape_scopes definition.shape
 
--- Each differs from all that follow it, a leading `r#` aside.
+-- The names are pairwise distinct, a leading `r#` aside.
 abbrev pub AreApart : List Named → Type 0
 AreApart [] = Unit {0}
 AreApart (name ∷ names) = AllByRecursion (λ later. unraw name.text ≢ unraw later.text) names × AreApart names
 
--- An earlier name of the list is this one, a leading `r#` aside; the names before this one are apart.
+-- An earlier name of the list equals this one, a leading `r#` aside; the names before this one are distinct.
 pub record IsRepeated (found : Named) (names : List Named) : Type 0 where
   pub before : List Named
   pub first : Named
@@ -70,19 +70,19 @@ pub record IsRepeated (found : Named) (names : List Named) : Type 0 where
   pub same : unraw first.text ≡ unraw found.text
   pub apart : AreApart (before ++ first ∷ between)
 
--- In each list the names are apart.
+-- In each of the lists the names are distinct.
 abbrev pub AllApart : List (List Named) → Type 0
 AllApart lists = AllByRecursion AreApart lists
 
--- Where a name is repeated in one of the lists, it stands behind this place.
+-- Each repeated name of the lists stands after this offset.
 abbrev pub AreBehind : ℕ → List (List Named) → Type 0
 AreBehind start lists = AllByRecursion (λ names. (other : Named) → IsRepeated other names → start < other.span.start) lists
 
--- Where a name is repeated in one of the lists, it doesn't stand before this place.
+-- Each repeated name of the lists stands at this offset or after it.
 abbrev pub AreNotBefore : ℕ → List (List Named) → Type 0
 AreNotBefore start lists = AllByRecursion (λ names. (other : Named) → IsRepeated other names → start ≤ other.span.start) lists
 
--- The name is repeated in one of the lists, and of the names that are repeated in some list it is written first.
+-- The name is repeated in one of the lists, and no repeated name of any list is written before it.
 pub record IsRepeatedIn (found : Named) (lists : List (List Named)) : Type 0 where
   pub before : List (List Named)
   pub names : List Named
@@ -92,15 +92,15 @@ pub record IsRepeatedIn (found : Named) (lists : List (List Named)) : Type 0 whe
   pub behind : AreBehind found.span.start before
   pub not_before : AreNotBefore found.span.start after
 
--- The name is repeated in one of the lists and is written first; or there is none, and in each list the names are apart.
+-- The name is the first repeated one of the lists; or there is none, and in each list the names are distinct.
 abbrev pub IsEarliest : Option Named → List (List Named) → Type 0
 IsEarliest (Some found) lists = IsRepeatedIn found lists
 IsEarliest None lists = AllApart lists
 
--- All names of a definition are apart where they have to be.
+-- The names of the definition are distinct in each of its scopes.
 abbrev pub AreNamesApart : DeriveInput → Type 0
 AreNamesApart definition = AllApart (scopes definition)
 
--- That the name is given twice, at the later place.
+-- The rejection for a duplicate name, at its later place.
 abbrev pub duplicate_of : Named → EduceError
 duplicate_of found = citing_at DuplicateName found.span found.text

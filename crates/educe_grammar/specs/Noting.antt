@@ -1,4 +1,4 @@
--- A rule as a plain program that notes each path that begins with `Self`.
+-- Rules as plain programs that note each path that begins with `Self`.
 use Rattle.std.specs.Prelude.{◌≡◌, ℕ, zero, suc, ◌-◌, Bool, if◌then◌else◌, IsTrue, List, [], ◌∷◌, ◌++◌, length, drop, refl, Option, Some, None, Result, Ok, Err}
 use Rattle.educe_tokens.specs.declared.token.Token.{Token}
 use Rattle.educe_tokens.specs.declared.written.Written.{Written}
@@ -19,7 +19,7 @@ use Rattle.educe_grammar.specs.Reading.{chain_limit}
 use Rattle.educe_grammar.specs.Rules.{Rule, token, documentation, empty, both, made, checked, either, prefer, operator, lone, binary, nest, angles, under, arrow, list, many, chain, path, sliced, written, part, Part, TreeOf}
 use Rattle.educe_grammar.specs.Running.{skip_if, written_if}
 
--- What was read with what is left and what is noted, or a rejection.
+-- The value with the rest of the stream and the noted paths, or a rejection.
 abbrev pub Noted : Type 0 → Type 0
 Noted A = Result (A × ParseStream) ParseError
 
@@ -30,58 +30,58 @@ abbrev pub and_then : {A B : Type 0} → Noted A → (A → Noter B) → Noted B
 and_then (Ok p) f = f p.0 p.1
 and_then (Err e) f = Err e
 
--- What was read behind this stream, where nothing is noted.
+-- The outcome on this stream, with no path added to the noted ones.
 abbrev pub onto : {A : Type 0} → ParseStream → Outcome A → Noted A
 onto s (Ok p) = Ok (p.0, record { cursor = p.1; selves = s.selves })
 onto s (Err e) = Err e
 
--- A program that notes nothing.
+-- The program, with no path noted.
 abbrev pub plainly : {A : Type 0} → Parser A → Noter A
 plainly read s = onto s (read s.cursor)
 
--- What was read with what is left, without what is noted.
+-- The outcome without the noted paths.
 abbrev pub forget : {A : Type 0} → Noted A → Outcome A
 forget (Ok p) = Ok (p.0, p.1.cursor)
 forget (Err e) = Err e
 
--- The one program reads what the other reads.
+-- Without the noted paths, the first program parses what the second parses.
 abbrev pub Forgets : {A : Type 0} → Noter A → Parser A → Type 0
 Forgets note read = (s : ParseStream) → forget (note s) ≡ read s.cursor
 
--- Programs for the parts, with each budget.
+-- Programs for the parts, for any budget.
 abbrev pub Noters : Type 0
 Noters = ℕ → (p : Part) → Noter (TreeOf p)
 
--- The items up to such a beginning; the number bounds the turns.
+-- Parses separated items up to what the lookahead accepts; the number bounds the iterations.
 unfoldable pub items : {A : Type 0} → (Token → Bool) → Look → Noter A → ℕ → List A → Noter (List A)
 items separates stop item zero found s = Err (Syntax (length s.cursor))
 items separates stop item (suc turns) found s =
     if sees_any stop s.cursor then Ok (found, s) else and_then (item s) (λ x s.
     if sees separates s.cursor then items separates stop item turns (found ++ x ∷ []) (record { cursor = drop 1 s.cursor; selves = s.selves }) else Ok (found ++ x ∷ [], s))
 
--- The items as long as the tokens begin so; the number bounds the turns.
+-- Parses items as long as the lookahead accepts the tokens; the number bounds the iterations.
 unfoldable pub repeat : {A : Type 0} → Look → Noter A → ℕ → List A → Noter (List A)
 repeat look item zero found s = Err (Syntax (length s.cursor))
 repeat look item (suc turns) found s = if sees_any look s.cursor then and_then (item s) (λ x. repeat look item turns (found ++ x ∷ [])) else Ok (found, s)
 
--- The same, where one more than the number is too deep.
+-- Parses items as long as the lookahead accepts the tokens; more items than the number are rejected as too deep.
 unfoldable pub links : {A : Type 0} → Look → Noter A → ℕ → List A → Noter (List A)
 links look item zero found s = if sees_any look s.cursor then Err (TooDeep (length s.cursor)) else Ok (found, s)
 links look item (suc left) found s = if sees_any look s.cursor then and_then (item s) (λ x. links look item left (found ++ x ∷ [])) else Ok (found, s)
 
--- Further items, each behind `::`; the number bounds the turns.
+-- Parses further items, each after `::`; the number bounds the iterations.
 unfoldable pub further : {A : Type 0} → Noter A → ℕ → List A → Noter (List A)
 further item zero found s = if begins_pair 58 58 s.cursor then Err (Syntax (length (drop 2 s.cursor))) else Ok (found, s)
 further item (suc turns) found s =
     if begins_pair 58 58 s.cursor then and_then (item (record { cursor = drop 2 s.cursor; selves = s.selves })) (λ x. further item turns (found ++ x ∷ [])) else Ok (found, s)
 
--- What is noted of a path that began here, of which the first segment ended there, and which ended there.
+-- The stream with a path noted, given the streams at its beginning, after its first segment, and at its end.
 abbrev pub noted : ParseStream → ParseStream → ParseStream → ParseStream
 noted start first behind = if sees (accepts (Word SelfType)) start.cursor
     then record { cursor = behind.cursor; selves = behind.selves ++ record { start = length start.cursor; first = length first.cursor; behind = length behind.cursor } ∷ [] }
     else behind
 
--- The items with `::` between.
+-- Parses at least one item, with `::` between items.
 abbrev pub segments : {A : Type 0} → Noter A → Noter (List A)
 segments item start = and_then (item start) (λ x first. and_then (further item (length start.cursor) (x ∷ []) first) (λ found behind. Ok (found, noted start first behind)))
 
@@ -89,15 +89,15 @@ abbrev pub binary_with : {A : Type 0} → Option (Operator × ℕ) → Noter A �
 binary_with None operand s = Err (Syntax (length s.cursor))
 binary_with (Some o) operand s = and_then (operand (record { cursor = drop o.1 s.cursor; selves = s.selves })) (λ x s. Ok ((o.0, x), s))
 
--- What the program reads, as it was written.
+-- Parses the value with its tokens as they were written.
 abbrev pub written_by : {A : Type 0} → Noter A → Noter (A × Written)
 written_by read s = and_then (read s) (λ x. plainly (λ rest. written_if x (since s.cursor rest) rest (may_be_copied (lexemes (since s.cursor rest))) refl))
 
--- What the program reads may be copied.
+-- The tokens that the program parses may always be copied.
 abbrev pub IsCopied : {A : Type 0} → Noter A → Type 0
 IsCopied {A} read = (s t : ParseStream) (x : A) → read s ≡ Ok (x, t) → IsTrue (may_be_copied (lexemes (since s.cursor t.cursor)))
 
--- With a budget, where these programs read the parts: what stands at the front of a stream.
+-- The program of a rule with this budget, given programs for the parts.
 unfoldable pub run : Noters → ℕ → {A : Type 0} → Rule A → Noter A
 run noters budget (token asked) s = plainly (expect (accepts asked)) s
 run noters budget documentation s = plainly (expect documents) s

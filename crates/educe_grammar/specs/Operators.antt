@@ -1,4 +1,4 @@
--- Operators with two operands (Rust Reference, Operator expressions).
+-- Binary operators (Rust Reference, Operator expressions).
 use Rattle.std.specs.Prelude.{ℕ, ◌==◌, true, ◌&&◌, if◌then◌else◌, [], ◌∷◌, Option, Some, None}
 use Rattle.educe_tokens.specs.TokenKind.{TokenKind}
 use Rattle.educe_tokens.specs.TokenKind.TheVariants as kind
@@ -6,7 +6,7 @@ use Rattle.educe_grammar.specs.Steps.{Tokens}
 use Rattle.educe_grammar.specs.declared.operator.Operator.{Operator}
 use Rattle.educe_grammar.specs.declared.operator.Operator.TheVariants.{Joins, Compares, Less, ShiftsLeft, Calculates}
 
--- The operator of two puncts.
+-- The operator that two puncts spell.
 abbrev pub pair_of : ℕ → ℕ → Option Operator
 pair_of c d =
     if (c == 38) && (d == 38) then Some Joins
@@ -19,7 +19,7 @@ pair_of c d =
     else if (c == 62) && (d == 62) then Some Calculates
     else None
 
--- The operator of one punct.
+-- The operator that one punct spells.
 abbrev pub single_of : ℕ → Option Operator
 single_of c =
     if c == 60 then Some Less
@@ -52,7 +52,7 @@ abbrev pub longer_of : Option Operator → Option Operator → Option (Operator 
 longer_of (Some o) single = Some (o, 2)
 longer_of None single = of_length 1 single
 
--- The longest operator that the tokens begin with, and how many tokens it takes.
+-- The longest operator at the start of the tokens, and its number of tokens.
 unfoldable pub operator_at : Tokens → Option (Operator × ℕ)
 operator_at [] = None
 operator_at (t ∷ []) = of_length 1 (single_operator t.kind)

@@ -1,4 +1,4 @@
--- What a call answers that reads a whole list of tokens by a rule.
+-- The results of parsing a whole list of tokens by a rule.
 use Rattle.std.specs.Prelude.{◌≡◌, ℕ, ◌-◌, ◌<◌, [], ◌∷◌, ◌++◌, length, slice_get, Option, Some, None, Result, Ok, Err}
 use Rattle.educe_tokens.specs.declared.brackets.TheConstants.{NESTING}
 use Rattle.educe_tokens.specs.declared.span.Span.{Span}
@@ -13,21 +13,21 @@ use Rattle.educe_grammar.specs.Depth.{counted}
 use Rattle.educe_grammar.specs.Reads.{Reads, read}
 use Rattle.educe_grammar.specs.Rules.{Rule}
 
--- How deep brackets, angle lists, `&`, `*`, `dyn` and `->` may nest.
+-- The limit on the nesting of brackets, angle lists, `&`, `*`, `dyn` and `->`.
 abbrev pub depth_limit : ℕ
 depth_limit = NESTING
 
--- The value of the whole list, within the limits.
+-- The whole list has this value by the rule, within the limits.
 abbrev pub IsWhole : {A : Type 0} → Rule A → Tokens → A → Type 0
 IsWhole g tokens x = Reads depth_limit g tokens x
 
--- The whole list is nothing that the rule allows, within the limits.
+-- The whole list has no value by the rule, within the limits.
 abbrev pub HasNoReading : {A : Type 0} → Rule A → Tokens → Type 0
 HasNoReading {A = A} g tokens = (x : A) → IsWhole g tokens x → ⊥
 
 -- ---- places
 
--- The end of the last token, and 0 where there is none.
+-- The end of the last token, or 0 for the empty list.
 abbrev pub end_of : Tokens → ℕ
 end_of tokens = end_of_last (slice_get tokens (length tokens - 1))
   where
@@ -35,11 +35,11 @@ end_of tokens = end_of_last (slice_get tokens (length tokens - 1))
     end_of_last None = 0
     end_of_last (Some t) = t.span.end
 
--- Nothing, at the end of the tokens.
+-- The empty span at the end of the tokens.
 abbrev pub end_place : Tokens → Span
 end_place tokens = record { start = end_of tokens; end = end_of tokens }
 
--- The place of the token at which so many are left; where none is left, the end.
+-- The span of the token at which this many are left; the empty span at the end where none is left.
 abbrev pub place_at : Tokens → ℕ → Span
 place_at tokens left = place_of (slice_get tokens (length tokens - left))
   where
@@ -49,20 +49,20 @@ place_at tokens left = place_of (slice_get tokens (length tokens - left))
 
 -- ---- rejections
 
--- Where the program of the rule stops on a list that it doesn't read to its end.
+-- The error of a program, where it fails or leaves tokens unread.
 abbrev pub stop_of : {A : Type 0} → Outcome A → Option ParseError
 stop_of (Ok (x, [])) = None
 stop_of (Ok (x, t ∷ rest)) = Some (SyntaxAt (length (t ∷ rest)))
 stop_of (Err e) = Some e
 
--- The rejection of the tokens where a program stops so.
+-- The rejection of the tokens that an error becomes.
 abbrev pub refusal_of : Tokens → ParseError → EduceError
 refusal_of tokens Memory = placeless Alloc
 refusal_of tokens (SyntaxAt left) = syntax_at (place_at tokens left)
 refusal_of tokens (TooDeepAt left) = too_deep_at (place_at tokens left)
 
--- Why a whole list is rejected: it has no reading within the limits; or none, and at the place, a token, more openers count
--- than the limit allows. The place is where the program of the rule stops. Any list may be rejected for out of memory.
+-- The causes of rejection of a whole list: it has no reading within the limits; or it has none, and at the place, a
+-- token, more openers count than the limit allows. The place is where the parser stops. Out of memory may end any call.
 pub data IsParseCause {A : Type 0} (g : Rule A) (tokens : Tokens) : EduceError → Type 0 where
   syntax : (left : ℕ) → HasNoReading g tokens → stop_of (read depth_limit g tokens) ≡ Some (SyntaxAt left)
       → IsParseCause g tokens (record { kind = Syntax; span = place_at tokens left; words = [] })
@@ -70,7 +70,7 @@ pub data IsParseCause {A : Type 0} (g : Rule A) (tokens : Tokens) : EduceError �
       → tokens ≡ front ++ t ∷ rest → depth_limit < counted (front ++ t ∷ []) → IsParseCause g tokens (record { kind = TooDeep; span = t.span; words = [] })
   memory : IsParseCause g tokens (placeless Alloc)
 
--- The one value of the whole list, unless memory fails.
+-- The result is this value or out of memory.
 abbrev pub IsOnly : {A : Type 0} → A → Result A EduceError → Type 0
 IsOnly x (Ok found) = found ≡ x
 IsOnly x (Err e) = e.kind ≡ Alloc

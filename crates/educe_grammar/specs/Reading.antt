@@ -1,4 +1,4 @@
--- What a list of tokens is by a rule: a relation on whole lists, with no position and no reading ahead.
+-- The readings of whole token lists by a rule: a declarative relation, with no position and no lookahead.
 use Rattle.std.specs.Prelude.{◌≡◌, ℕ, ◌-◌, ◌<◌, ◌≤◌, Bool, true, false, IsTrue, List, [], ◌∷◌, ◌++◌, length, drop, Some, ◌⊎◌}
 use Rattle.educe_tokens.specs.declared.brackets.TheConstants.{NESTING}
 use Rattle.educe_tokens.specs.declared.token.Token.{Token}
@@ -9,38 +9,38 @@ use Rattle.educe_grammar.specs.Ahead.{sees, opens, closes, begins_pair, begins_l
 use Rattle.educe_grammar.specs.Operators.{operator_at}
 use Rattle.educe_grammar.specs.Rules.{Rule, token, documentation, empty, both, made, checked, either, prefer, operator, lone, binary, nest, angles, under, arrow, list, many, chain, path, sliced, written, part, Part, TreeOf}
 
--- Which tokens a thing is.
+-- A relation between token lists and values.
 abbrev pub Grammar : Type 0 → Type 1
 Grammar A = Tokens → A → Type 0
 
--- The parts, with each budget.
+-- The relations of the parts, for any budget.
 abbrev pub Parts : Type 1
 Parts = ℕ → (p : Part) → Grammar (TreeOf p)
 
--- How many links a chain has at most.
+-- The limit on the links of a chain.
 abbrev pub chain_limit : ℕ
 chain_limit = NESTING
 
 module _ {A : Type 0} (Item : Grammar A) where
-  -- Items with separators between, and maybe one after the last.
+  -- A list of items with separators between them and an optional trailing one.
   pub data Listed (separates : Token → Bool) : Tokens → List A → Type 0 where
     none : Listed separates [] []
     last : {x : A} (tokens : Tokens) → Item tokens x → Listed separates tokens (x ∷ [])
     more : {x : A} {xs : List A} (front rest : Tokens) (separator : Token) → Item front x → IsTrue (separates separator) → Listed separates rest xs
         → Listed separates (front ++ separator ∷ rest) (x ∷ xs)
 
-  -- Items one behind the other.
+  -- A sequence of items.
   pub data Repeated : Tokens → List A → Type 0 where
     none : Repeated [] []
     more : {x : A} {xs : List A} (front rest : Tokens) → Item front x → Repeated rest xs → Repeated (front ++ rest) (x ∷ xs)
 
-  -- At least one item, with `::` between.
+  -- At least one item, with `::` between items.
   pub data Linked : Tokens → List A → Type 0 where
     last : {x : A} (tokens : Tokens) → Item tokens x → Linked tokens (x ∷ [])
     more : {x : A} {xs : List A} (front rest : Tokens) (first second : Token) → Item front x → begins_pair 58 58 (first ∷ second ∷ rest) ≡ true → Linked rest xs
         → Linked (front ++ first ∷ second ∷ rest) (x ∷ xs)
 
--- The rule's tokens stand between two tokens, with one less of the budget.
+-- An opening token, the content with one less of the budget, and a closing token.
 pub record Between {A : Type 0} (Inside : Grammar A) (budget : ℕ) (opening closing : Token → Bool) (tokens : Tokens) (x : A) : Type 0 where
   pub first : Token
   pub inside : Tokens
@@ -51,7 +51,7 @@ pub record Between {A : Type 0} (Inside : Grammar A) (budget : ℕ) (opening clo
   pub closes : IsTrue (closing last)
   pub reads : Inside inside x
 
--- The rule's tokens stand behind a token, with one less of the budget.
+-- An opening token, and the content with one less of the budget.
 pub record Under {A : Type 0} (Inside : Grammar A) (budget : ℕ) (opening : Token → Bool) (tokens : Tokens) (x : A) : Type 0 where
   pub first : Token
   pub inside : Tokens
@@ -60,7 +60,7 @@ pub record Under {A : Type 0} (Inside : Grammar A) (budget : ℕ) (opening : Tok
   pub opens : IsTrue (opening first)
   pub reads : Inside inside x
 
--- With a budget, where these are the parts: which tokens are the value by the rule.
+-- The tokens have the value by the rule with this budget, given relations for the parts.
 unfoldable pub Parses : Parts → ℕ → {A : Type 0} → Rule A → Grammar A
 Parses parts budget (token asked) tokens found = tokens ≡ found.token ∷ []
 Parses parts budget documentation tokens found = tokens ≡ found.token ∷ []

@@ -1,5 +1,5 @@
--- What holds of each definition that is read: its names are names, and each of its types, parameters and predicates is the reading of
--- its tokens.
+-- Properties of every parsed definition: its names are names, and each of its types, parameters and predicates is the
+-- reading of its tokens.
 use Rattle.std.specs.Prelude.{◌≡◌, ℕ, true, List}
 use Rattle.std.specs.List.{AllByRecursion}
 use Rattle.educe_tokens.specs.TokenKind.TheVariants as kind
@@ -21,21 +21,21 @@ use Rattle.educe_grammar.specs.Types.{any_type}
 
 -- ---- names
 
--- A name, which is no keyword.
+-- The text is a name: no keyword, and not `_`.
 abbrev pub IsName : List ℕ → Type 0
 IsName text = is_name kind.Ident text ≡ true
 
--- The parameter's name is one.
+-- The name of the parameter is a name.
 abbrev pub IsNamed : GenericParam → Type 0
 IsNamed (param.Lifetime p) = Unit {0}
 IsNamed (param.TypeParam p) = IsName p.ident.text
 IsNamed (param.Const p) = IsName p.ident.text
 
--- The definition's name is one, and so are those of its parameters.
+-- The name of the definition and those of its parameters are names.
 abbrev pub AreNamed : DeriveInput → Type 0
 AreNamed d = IsName d.ident.text × AllByRecursion IsNamed d.generics.params
 
--- ---- readings
+-- ---- readings of parts
 
 -- The type is the reading of its tokens, within the limits.
 abbrev pub IsReadType : Ty → Type 0

@@ -1,4 +1,4 @@
--- The grammar whole: what a list of tokens is, with a budget for what stands inside.
+-- The complete grammar: the readings of token lists, with a budget for nesting.
 use Rattle.std.specs.Prelude.{ℕ, zero, suc}
 use Rattle.educe_grammar.specs.Steps.{Parser, refuse}
 use Rattle.educe_grammar.specs.Reading.{Grammar, Parts, Parses}
@@ -14,20 +14,20 @@ rule_of plains = plain_type
 rule_of exprs = expression
 rule_of trees = tree
 
--- The parts whose budget is below the first number; the parts inside of one have less budget than it.
+-- The relations of the parts for budgets below the first number; a part inside another has a smaller budget.
 unfoldable pub parts_below : ℕ → Parts
 parts_below zero budget p = λ tokens x. ⊥
 parts_below (suc n) budget p = Parses (parts_below n) budget (rule_of p)
 
--- The part, with this budget.
+-- The relations of the parts, for any budget.
 abbrev pub parts : Parts
 parts budget = parts_below (suc budget) budget
 
--- Which tokens are the value by the rule, with this budget.
+-- The tokens have the value by the rule, with this budget.
 abbrev pub Reads : ℕ → {A : Type 0} → Rule A → Grammar A
 Reads budget g = Parses parts budget g
 
--- The same as a program.
+-- The programs of the parts for budgets below the first number.
 unfoldable pub readers_below : ℕ → Readers
 readers_below zero budget p = refuse
 readers_below (suc n) budget p = run (readers_below n) budget (rule_of p)
@@ -35,6 +35,6 @@ readers_below (suc n) budget p = run (readers_below n) budget (rule_of p)
 abbrev pub readers : Readers
 readers budget = readers_below (suc budget) budget
 
--- The program of the rule, with this budget.
+-- The program of a rule, with this budget.
 abbrev pub read : ℕ → {A : Type 0} → Rule A → Parser A
 read budget g = run readers budget g

@@ -1,4 +1,4 @@
--- Why the tokens of a definition are rejected.
+-- The causes for which the tokens of a definition are rejected.
 use Rattle.std.specs.Prelude.{◌≡◌, List, ◌∷◌, ◌++◌, codes}
 use Rattle.educe_tokens.specs.TokenKind.TheVariants as kind
 use Rattle.educe_tokens.specs.declared.token.Token.{Token}
@@ -14,16 +14,17 @@ use Rattle.educe_grammar.specs.Definitions.{visibility, definition}
 use Rattle.educe_grammar.specs.Parsed.{IsWhole, IsParseCause}
 use Rattle.educe_grammar.specs.Naming.{Named, IsRepeatedIn, AreNamesApart, scopes, duplicate_of}
 
--- The tokens are this definition, whose names are apart.
+-- The tokens are this definition, and its names are distinct.
 pub record IsDefinition (tokens : Tokens) (found : DeriveInput) : Type 0 where
   pub whole : IsWhole definition tokens found
   pub apart : AreNamesApart found
 
--- The identifier `union` (Rust Reference, Keywords: weak keywords).
+-- The token is the identifier `union` (Rust Reference, Keywords: weak keywords).
 abbrev pub IsUnionWord : Token → Type 0
 IsUnionWord t = (t.kind ≡ kind.Ident) × (t.spelling ≡ codes "union")
 
--- Behind attributes and a visibility stands this word: no other definition begins so, whatever follows.
+-- The tokens are attributes and a visibility, followed by the word `union`, with which no other definition begins, and
+-- anything.
 pub record IsUnion (tokens : Tokens) (word : Token) : Type 0 where
   pub front : Tokens
   pub rest : Tokens
@@ -32,12 +33,12 @@ pub record IsUnion (tokens : Tokens) (word : Token) : Type 0 where
   pub reads : IsWhole (both attributes visibility) front read
   pub word_is : IsUnionWord word
 
--- That unions are unsupported.
+-- The rejection of a union as unsupported, at its keyword.
 abbrev pub union_of : Token → EduceError
 union_of word = citing_at NotCarried word.span word.spelling
 
--- Why the tokens are rejected: they begin as a union; or they don't, and are no definition within the limits; or a name of
--- the definition is given twice. Any list may be rejected for out of memory.
+-- The causes of rejection: the tokens begin as a union; or they don't, and are no definition within the limits; or a
+-- name of the definition is duplicate. Out of memory may end any call.
 pub data IsRefusalOf (tokens : Tokens) : EduceError → Type 0 where
   union : (word : Token) → IsUnion tokens word → IsRefusalOf tokens (union_of word)
   grammar : {e : EduceError} → ((word : Token) → IsUnion tokens word → ⊥) → IsParseCause definition tokens e → IsRefusalOf tokens e

@@ -1,4 +1,4 @@
--- Rules: how the productions of a grammar are made of tokens, brackets, lists and parts.
+-- Rules: the productions of a grammar, made of tokens, brackets, lists and parts.
 use Rattle.std.specs.Prelude.{ℕ, Bool, List}
 use Rattle.educe_tokens.specs.Bracket.{Bracket}
 use Rattle.educe_tokens.specs.declared.written.Written.{Written}
@@ -11,11 +11,11 @@ use Rattle.educe_grammar.specs.Terminals.{accepts}
 use Rattle.educe_grammar.specs.Steps.{Tokens, Found}
 use Rattle.educe_grammar.specs.Ahead.{Look, documents}
 
--- A type with its ending.
+-- A type with its ending, which decides what may follow it.
 abbrev pub Typed : Type 0
 Typed = Ty × Ending
 
--- The parts that stand inside one another.
+-- The parts of the grammar, which nest in one another.
 pub data Part : Type 0 where
   types : Part
   plains : Part
@@ -28,49 +28,49 @@ TreeOf plains = Typed
 TreeOf exprs = Expr
 TreeOf trees = Unit {0}
 
--- A rule for what a list of tokens may be, and its value. The lists of beginnings say how a program decides; what the
--- rule allows doesn't depend on them.
+-- A rule: the token lists that it allows, with their values. The lookaheads guide the parser only; what a rule allows
+-- doesn't depend on them.
 pub data Rule : Type 0 → Type 1 where
-  -- One token.
+  -- One token of the terminal.
   token : (asked : Terminal) → Rule (Found (accepts asked))
-  -- One token of documentation.
+  -- One documentation comment.
   documentation : Rule (Found documents)
-  -- No token.
+  -- No token, with this value.
   empty : {A : Type 0} → A → Rule A
-  -- One rule, and then the other.
+  -- Both rules in sequence.
   both : {A B : Type 0} → Rule A → Rule B → Rule (A × B)
-  -- Another value.
+  -- The rule with its value mapped.
   made : {A B : Type 0} → (A → B) → Rule A → Rule B
-  -- Only where the value passes a test.
+  -- The rule where its value passes the test.
   checked : {A : Type 0} → (A → Bool) → Rule A → Rule A
-  -- One of two; the first where the tokens begin so.
+  -- One of two rules; the parser takes the first where the lookahead accepts the tokens.
   either : {A : Type 0} → Look → Rule A → Rule A → Rule A
-  -- One of two, of which the second doesn't begin with such a token.
+  -- One of two rules, the second of which doesn't begin with a token of the terminal.
   prefer : {A : Type 0} → Terminal → Rule A → Rule A → Rule A
   -- An operator of two puncts, such as `::`.
   operator : (c d : ℕ) → Rule (Unit {0})
-  -- The punct c, which isn't the first half of the operator of c and d, and then the rule.
+  -- The punct `c`, which isn't the first half of the operator `cd`, followed by the rule.
   lone : {A : Type 0} → (c d : ℕ) → Rule A → Rule A
-  -- An operator with two operands, the longest that stands here, and then the rule.
+  -- The longest binary operator at the start of the tokens, followed by the rule.
   binary : {A : Type 0} → Rule A → Rule (Operator × A)
-  -- A bracket pair around the rule, with one less of the budget.
+  -- A bracket pair around the rule, which has one less of the budget.
   nest : {A : Type 0} → Bracket → Rule A → Rule A
-  -- `<`, not half of `<=`, and `>` around the rule, with one less of the budget.
+  -- `<` (not half of `<=`), the rule with one less of the budget, and `>`.
   angles : {A : Type 0} → Rule A → Rule A
-  -- Such a token, and then the rule with one less of the budget.
+  -- A token of the terminal, followed by the rule with one less of the budget.
   under : {A : Type 0} → Terminal → Rule A → Rule A
-  -- `->`, and then the rule with one less of the budget.
+  -- `->`, followed by the rule with one less of the budget.
   arrow : {A : Type 0} → Rule A → Rule A
-  -- Items with separators between, and maybe one after the last, up to such a beginning.
+  -- Separated items with an optional trailing separator, up to what the lookahead accepts.
   list : {A : Type 0} → Terminal → Look → Rule A → Rule (List A)
-  -- Items one behind the other, as long as the tokens begin so.
+  -- A sequence of items, as long as the lookahead accepts the tokens.
   many : {A : Type 0} → Look → Rule A → Rule (List A)
-  -- The same, but at most 128.
+  -- A sequence of at most 128 items, as long as the lookahead accepts the tokens.
   chain : {A : Type 0} → Look → Rule A → Rule (List A)
-  -- At least one item, with `::` between.
+  -- At least one item, with `::` between items.
   path : {A : Type 0} → Rule A → Rule (List A)
-  -- The value with the tokens that were read.
+  -- The value with the tokens of its reading.
   sliced : {A : Type 0} → Rule A → Rule (A × Tokens)
   written : {A : Type 0} → Rule A → Rule (A × Written)
-  -- A part.
+  -- A part of the grammar.
   part : (p : Part) → Rule (TreeOf p)

@@ -1,4 +1,4 @@
--- A rule as a plain program.
+-- Rules as plain programs, which define the parser's results.
 use Rattle.std.specs.Prelude.{◌≡◌, ℕ, zero, suc, ◌-◌, Bool, true, false, if◌then◌else◌, IsTrue, List, [], ◌∷◌, ◌++◌, length, drop, refl, Option, Some, None, Result, Ok, Err}
 use denote.Ref.{MutBor}
 use Rattle.educe_tokens.specs.declared.token.Token.{Token}
@@ -16,35 +16,35 @@ use Rattle.educe_grammar.specs.Operators.{operator_at}
 use Rattle.educe_grammar.specs.Reading.{chain_limit}
 use Rattle.educe_grammar.specs.Rules.{Rule, token, documentation, empty, both, made, checked, either, prefer, operator, lone, binary, nest, angles, under, arrow, list, many, chain, path, sliced, written, part, Part, TreeOf}
 
--- Programs for the parts, with each budget.
+-- Programs for the parts, for any budget.
 abbrev pub Readers : Type 0
 Readers = ℕ → (p : Part) → Parser (TreeOf p)
 
 abbrev pub pure : {A : Type 0} → A → Parser A
 pure x = λ ts. Ok (x, ts)
 
--- Goes on behind so many tokens where the test holds.
+-- Skips this many tokens where the test holds, and rejects elsewhere.
 abbrev pub skip_if : Bool → ℕ → Parser (Unit {0})
 skip_if passes n = λ ts. if passes then Ok (tt, drop n ts) else Err (Syntax (length ts))
 
--- The items up to such a beginning; the number bounds the turns.
+-- Parses separated items up to what the lookahead accepts; the number bounds the iterations.
 unfoldable pub items : {A : Type 0} → (Token → Bool) → Look → Parser A → ℕ → List A → Parser (List A)
 items separates stop item zero found ts = Err (Syntax (length ts))
 items separates stop item (suc turns) found ts =
     if sees_any stop ts then Ok (found, ts) else and_then (item ts) (λ x ts.
     if sees separates ts then items separates stop item turns (found ++ x ∷ []) (drop 1 ts) else Ok (found ++ x ∷ [], ts))
 
--- The items as long as the tokens begin so; the number bounds the turns.
+-- Parses items as long as the lookahead accepts the tokens; the number bounds the iterations.
 unfoldable pub repeat : {A : Type 0} → Look → Parser A → ℕ → List A → Parser (List A)
 repeat look item zero found ts = Err (Syntax (length ts))
 repeat look item (suc turns) found ts = if sees_any look ts then and_then (item ts) (λ x. repeat look item turns (found ++ x ∷ [])) else Ok (found, ts)
 
--- The same, where one more than the number is too deep.
+-- Parses items as long as the lookahead accepts the tokens; more items than the number are rejected as too deep.
 unfoldable pub links : {A : Type 0} → Look → Parser A → ℕ → List A → Parser (List A)
 links look item zero found ts = if sees_any look ts then Err (TooDeep (length ts)) else Ok (found, ts)
 links look item (suc left) found ts = if sees_any look ts then and_then (item ts) (λ x. links look item left (found ++ x ∷ [])) else Ok (found, ts)
 
--- The items with `::` between; the number bounds the turns.
+-- Parses items with `::` between them; the number bounds the iterations.
 unfoldable pub segments : {A : Type 0} → Parser A → ℕ → List A → Parser (List A)
 segments item zero found ts = Err (Syntax (length ts))
 segments item (suc turns) found ts = and_then (item ts) (λ x ts.
@@ -58,15 +58,15 @@ abbrev pub written_if : {A : Type 0} → A → (tokens rest : Tokens) (b : Bool)
 written_if x tokens rest true stands = Ok ((x, record { tokens = tokens; written = stands }), rest)
 written_if x tokens rest false stands = Err (Syntax (length rest))
 
--- What the program reads, as it was written.
+-- Parses the value with its tokens as they were written.
 abbrev pub written_by : {A : Type 0} → Parser A → Parser (A × Written)
 written_by read ts = and_then (read ts) (λ x rest. written_if x (since ts rest) rest (may_be_copied (lexemes (since ts rest))) refl)
 
--- What the program reads may be copied.
+-- The tokens that the program parses may always be copied.
 abbrev pub IsCopied : {A : Type 0} → Parser A → Type 0
 IsCopied {A} read = (ts rest : Tokens) (x : A) → read ts ≡ Ok (x, rest) → IsTrue (may_be_copied (lexemes (since ts rest)))
 
--- With a budget, where these programs read the parts: what stands at the front of a list.
+-- The program of a rule with this budget, given programs for the parts.
 unfoldable pub run : Readers → ℕ → {A : Type 0} → Rule A → Parser A
 run readers budget (token asked) ts = expect (accepts asked) ts
 run readers budget documentation ts = expect documents ts

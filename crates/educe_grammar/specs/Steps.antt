@@ -1,4 +1,4 @@
--- The steps that a reading program is made of.
+-- The steps that parsers are made of.
 use Rattle.std.specs.Prelude.{◌≡◌, ◌≢◌, ℕ, zero, suc, ◌-◌, Bool, true, false, List, [], ◌∷◌, length, take, drop, refl, Option, Some, None, IsTrue, Result, Ok, Err, ◌⊎◌}
 use denote.Ref.{Bor, MutBor}
 use Rattle.educe_tokens.specs.declared.token.Token.{Token}
@@ -9,7 +9,7 @@ use Rattle.educe_grammar.specs.declared.parse_error.ParseError.TheVariants.{Memo
 abbrev pub Tokens : Type 0
 Tokens = List Token
 
--- What was read with the tokens that are left, or a rejection.
+-- The value with the tokens that are left, or a rejection.
 abbrev pub Outcome : Type 0 → Type 0
 Outcome A = Result (A × Tokens) ParseError
 
@@ -20,7 +20,7 @@ abbrev pub and_then : {A B : Type 0} → Outcome A → (A → Parser B) → Outc
 and_then (Ok p) f = f p.0 p.1
 and_then (Err e) f = Err e
 
--- The tokens that are left can't go on.
+-- The rejection of the tokens that are left as a syntax error.
 abbrev pub refuse : {A : Type 0} → Parser A
 refuse = λ ts. Err (Syntax (length ts))
 
@@ -38,47 +38,47 @@ unfoldable pub expect : (test : Token → Bool) → Parser (Found test)
 expect test [] = Err (Syntax 0)
 expect test (t ∷ ts) = found_if test t ts (test t) refl
 
--- What comes next nests in what was just taken, and asks for a budget of at least 1. Where there is none, the place is
--- that of the token that was taken, at which so many were left.
+-- Enters a level of nesting, which takes one of the budget. Without budget it is too deep, at the token just taken, at
+-- which `left` tokens were left.
 unfoldable pub enter : ℕ → ℕ → Parser (Unit {0})
 enter zero left ts = Err (TooDeep left)
 enter (suc budget) left ts = Ok (tt, ts)
 
--- What was read since there were these tokens.
+-- The tokens that were read since the first list was left.
 unfoldable pub since : Tokens → Tokens → Tokens
 since start rest = take (length start - length rest) start
 
--- What a function that parses ensures: the outcome, unless memory fails.
+-- The postcondition of a parsing function: the result is the outcome or out of memory.
 abbrev pub Gives : {S A : Type 0} → Result (A × S) ParseError → Result A ParseError → S → Type 0
 Gives outcome (Ok a) new = outcome ≡ Ok (a, new)
 Gives outcome (Err e) new = e ≢ Memory → outcome ≡ Err e
 
--- The same of a function that lends a token that passes the test, for which it needs no memory.
+-- The postcondition of a function that lends a token that passes the test, which takes no memory.
 abbrev pub Lends : {test : Token → Bool} → Outcome (Found test) → Result (Bor Token) ParseError → Tokens → Type 0
 Lends {test = test} outcome (Ok t) new = (passes : IsTrue (test t.now)) × (outcome ≡ Ok (record { token = t.now; passes = passes }, new))
 Lends outcome (Err e) new = outcome ≡ Err e
 
--- What a function ensures that takes such a token where it comes next.
+-- The postcondition of a function that takes a token that passes the test, if one comes next.
 abbrev pub Eats : {test : Token → Bool} → Outcome (Found test) → Bool → Tokens → Tokens → Type 0
 Eats {test = test} outcome true old new = (found : Found test) × (outcome ≡ Ok (found, new))
 Eats outcome false old new = new ≡ old
 
--- The same of a function that goes on, for which it needs no memory.
+-- The postcondition of a function that only advances, which takes no memory.
 abbrev pub Passes : {A : Type 0} → Outcome (Unit {0}) → Result A ParseError → Tokens → Type 0
 Passes outcome (Ok a) new = outcome ≡ Ok (tt, new)
 Passes outcome (Err e) new = outcome ≡ Err e
 
--- The same of a function that takes an opener, and answers the budget inside.
+-- The postcondition of a function that takes an opener and returns the budget inside.
 abbrev pub Opens : {A : Type 0} → Outcome A → ℕ → Tokens → Result ℕ ParseError → Tokens → Type 0
 Opens {A = A} opener budget old (Ok below) new = (x : A) × (opener ≡ Ok (x, new)) × (enter budget (length old) new ≡ Ok (tt, new))
 Opens {A = A} opener budget old (Err e) new =
     (opener ≡ Err e) ⊎ ((x : A) × (rest : Tokens) × (opener ≡ Ok (x, rest)) × (enter budget (length old) rest ≡ Err e))
 
--- The same of a function that takes an operator, where these are the longest one that comes next and its length.
+-- The postcondition of a function that takes an operator, given the longest one that comes next and its length.
 abbrev pub Operates : Option (Operator × ℕ) → Result Operator ParseError → Tokens → Tokens → Type 0
 Operates longest (Ok o) old new = (n : ℕ) × (longest ≡ Some (o, n)) × (new ≡ drop n old)
 Operates longest (Err e) old new = (longest ≡ None) × (e ≡ Syntax (length old))
 
--- A function value that reads what this program does.
+-- A function value that parses what this program does.
 pub record ReadsAs {S A : Type 0} (read : S → Result (A × S) ParseError) (post : MutBor S → Result A ParseError → MutBor S → Type 0) : Type 0 where
   pub reads : (old new : MutBor S) (r : Result A ParseError) → post old r new → Gives (read old.now) r new.now

@@ -1,4 +1,4 @@
--- What the grammar asks of one token: a set of tokens.
+-- Terminals of the grammar: the sets of tokens that a parser asks for.
 use Rattle.std.specs.Prelude.{ℕ, ◌==◌, Bool, true, false, ◌&&◌, ◌||◌, List, [], ◌∷◌, codes}
 use Rattle.std.specs.List.{list_any}
 use Rattle.std.specs.Str.{bytes_eq}
@@ -13,7 +13,7 @@ use Rattle.educe_grammar.specs.declared.terminal.Keyword.TheVariants.{As, Const,
 use Rattle.educe_grammar.specs.declared.terminal.Terminal.{Terminal}
 use Rattle.educe_grammar.specs.declared.terminal.Terminal.TheVariants as terminal
 
--- How the word is spelled.
+-- The spelling of the keyword.
 abbrev pub text_of : Keyword → List ℕ
 text_of As = codes "as"
 text_of Const = codes "const"
@@ -36,24 +36,24 @@ text_of Underscore = codes "_"
 text_of Unsafe = codes "unsafe"
 text_of Where = codes "where"
 
--- Which identifiers: names, these words, or all.
+-- A set of identifiers: names, these words, or all.
 pub data Words : Type 0 where
   some_words : Bool → List Keyword → Words
   all_words : Words
 
--- Which literals.
+-- A set of kinds of literals.
 pub data Literals : Type 0 where
   no_literals : Literals
   ints : Literals
   strs : Literals
   all_literals : Literals
 
--- Which punctuation characters.
+-- A set of punctuation characters.
 pub data Signs : Type 0 where
   these_signs : List ℕ → Signs
   all_signs : Signs
 
--- A set of tokens; no bracket and no documentation is in one.
+-- A set of tokens; it contains neither brackets nor documentation.
 pub record TokenSet : Type 0 where
   pub words : Words
   pub lifetimes : Bool
@@ -66,23 +66,23 @@ no_words = some_words false []
 abbrev pub no_signs : Signs
 no_signs = these_signs []
 
--- Identifiers alone.
+-- The set with only these identifiers.
 abbrev pub only_words : Words → TokenSet
 only_words words = record { words = words; lifetimes = false; literals = no_literals; signs = no_signs }
 
--- Literals alone.
+-- The set with only these literals.
 abbrev pub only_literals : Literals → TokenSet
 only_literals literals = record { words = no_words; lifetimes = false; literals = literals; signs = no_signs }
 
--- Punctuation alone.
+-- The set with only these punctuation characters.
 abbrev pub only_signs : List ℕ → TokenSet
 only_signs signs = record { words = no_words; lifetimes = false; literals = no_literals; signs = these_signs signs }
 
--- The words that a segment may be.
+-- The words that the name of a segment may be.
 abbrev pub segment_words : Words
 segment_words = some_words true (SelfValue ∷ SelfType ∷ Super ∷ Crate ∷ [])
 
--- What is asked for.
+-- The set of tokens that a terminal asks for.
 abbrev pub set_of : Terminal → TokenSet
 set_of (terminal.Word word) = only_words (some_words false (word ∷ []))
 set_of terminal.Name = only_words (some_words true [])
@@ -101,24 +101,24 @@ set_of (terminal.Sign c) = only_signs (c ∷ [])
 set_of terminal.PrefixSign = only_signs (45 ∷ 33 ∷ 42 ∷ [])
 set_of terminal.Leaf = record { words = all_words; lifetimes = true; literals = all_literals; signs = all_signs }
 
--- Whether the identifier of this text is among them.
+-- The identifier with this text is in the set.
 abbrev pub word_in : Words → List ℕ → Bool
 word_in (some_words names words) text = (names && is_name kind.Ident text) || list_any (λ word. bytes_eq (text_of word) text) words
 word_in all_words text = true
 
--- Whether a literal of this kind is among them.
+-- A literal of this kind is in the set.
 abbrev pub literal_in : Literals → LiteralKind → Bool
 literal_in no_literals l = false
 literal_in ints l = elim l [ literal.Int ↦ true | literal.Str ↦ false | literal.ByteStr ↦ false | literal.Char ↦ false | literal.Byte ↦ false ]
 literal_in strs l = elim l [ literal.Int ↦ false | literal.Str ↦ true | literal.ByteStr ↦ false | literal.Char ↦ false | literal.Byte ↦ false ]
 literal_in all_literals l = true
 
--- Whether the character is among them.
+-- The punctuation character is in the set.
 abbrev pub sign_in : Signs → ℕ → Bool
 sign_in (these_signs signs) c = list_any (λ d. d == c) signs
 sign_in all_signs c = true
 
--- Whether a token of this kind and spelling is in the set.
+-- A token of this kind and spelling is in the set.
 abbrev pub token_in : TokenSet → TokenKind → List ℕ → Bool
 token_in set kind.Ident text = word_in set.words text
 token_in set kind.Lifetime text = set.lifetimes
@@ -128,6 +128,6 @@ token_in set (kind.Start b) text = false
 token_in set (kind.Stop b) text = false
 token_in set kind.Doc text = false
 
--- Whether the token is what is asked for.
+-- The terminal accepts the token.
 unfoldable pub accepts : Terminal → Token → Bool
 accepts asked t = token_in (set_of asked) t.kind t.spelling

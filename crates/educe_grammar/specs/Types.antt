@@ -38,37 +38,37 @@ segment_of ident args = roll-Segment (record { ident = ident; args = args })
 
 -- ---- bounds
 
--- What stands behind a type or behind bounds.
+-- Lookahead for what may follow a type or bounds.
 abbrev pub behind_type : Look
 behind_type =
     (one (terminal.Sign 44) ∷ []) ∷ (one (terminal.Sign 59) ∷ []) ∷ (one (terminal.Sign 61) ∷ []) ∷ (one (terminal.Sign 62) ∷ [])
     ∷ (lone 58 58 ∷ []) ∷ (start Curly ∷ []) ∷ (stop Round ∷ []) ∷ (stop Square ∷ []) ∷ (stop Curly ∷ [])
     ∷ (one (terminal.Word keyword.As) ∷ []) ∷ (finish ∷ []) ∷ []
 
--- Items with `+` between, and maybe one after the last.
+-- Items with `+` between them and an optional trailing one.
 abbrev pub pluses : {A : Type 0} → Rule A → Rule (List A)
 pluses g = list (terminal.Sign 43) behind_type g
 
--- Bounds of a lifetime, or nothing.
+-- Rule for the optional bounds of a lifetime.
 unfoldable pub lifetime_bounds : Rule (Unit {0})
 lifetime_bounds = unit (pluses lifetime)
 
--- A lifetime with its bounds, in `for<'a>`.
+-- Rule for a lifetime with its bounds, in `for<'a>`.
 unfoldable pub for_lifetime : Rule (Unit {0})
 for_lifetime = unit (both lifetime (flag at_colon (behind_colon lifetime_bounds)))
 
--- `for<'a, 'b: 'a>`.
+-- Rule for the binder `for<'a, 'b: 'a>`.
 unfoldable pub for_all : Rule (Unit {0})
 for_all = unit (both (word keyword.For) (in_angles for_lifetime))
 
 -- ---- arguments of paths
 
--- How a program sees that a constant comes, which is no name.
+-- Lookahead for a constant argument that is no name.
 abbrev pub at_constant : Look
 at_constant =
     (one terminal.Literal ∷ []) ∷ (one (terminal.Sign 45) ∷ []) ∷ (one terminal.Truth ∷ []) ∷ (start Curly ∷ []) ∷ []
 
--- A constant that is no name.
+-- Rule for a constant argument that is no name.
 unfoldable pub constant : Rule (Unit {0})
 constant =
     either (at (one terminal.Literal)) (unit (token terminal.Literal))
@@ -82,11 +82,11 @@ constant_of p = arg.Constant p.1
 abbrev pub binding_of : Ident × Ty → AngleArg
 binding_of p = arg.Binding p.0 p.1
 
--- How a program sees that a binding comes.
+-- Lookahead for an associated type binding, as `Item = T`.
 abbrev pub at_binding : Look
 at_binding = (one terminal.Name ∷ lone 61 61 ∷ []) ∷ []
 
--- An argument in angle brackets.
+-- Rule for an argument in angle brackets.
 unfoldable pub angle_arg : Rule AngleArg
 angle_arg =
     either (at (one terminal.Lifetime)) (made arg.Lifetime lifetime)
@@ -94,11 +94,11 @@ angle_arg =
     (either at_binding (made binding_of (both name (rule.lone 61 61 (part types))))
     (made arg.Plain (part types))))
 
--- Arguments in angle brackets.
+-- Rule for arguments in angle brackets.
 unfoldable pub angle_args : Rule (List AngleArg)
 angle_args = in_angles angle_arg
 
--- What is read of a segment: with its arguments, how it ends, and whether a segment may stand behind it.
+-- The arguments of a segment, with the ending that they give it, and whether another segment may follow.
 abbrev pub ArgsRead : Type 0
 ArgsRead = Args × Ending × Bool
 
@@ -108,7 +108,7 @@ no_args = (args.None, Name, true)
 abbrev pub angle_read : List AngleArg → ArgsRead
 angle_read found = (args.Angle found, Arguments, true)
 
--- Behind a type that ends with a path `::` goes on that path.
+-- The arguments before `->` and the type after it; where that ends with a path, a following `::` continues that path.
 abbrev pub returned : List Ty → Ty → Ending → ArgsRead
 returned inputs output Closed = (args.Round inputs (Some output), Arguments, true)
 returned inputs output Arguments = (args.Round inputs (Some output), Arguments, false)
@@ -117,15 +117,15 @@ returned inputs output Name = (args.Round inputs (Some output), Name, false)
 abbrev pub round_read : List Ty × Option Typed → ArgsRead
 round_read p = elim p.1 [ None ↦ (args.Round p.0 None, Arguments, true) | Some output ↦ returned p.0 output.0 output.1 ]
 
--- `(A, B) -> C`.
+-- Rule for arguments in round brackets, as `(A, B) -> C`.
 unfoldable pub round_args : Rule (List Ty × Option Typed)
 round_args = both (in_round (part types)) (optional at_arrow (arrow (part plains)))
 
--- `<A>` or `::<A>`.
+-- Lookahead for `<A>` or `::<A>`.
 abbrev pub at_angle_args : Look
 at_angle_args = (lone 60 61 ∷ []) ∷ (pair 58 58 ∷ lone 60 61 ∷ []) ∷ []
 
--- The arguments of a segment in a type.
+-- Rule for the optional arguments of a segment in a type.
 unfoldable pub type_args : Rule ArgsRead
 type_args =
     either at_angle_args (made angle_read (skipping (flag at_colons colons) angle_args))
@@ -140,17 +140,17 @@ SegmentRead = Segment × Ending × Bool
 abbrev pub segment_read : Ident × ArgsRead → SegmentRead
 segment_read p = (segment_of p.0 p.1.0, p.1.1, p.1.2)
 
--- A segment of a path in a type.
+-- Rule for a segment of a path in a type.
 unfoldable pub type_segment : Rule SegmentRead
 type_segment = made segment_read (both segment_name type_args)
 
--- Behind each segment but the last another may stand.
+-- Each segment but the last may be followed by another.
 unfoldable pub may_follow : List SegmentRead → Bool
 may_follow [] = true
 may_follow (s ∷ []) = true
 may_follow (s ∷ t ∷ more) = s.2 && may_follow (t ∷ more)
 
--- How the last segment ends.
+-- The ending of the last segment.
 unfoldable pub last_ending : List SegmentRead → Ending
 last_ending [] = Closed
 last_ending (s ∷ []) = s.1
@@ -159,7 +159,7 @@ last_ending (s ∷ t ∷ more) = last_ending (t ∷ more)
 unfoldable pub type_segments : Rule (List SegmentRead)
 type_segments = checked may_follow (rule.path type_segment)
 
--- The word `self`, `super` or `crate`.
+-- The word is `self`, `super` or `crate`.
 abbrev pub is_scope_word : List ℕ → Bool
 is_scope_word text = if bytes_eq text (codes "self") then true else if bytes_eq text (codes "super") then true else bytes_eq text (codes "crate")
 
@@ -171,26 +171,26 @@ has_no_args (args.Round' s inputs output) = false
 abbrev pub is_scope_segment : Segment → Bool
 is_scope_segment s = is_scope_word (out-Segment s).ident.text && has_no_args (out-Segment s).args
 
--- One `self`, `super` or `crate` alone.
+-- The segments are `self`, `super` or `crate` alone, with no leading `::`.
 abbrev pub are_scope : Bool → List Segment → Bool
 are_scope true found = false
 are_scope false [] = false
 are_scope false (s ∷ []) = is_scope_segment s
 are_scope false (s ∷ t ∷ more) = false
 
--- Such a path is none.
+-- The path is not `self`, `super` or `crate` alone.
 abbrev pub is_path : Path → Bool
 is_path p = not (are_scope (out-Path p).leading (out-Path p).segments)
 
--- One `Self`, with arguments or without.
+-- The segments are one `Self`, with arguments or without, and no leading `::`.
 abbrev pub are_self : Bool → List Segment → Bool
 are_self true found = false
 are_self false [] = false
 are_self false (s ∷ []) = bytes_eq (out-Segment s).ident.text (codes "Self")
 are_self false (s ∷ t ∷ more) = false
 
--- How a path ends: with a name, with the arguments of its last segment, or as the type behind the `->` of its last
--- segment. The arguments of a lone `Self` count as a name.
+-- The ending of a path: a name, the arguments of its last segment, or the type after the `->` of its last segment. The
+-- arguments of a lone `Self` count as a name.
 abbrev pub path_ending : Bool → List SegmentRead → Ending
 path_ending leading found = if are_self leading (map (λ s. s.0) found) then Name else last_ending found
 
@@ -200,15 +200,15 @@ path_read p = (path_of p.0 (map (λ s. s.0) p.1), path_ending p.0 p.1)
 abbrev pub is_path_read : Path × Ending → Bool
 is_path_read p = is_path p.0
 
--- A path in a type.
+-- Rule for a path in a type.
 unfoldable pub type_path : Rule (Path × Ending)
 type_path = checked is_path_read (made path_read (both (flag at_colons colons) type_segments))
 
--- The type of a qualified path, and its trait.
+-- Rule for the type of a qualified path, and its trait.
 unfoldable pub qualified_self : Rule (Ty × Option (Path × Ending))
 qualified_self = angles (both (part types) (optional (at_word keyword.As) (skipping (word keyword.As) type_path)))
 
--- The segments behind those of the trait; without a trait the path counts as one that begins with `::`.
+-- The path of the trait's segments and those after `>`; without a trait it counts as one that begins with `::`.
 abbrev pub qualified_path : Option (Path × Ending) → List Segment → Path
 qualified_path None found = path_of true found
 qualified_path (Some p) found = path_of (out-Path p.0).leading ((out-Path p.0).segments ++ found)
@@ -216,7 +216,7 @@ qualified_path (Some p) found = path_of (out-Path p.0).leading ((out-Path p.0).s
 abbrev pub qualified_read : (Ty × Option (Path × Ending)) × List SegmentRead → TypeForm × Ending
 qualified_read p = (form.Path (Some p.0.0) (qualified_path p.0.1 (map (λ s. s.0) p.1)), last_ending p.1)
 
--- A qualified path.
+-- Rule for a qualified path.
 unfoldable pub qualified : Rule (TypeForm × Ending)
 qualified = made qualified_read (both qualified_self (skipping colons type_segments))
 
@@ -225,18 +225,18 @@ qualified = made qualified_read (both qualified_self (skipping colons type_segme
 abbrev pub BoundRead : Type 0
 BoundRead = Option Path × Ending
 
--- `?`, `for<'a>` and a path.
+-- Rule for the path of a bound, as `?Sized` or `for<'a> F<'a>`.
 unfoldable pub bound_path : Rule (Path × Ending)
 bound_path = skipping (flag (at_sign 63) (sign 63)) (skipping (flag (at_word keyword.For) for_all) type_path)
 
--- A bound.
+-- Rule for a bound.
 unfoldable pub bound : Rule BoundRead
 bound =
     either (at (one terminal.Lifetime)) (made (λ _. (None, Closed)) lifetime)
     (either (at (start Round)) (made (λ p. (Some p.0, Closed)) (nest Round bound_path))
     (made (λ p. (Some p.0, p.1)) bound_path))
 
--- Bounds, or nothing.
+-- Rule for optional bounds.
 unfoldable pub bounds : Rule (List BoundRead)
 bounds = pluses bound
 
@@ -255,7 +255,7 @@ FormRead = TypeForm × Ending
 abbrev pub round_of : Ty × Option (List Ty) → FormRead
 round_of p = elim p.1 [ None ↦ (form.Paren p.0, Closed) | Some more ↦ (form.Tuple (p.0 ∷ more), Closed) ]
 
--- A parenthesis or a tuple.
+-- Rule for a type in parentheses or a tuple.
 unfoldable pub round_form : Rule FormRead
 round_form = nest Round
     (either (at (stop Round)) (empty (form.Tuple [], Closed))
@@ -267,7 +267,7 @@ never_of _ = (form.Never, Closed)
 abbrev pub reference_of : Bool × Typed → FormRead
 reference_of p = (form.Reference p.0 p.1.0, p.1.1)
 
--- `&'a mut`.
+-- Rule for a reference, as `&'a mut T`.
 unfoldable pub reference : Rule FormRead
 reference = made reference_of
     (under (terminal.Sign 38) (skipping (flag (at (one terminal.Lifetime)) lifetime) (both (flag (at_word keyword.Mut) (word keyword.Mut)) (part plains))))
@@ -275,18 +275,18 @@ reference = made reference_of
 abbrev pub pointer_of : Typed → FormRead
 pointer_of t = (form.Pointer t.0, t.1)
 
--- `*const` or `*mut`.
+-- Rule for a raw pointer, as `*const T` or `*mut T`.
 unfoldable pub pointer : Rule FormRead
 pointer = made pointer_of (under (terminal.Sign 42) (skipping (token terminal.PointerWord) (part plains)))
 
 abbrev pub square_of : Ty × Option Expr → FormRead
 square_of p = elim p.1 [ None ↦ (form.Slice p.0, Closed) | Some length ↦ (form.Array p.0 length.written, Closed) ]
 
--- A slice or an array.
+-- Rule for a slice or an array.
 unfoldable pub square_form : Rule FormRead
 square_form = made square_of (nest Square (both (part types) (optional (at_sign 59) (skipping (sign 59) (part exprs)))))
 
--- A parameter of a function pointer.
+-- Rule for a parameter of a function pointer.
 unfoldable pub fn_param : Rule Ty
 fn_param =
     either ((one terminal.NameOrUnderscore ∷ lone 58 58 ∷ []) ∷ []) (skipping (token terminal.NameOrUnderscore) (behind_colon (part types)))
@@ -295,20 +295,20 @@ fn_param =
 abbrev pub fn_of : List Ty × Option Typed → FormRead
 fn_of p = elim p.1 [ None ↦ (form.FnPtr p.0 None, Closed) | Some output ↦ (form.FnPtr p.0 (Some output.0), output.1) ]
 
--- `for<'a> unsafe extern "C"`.
+-- Rule for the qualifiers of a function pointer, as `for<'a> unsafe extern "C"`.
 unfoldable pub fn_qualifiers : Rule (Unit {0})
 fn_qualifiers = unit
     (both (flag (at_word keyword.For) for_all)
     (both (flag (at_word keyword.Unsafe) (word keyword.Unsafe))
     (flag (at_word keyword.Extern) (both (word keyword.Extern) (flag (at (one terminal.Str)) (token terminal.Str))))))
 
--- How a program sees that a function pointer comes.
+-- Lookahead for a function pointer.
 abbrev pub at_fn : Look
 at_fn =
     (one (terminal.Word keyword.For) ∷ []) ∷ (one (terminal.Word keyword.Unsafe) ∷ []) ∷ (one (terminal.Word keyword.Extern) ∷ [])
     ∷ (one (terminal.Word keyword.Fn) ∷ []) ∷ []
 
--- A function pointer.
+-- Rule for a function pointer.
 unfoldable pub fn_pointer : Rule FormRead
 fn_pointer = made fn_of
     (skipping fn_qualifiers (skipping (word keyword.Fn) (both (in_round fn_param) (optional at_arrow (arrow (part plains))))))
@@ -316,7 +316,7 @@ fn_pointer = made fn_of
 abbrev pub path_form : Path × Ending → FormRead
 path_form p = (form.Path None p.0, p.1)
 
--- The form of a type that isn't `dyn`.
+-- Rule for the form of a type other than `dyn`.
 unfoldable pub plain_form : Rule FormRead
 plain_form =
     either (at (start Round)) round_form
@@ -334,11 +334,11 @@ bound_form b = (form.TraitObject (bound_paths (b ∷ [])), b.1)
 abbrev pub bounds_form : List BoundRead → FormRead
 bounds_form found = (form.TraitObject (bound_paths found), Closed)
 
--- The form of a type, where `dyn` has one bound.
+-- Rule for the form of a type in which `dyn` has one bound.
 unfoldable pub one_bound_form : Rule FormRead
 one_bound_form = either (at_word keyword.Dyn) (made bound_form (under (terminal.Word keyword.Dyn) bound)) plain_form
 
--- The form of a type, where `dyn` has any bounds.
+-- Rule for the form of a type in which `dyn` has any number of bounds.
 unfoldable pub any_bounds_form : Rule FormRead
 any_bounds_form = either (at_word keyword.Dyn) (made bounds_form (under (terminal.Word keyword.Dyn) (checked some_bounds bounds))) plain_form
 
@@ -348,10 +348,10 @@ typed_of p = (type_of p.0.0 p.1, p.0.1)
 abbrev pub untyped_of : FormRead × Written → Ty
 untyped_of p = type_of p.0.0 p.1
 
--- A type in which `dyn` has one bound.
+-- Rule for a type in which `dyn` has one bound.
 unfoldable pub plain_type : Rule Typed
 plain_type = made typed_of (written one_bound_form)
 
--- A type.
+-- Rule for a type.
 unfoldable pub any_type : Rule Ty
 any_type = made untyped_of (written any_bounds_form)

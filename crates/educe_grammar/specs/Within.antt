@@ -1,4 +1,5 @@
--- The tokens inside of attributes and discriminants: what holds of each of them, and the law that they are tokens of the whole.
+-- The tokens inside of attributes and discriminants: predicates on each of them, and the law that they are tokens of
+-- the whole.
 use Rattle.std.specs.Prelude.{◌≡◌, List, Option, Some, None}
 use Rattle.std.specs.List.{AllByRecursion, Contains}
 use Rattle.educe_tokens.specs.declared.token.Token.{Token}
@@ -18,9 +19,10 @@ use Rattle.educe_grammar.specs.Expressions as expressions
 use Rattle.educe_grammar.specs.Parsed.{IsWhole}
 use Rattle.educe_grammar.specs.Steps.{Tokens}
 
--- ---- what holds of each token
+-- ---- predicates on each token
 
--- P holds of each token of the meta's list or value; nothing is said of its path, of documentation and of a value that isn't read.
+-- P holds of each token of the meta's list or value; nothing is said of its path, of documentation and of a value that
+-- isn't parsed.
 abbrev pub MetaWithin : (Token → Type 0) → Meta → Type 0
 MetaWithin P (said.Word path) = Unit {0}
 MetaWithin P (said.List path tokens place) = AllByRecursion P tokens.tokens
@@ -36,7 +38,7 @@ AttributesWithin P attrs = AllByRecursion (λ (a : Attribute). MetaWithin P a.me
 abbrev pub FieldWithin : (Token → Type 0) → Field → Type 0
 FieldWithin P field = AttributesWithin P field.attrs
 
--- P holds of the tokens of a discriminant, if one is written.
+-- P holds of the tokens of an explicit discriminant, if there is one.
 abbrev pub WrittenWithin : (Token → Type 0) → Option Expr → Type 0
 WrittenWithin P None = Unit {0}
 WrittenWithin P (Some value) = AllByRecursion P value.written.tokens
@@ -50,18 +52,18 @@ abbrev pub ShapeWithin : (Token → Type 0) → Shape → Type 0
 ShapeWithin P (Struct shape) = AllByRecursion (FieldWithin P) shape.fields
 ShapeWithin P (Enum variants) = AllByRecursion (VariantWithin P) variants
 
--- ---- laws
+-- ---- laws of parts
 
--- The tokens of a part are tokens of the whole that it is read from.
+-- The tokens of a part are tokens of the whole that it is parsed from.
 pub record PartLaws : Type 0 where
   -- The tokens in the attributes of fields and variants, and in discriminants, are tokens of the definition.
   pub definition : (tokens : Tokens) (d : DeriveInput) → IsWhole definitions.definition tokens d → ShapeWithin (λ t. Contains tokens t) d.shape
-  -- So are those in its own attributes.
+  -- The tokens in the definition's own attributes are tokens of the definition.
   pub attrs : (tokens : Tokens) (d : DeriveInput) → IsWhole definitions.definition tokens d → AttributesWithin (λ t. Contains tokens t) d.attrs
-  -- A definition keeps the tokens that it is read from.
+  -- A definition keeps the tokens that it is parsed from.
   pub definition_tokens : (tokens : Tokens) (d : DeriveInput) → IsWhole definitions.definition tokens d → d.tokens ≡ tokens
-  -- Where metas are read from tokens of a list, the tokens in them are tokens of that list.
+  -- The tokens in metas that are parsed from tokens of a list are tokens of that list.
   pub metas : (all tokens : Tokens) (found : List Meta) → AllByRecursion (λ t. Contains all t) tokens → IsWhole attributes.metas tokens found
       → AllByRecursion (MetaWithin (λ t. Contains all t)) found
-  -- A path keeps the tokens that it is read from.
+  -- A path keeps the tokens that it is parsed from.
   pub path : (tokens : Tokens) (path : ExprPath) → IsWhole expressions.expr_path tokens path → path.written.tokens ≡ tokens

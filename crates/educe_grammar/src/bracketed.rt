@@ -1,4 +1,4 @@
-//! What stands in brackets, an item or a list with commas, and what may stand behind a token.
+//! Brackets around an item or a comma-separated list, and items that follow a token.
 ghost use Rattle.std.specs.Prelude.{◌≡◌, ◌+◌, ◌-◌, ℕ};
 ghost use Rattle.educe_tokens.specs.Bracket.TheVariants as bracket;
 ghost use Rattle.educe_grammar.specs.Ahead.{sees_any, stop};
@@ -15,7 +15,7 @@ use crate::production::{Context, Lookahead, Production};
 use crate::terminal::Terminal;
 use educe_tokens::{Bracket, Seq, terminated};
 
-/// The end of round brackets.
+/// Lookahead for the end of round brackets.
 pub struct RoundEnd;
 
 impl Lookahead for RoundEnd {
@@ -27,7 +27,7 @@ impl Lookahead for RoundEnd {
     }
 }
 
-/// The end of curly brackets.
+/// Lookahead for the end of curly brackets.
 pub struct CurlyEnd;
 
 impl Lookahead for CurlyEnd {
@@ -39,7 +39,7 @@ impl Lookahead for CurlyEnd {
     }
 }
 
-/// The end of angle brackets.
+/// Lookahead for the end of angle brackets.
 pub struct AngleEnd;
 
 impl Lookahead for AngleEnd {
@@ -51,7 +51,7 @@ impl Lookahead for AngleEnd {
     }
 }
 
-/// An item in brackets.
+/// Parses an item in brackets.
 pub fn nested<C, P: Production<C>>(
     context: &C,
     input: &mut ParseStream<'_>,
@@ -66,7 +66,7 @@ pub fn nested<C, P: Production<C>>(
     terminated(found, input.cursor.expect_close(bracket))
 }
 
-/// An item in angle brackets.
+/// Parses an item in angle brackets.
 pub fn angled<C, P: Production<C>>(
     context: &C,
     input: &mut ParseStream<'_>,
@@ -80,7 +80,7 @@ pub fn angled<C, P: Production<C>>(
     terminated(found, input.cursor.expect(Terminal::Sign('>')))
 }
 
-/// Items with commas between, in brackets before whose end the lookahead stops.
+/// Parses comma-separated items in brackets, up to what the lookahead accepts.
 fn in_brackets<C: Context, P: Production<C>, S: Lookahead>(
     context: &C,
     input: &mut ParseStream<'_>,
@@ -95,7 +95,7 @@ fn in_brackets<C: Context, P: Production<C>, S: Lookahead>(
     terminated(found, input.cursor.expect_close(bracket))
 }
 
-/// Items in round brackets, with commas between and maybe a trailing one.
+/// Parses comma-separated items in round brackets, with an optional trailing comma.
 pub fn in_round<C: Context, P: Production<C>>(
     context: &C,
     input: &mut ParseStream<'_>,
@@ -107,7 +107,7 @@ pub fn in_round<C: Context, P: Production<C>>(
     in_brackets::<C, P, RoundEnd>(context, input, budget, Bracket::Round)
 }
 
-/// Items in curly brackets, with commas between and maybe a trailing one.
+/// Parses comma-separated items in curly brackets, with an optional trailing comma.
 pub fn in_curly<C: Context, P: Production<C>>(
     context: &C,
     input: &mut ParseStream<'_>,
@@ -119,7 +119,7 @@ pub fn in_curly<C: Context, P: Production<C>>(
     in_brackets::<C, P, CurlyEnd>(context, input, budget, Bracket::Curly)
 }
 
-/// Items in angle brackets, with commas between and maybe a trailing one.
+/// Parses comma-separated items in angle brackets, with an optional trailing comma.
 pub fn in_angles<C: Context, P: Production<C>>(
     context: &C,
     input: &mut ParseStream<'_>,
@@ -133,7 +133,7 @@ pub fn in_angles<C: Context, P: Production<C>>(
     terminated(found, input.cursor.expect(Terminal::Sign('>')))
 }
 
-/// An item behind such a token, or nothing where no such token comes next.
+/// Parses a token of the terminal and the item after it, or nothing where no such token comes next.
 #[tactic(auto, unfolding(crate::specs::Ahead::sees_any))]
 pub fn optional_behind<C, P: Production<C>>(
     context: &C,

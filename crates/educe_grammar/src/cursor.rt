@@ -27,7 +27,7 @@ fn same_bracket(a: Bracket, b: Bracket) -> bool
     }
 }
 
-/// Whether the token opens such a bracket pair.
+/// Whether the token is an opening bracket of this kind.
 fn opens(bracket: Bracket, token: &Token) -> bool
     ensures { result ≡ ahead.opens bracket token.now }
 {
@@ -37,7 +37,7 @@ fn opens(bracket: Bracket, token: &Token) -> bool
     }
 }
 
-/// Whether the token closes such a bracket pair.
+/// Whether the token is a closing bracket of this kind.
 fn closes(bracket: Bracket, token: &Token) -> bool
     ensures { result ≡ ahead.closes bracket token.now }
 {
@@ -47,7 +47,7 @@ fn closes(bracket: Bracket, token: &Token) -> bool
     }
 }
 
-/// Whether the token is a comment of documentation.
+/// Whether the token is a documentation comment.
 fn documents(token: &Token) -> bool
     ensures { result ≡ ahead.documents token.now }
 {
@@ -57,7 +57,7 @@ fn documents(token: &Token) -> bool
     }
 }
 
-/// Whether the token is this punct.
+/// Whether the token is this punctuation character.
 fn is_sign(c: char, token: &Token) -> bool
     ensures { result ≡ ahead.is_sign c token.now.kind }
 {
@@ -67,7 +67,7 @@ fn is_sign(c: char, token: &Token) -> bool
     }
 }
 
-/// Whether the token is this punct, and the next one follows it at once.
+/// Whether the token is this punctuation character, joint with the next token.
 fn is_joint(c: char, token: &Token) -> bool
     ensures { result ≡ ahead.is_joint c token.now.kind }
 {
@@ -77,7 +77,7 @@ fn is_joint(c: char, token: &Token) -> bool
     }
 }
 
-/// The tokens that are left to read of a list.
+/// The unread tokens of a list.
 #[derive(Drop)]
 pub struct Cursor<'a> {
     tokens: &'a TokenSlice,
@@ -96,7 +96,7 @@ impl<'a> Model for Cursor<'a> {
 }
 
 impl<'a> Cursor<'a> {
-    /// At the first of the tokens.
+    /// A cursor at the first token.
     pub fn new(tokens: &'a TokenSlice) -> Cursor<'a>
         ensures { result ≡ tokens.now }
     {
@@ -106,7 +106,7 @@ impl<'a> Cursor<'a> {
         }
     }
 
-    /// At the same token.
+    /// A second cursor at this place.
     pub fn mark(&self) -> Cursor<'a>
         ensures { result ≡ self.now }
     {
@@ -123,7 +123,7 @@ impl<'a> Cursor<'a> {
         self.rest
     }
 
-    /// How many tokens are left.
+    /// The number of tokens that are left.
     pub fn left(&self) -> usize
         ensures count { result ≡ length self.now }
         ensures fits { result + 1 < 2 ^ 64 }
@@ -131,14 +131,14 @@ impl<'a> Cursor<'a> {
         self.rest.len()
     }
 
-    /// The rejection of the tokens that are left.
+    /// The syntax error at this place.
     pub fn refuse(&self) -> ParseError
         ensures { result ≡ ParseError.Syntax (length self.now) }
     {
         ParseError::Syntax(self.rest.len())
     }
 
-    /// Whether such a token comes next.
+    /// Whether the next token is one of the terminal.
     #[tactic(auto, unfolding(crate::specs::Ahead::sees))]
     pub fn sees(&self, asked: Terminal) -> bool
         ensures { result ≡ ahead.sees (accepts asked) self.now }
@@ -149,7 +149,7 @@ impl<'a> Cursor<'a> {
         }
     }
 
-    /// Whether such a bracket opens next (Rust Reference, Delimiters).
+    /// Whether the next token is an opening bracket of this kind (Rust Reference, Delimiters).
     #[tactic(auto, unfolding(crate::specs::Ahead::sees))]
     pub fn opens(&self, bracket: Bracket) -> bool
         ensures { result ≡ ahead.sees (ahead.opens bracket) self.now }
@@ -160,7 +160,7 @@ impl<'a> Cursor<'a> {
         }
     }
 
-    /// Whether such a bracket closes next (Rust Reference, Delimiters).
+    /// Whether the next token is a closing bracket of this kind (Rust Reference, Delimiters).
     #[tactic(auto, unfolding(crate::specs::Ahead::sees))]
     pub fn closes(&self, bracket: Bracket) -> bool
         ensures { result ≡ ahead.sees (ahead.closes bracket) self.now }
@@ -171,7 +171,7 @@ impl<'a> Cursor<'a> {
         }
     }
 
-    /// Whether a comment of documentation comes next (Rust Reference, Doc comments).
+    /// Whether the next token is a documentation comment (Rust Reference, Doc comments).
     #[tactic(auto, unfolding(crate::specs::Ahead::sees))]
     pub fn documents(&self) -> bool
         ensures { result ≡ ahead.sees ahead.documents self.now }
@@ -182,7 +182,7 @@ impl<'a> Cursor<'a> {
         }
     }
 
-    /// Whether the operator of these two puncts comes next (Rust Reference, Punctuation).
+    /// Whether the next tokens are the operator of these two puncts (Rust Reference, Punctuation).
     #[tactic(auto, unfolding(crate::specs::Ahead::begins_pair))]
     pub fn begins_pair(&self, c: char, d: char) -> bool
         ensures { result ≡ ahead.begins_pair c d self.now }
@@ -193,8 +193,8 @@ impl<'a> Cursor<'a> {
         }
     }
 
-    /// Whether the punct `c` comes next, and not as the first half of the operator of both (Rust
-    /// Reference, Punctuation).
+    /// Whether the next token is the punct `c`, which is not the first half of the operator `cd`
+    /// (Rust Reference, Punctuation).
     #[tactic(auto, unfolding(crate::specs::Ahead::begins_lone))]
     pub fn begins_lone(&self, c: char, d: char) -> bool
         ensures { result ≡ ahead.begins_lone c d self.now }
@@ -213,7 +213,7 @@ impl<'a> Cursor<'a> {
         self.rest.is_empty()
     }
 
-    /// Goes on behind so many tokens, or to the end where there are fewer.
+    /// Advances by this number of tokens, or to the end where there are fewer.
     fn skip(&mut self, count: usize)
         ensures { self.new ≡ drop count self.old }
     {
@@ -221,7 +221,7 @@ impl<'a> Cursor<'a> {
         self.rest = &self.rest[count..];
     }
 
-    /// Behind so many tokens, or at the end where there are fewer.
+    /// A cursor that is this number of tokens further, or at the end where there are fewer.
     pub fn behind(&self, count: usize) -> Cursor<'a>
         ensures { result ≡ drop count self.now }
     {
@@ -230,7 +230,7 @@ impl<'a> Cursor<'a> {
         cursor
     }
 
-    /// Takes the next token, where it was seen to be what is asked for.
+    /// Takes the next token, where the caller has seen that it is one of the terminal.
     #[tactic(auto, unfolding(crate::specs::Ahead::sees, crate::specs::Steps::expect))]
     fn take_if(&mut self, seen: bool) -> Result<&'a Token, ParseError>
         ensures taken { (test : Token → Bool) → seen ≡ ahead.sees test self.old → Lends (spec.expect test self.old) result self.new }
@@ -245,7 +245,7 @@ impl<'a> Cursor<'a> {
         }
     }
 
-    /// Takes such a token, and rejects any other.
+    /// Takes a token of the terminal, and rejects any other.
     pub fn expect(&mut self, asked: Terminal) -> Result<&'a Token, ParseError>
         ensures taken { Lends (spec.expect (accepts asked) self.old) result self.new }
         ensures stays { OnErr result (self.new ≡ self.old) }
@@ -253,7 +253,7 @@ impl<'a> Cursor<'a> {
         self.take_if(self.sees(asked))
     }
 
-    /// Takes such an opening bracket, and rejects any other token.
+    /// Takes an opening bracket of this kind, and rejects any other token.
     pub fn expect_open(&mut self, bracket: Bracket) -> Result<&'a Token, ParseError>
         ensures taken { Lends (spec.expect (ahead.opens bracket) self.old) result self.new }
         ensures stays { OnErr result (self.new ≡ self.old) }
@@ -261,7 +261,7 @@ impl<'a> Cursor<'a> {
         self.take_if(self.opens(bracket))
     }
 
-    /// Takes such a closing bracket, and rejects any other token.
+    /// Takes a closing bracket of this kind, and rejects any other token.
     pub fn expect_close(&mut self, bracket: Bracket) -> Result<&'a Token, ParseError>
         ensures taken { Lends (spec.expect (ahead.closes bracket) self.old) result self.new }
         ensures stays { OnErr result (self.new ≡ self.old) }
@@ -269,7 +269,7 @@ impl<'a> Cursor<'a> {
         self.take_if(self.closes(bracket))
     }
 
-    /// Takes a comment of documentation, and rejects any other token.
+    /// Takes a documentation comment, and rejects any other token.
     pub fn expect_doc(&mut self) -> Result<&'a Token, ParseError>
         ensures taken { Lends (spec.expect ahead.documents self.old) result self.new }
         ensures stays { OnErr result (self.new ≡ self.old) }
@@ -289,7 +289,7 @@ impl<'a> Cursor<'a> {
         Ok(())
     }
 
-    /// Takes the punct `c`, where it is not the first half of the operator of both, and rejects any
+    /// Takes the punct `c`, where it is not the first half of the operator `cd`, and rejects any
     /// other token.
     pub fn skip_lone(&mut self, c: char, d: char) -> Result<(), ParseError>
         ensures taken { Passes (skip_if (ahead.begins_lone c d self.old) 1 self.old) result self.new }
@@ -302,7 +302,7 @@ impl<'a> Cursor<'a> {
         Ok(())
     }
 
-    /// Takes such a token, if it comes next.
+    /// Takes a token of the terminal, if it comes next, and returns whether it did.
     pub fn eat(&mut self, asked: Terminal) -> bool
         ensures seen { result ≡ ahead.sees (accepts asked) self.old }
         ensures taken { Eats (spec.expect (accepts asked) self.old) result self.old self.new }
@@ -315,7 +315,7 @@ impl<'a> Cursor<'a> {
         seen
     }
 
-    /// Takes the operator of these two puncts, if it comes next.
+    /// Takes the operator of these two puncts, if it comes next, and returns whether it did.
     pub fn eat_pair(&mut self, c: char, d: char) -> bool
         ensures seen { result ≡ ahead.begins_pair c d self.old }
         ensures rest { self.new ≡ (if result then drop 2 self.old else self.old) }
@@ -327,7 +327,8 @@ impl<'a> Cursor<'a> {
         seen
     }
 
-    /// Takes the punct `c`, if it comes next and is not the first half of the operator of both.
+    /// Takes the punct `c`, if it comes next and is not the first half of the operator `cd`, and
+    /// returns whether it did.
     pub fn eat_lone(&mut self, c: char, d: char) -> bool
         ensures seen { result ≡ ahead.begins_lone c d self.old }
         ensures rest { self.new ≡ (if result then drop 1 self.old else self.old) }
@@ -339,8 +340,7 @@ impl<'a> Cursor<'a> {
         seen
     }
 
-    /// Takes the longest operator with two operands that comes next (Rust Reference, Operator
-    /// expressions).
+    /// Takes the longest binary operator that comes next (Rust Reference, Operator expressions).
     pub fn operator(&mut self) -> Result<Operator, ParseError>
         ensures taken { Operates (operator_at self.old) result self.old self.new }
         ensures stays { OnErr result (self.new ≡ self.old) }
@@ -354,8 +354,7 @@ impl<'a> Cursor<'a> {
         }
     }
 
-    /// The budget that is left for what stands inside of what was just taken, before which so many
-    /// tokens were left.
+    /// The budget inside of what was just taken, at whose start `left` tokens were left.
     #[tactic(auto, unfolding(crate::specs::Steps::enter))]
     fn enter(&self, budget: u8, left: usize) -> Result<u8, ParseError>
         ensures outcome { Passes (spec.enter budget left self.now) result self.now }
@@ -368,7 +367,8 @@ impl<'a> Cursor<'a> {
         Ok(budget - 1)
     }
 
-    /// Takes such an opening bracket. It answers the budget inside (Rust Reference, Delimiters).
+    /// Takes an opening bracket of this kind, and returns the budget inside (Rust Reference,
+    /// Delimiters).
     pub fn open(&mut self, budget: u8, bracket: Bracket) -> Result<u8, ParseError>
         ensures outcome { Opens (spec.expect (ahead.opens bracket) self.old) budget self.old result self.new }
         ensures below { IfOk result (λ below. below + 1 ≡ budget) }
@@ -379,7 +379,7 @@ impl<'a> Cursor<'a> {
         self.enter(budget, left)
     }
 
-    /// Takes `<`, which is not half of `<=`. It answers the budget inside (Rust Reference, Generic
+    /// Takes `<`, which is not half of `<=`, and returns the budget inside (Rust Reference, Generic
     /// arguments).
     pub fn open_angle(&mut self, budget: u8) -> Result<u8, ParseError>
         ensures outcome { Opens (skip_if (ahead.begins_lone 60 61 self.old) 1 self.old) budget self.old result self.new }
@@ -391,7 +391,7 @@ impl<'a> Cursor<'a> {
         self.enter(budget, left)
     }
 
-    /// Takes such a token, under which something stands. It answers the budget of that.
+    /// Takes a token of the terminal, and returns the budget of what nests under it.
     pub fn open_under(&mut self, budget: u8, asked: Terminal) -> Result<u8, ParseError>
         ensures outcome { Opens (spec.expect (accepts asked) self.old) budget self.old result self.new }
         ensures below { IfOk result (λ below. below + 1 ≡ budget) }
@@ -402,7 +402,7 @@ impl<'a> Cursor<'a> {
         self.enter(budget, left)
     }
 
-    /// Takes `->`. It answers the budget of what stands behind it (Rust Reference, Function pointer
+    /// Takes `->`, and returns the budget of the type after it (Rust Reference, Function pointer
     /// types).
     pub fn open_arrow(&mut self, budget: u8) -> Result<u8, ParseError>
         ensures outcome { Opens (skip_if (ahead.begins_pair 45 62 self.old) 2 self.old) budget self.old result self.new }
@@ -414,7 +414,7 @@ impl<'a> Cursor<'a> {
         self.enter(budget, left)
     }
 
-    /// What was read since the other cursor. No token is copied.
+    /// The tokens that were read since the other cursor. No token is copied.
     #[tactic(auto, unfolding(crate::specs::Steps::since))]
     pub fn since(&self, start: &Cursor<'_>) -> Result<TokenSlice, AllocError>
         ensures { IfOk result (λ read. read ≡ spec.since start.now self.now) }

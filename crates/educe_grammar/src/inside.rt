@@ -1,4 +1,4 @@
-//! What reads the parts that stand inside of others.
+//! The mutual recursion of the grammar: types and expressions that nest in other constructs.
 ghost use Rattle.std.specs.Prelude.{◌+◌, ℕ};
 ghost use Rattle.educe_grammar.specs.NotedReads.{readers};
 ghost use Rattle.educe_grammar.specs.Rules.{types, plains, exprs};
@@ -14,20 +14,21 @@ use std::alloc::Global;
 /// A type with its ending.
 pub type Typed = (Ty, Ending);
 
-/// What reads types and expressions that stand inside of others, where less budget is left for them.
+/// The parser of types and expressions that nest in other constructs, where less budget is left for
+/// them.
 pub trait Inside {
-    // It reads with each budget below the bound.
+    // It parses with each budget below the bound.
     ghost nests: { Self → ℕ → Type 0 };
 
-    // So it reads with each budget below a smaller one.
+    // What parses with each budget below a bound parses with each budget below a smaller one.
     ghost fewer: { (inside : Self) (bound : ℕ) → nests inside (bound + 1) → nests inside bound };
 
-    /// A type (Rust Reference, Types).
+    /// Parses a type (Rust Reference, Types).
     fn ty(&self, alloc: Global, input: &mut ParseStream<'_>, budget: u8) -> Result<Ty, ParseError>
         requires { nests self.now (budget + 1) }
         ensures { Gives (readers budget types input.old) result input.new };
 
-    /// A type whose `dyn` has one bound (Rust Reference, Type expressions).
+    /// Parses a type in which `dyn` has one bound (Rust Reference, Type expressions).
     fn plain(
         &self,
         alloc: Global,
@@ -37,7 +38,7 @@ pub trait Inside {
         requires { nests self.now (budget + 1) }
         ensures { Gives (readers budget plains input.old) result input.new };
 
-    /// An expression (Rust Reference, Expressions).
+    /// Parses an expression (Rust Reference, Expressions).
     fn expr(
         &self,
         alloc: Global,
@@ -48,7 +49,7 @@ pub trait Inside {
         ensures { Gives (readers budget exprs input.old) result input.new };
 }
 
-/// What reads the parts that stand inside, with the allocator of what is read.
+/// The parser of nested parts, with the allocator for what it returns.
 #[derive(Clone, Copy)]
 pub struct Parts<R> {
     pub alloc: Global,
@@ -56,7 +57,7 @@ pub struct Parts<R> {
 }
 
 impl<R: Inside> Parts<R> {
-    /// A type inside.
+    /// Parses a nested type.
     pub fn ty(&self, input: &mut ParseStream<'_>, budget: u8) -> Result<Ty, ParseError>
         requires { R.nests self.now.inside (budget + 1) }
         ensures { Gives (readers budget types input.old) result input.new }
@@ -64,7 +65,7 @@ impl<R: Inside> Parts<R> {
         self.inside.ty(self.alloc, input, budget)
     }
 
-    /// A type inside, whose `dyn` has one bound.
+    /// Parses a nested type in which `dyn` has one bound.
     pub fn plain(&self, input: &mut ParseStream<'_>, budget: u8) -> Result<Typed, ParseError>
         requires { R.nests self.now.inside (budget + 1) }
         ensures { Gives (readers budget plains input.old) result input.new }
@@ -72,7 +73,7 @@ impl<R: Inside> Parts<R> {
         self.inside.plain(self.alloc, input, budget)
     }
 
-    /// An expression inside.
+    /// Parses a nested expression.
     pub fn expr(&self, input: &mut ParseStream<'_>, budget: u8) -> Result<Expr, ParseError>
         requires { R.nests self.now.inside (budget + 1) }
         ensures { Gives (readers budget exprs input.old) result input.new }
@@ -81,7 +82,7 @@ impl<R: Inside> Parts<R> {
     }
 }
 
-/// A type inside, as an item of lists.
+/// The production of a nested type.
 pub struct TypeInside;
 
 impl<R: Inside> Production<Parts<R>> for TypeInside {
@@ -96,7 +97,7 @@ impl<R: Inside> Production<Parts<R>> for TypeInside {
     }
 }
 
-/// An expression inside, as an item of lists.
+/// The production of a nested expression.
 pub struct ExprInside;
 
 impl<R: Inside> Production<Parts<R>> for ExprInside {

@@ -1,4 +1,4 @@
-//! The loops that rules are made of.
+//! The loops of the parser: lists, sequences, chains and paths.
 ghost use Rattle.std.specs.Prelude.{◌≡◌, suc, [], ◌∷◌, length};
 ghost use Rattle.educe_grammar.specs.Ahead.{Look, Decides};
 ghost use Rattle.educe_grammar.specs.Parsed.{depth_limit};
@@ -16,13 +16,13 @@ use crate::terminal::{Keyword, Terminal};
 use educe_tokens::{NESTING, Seq};
 use std::alloc::Global;
 
-/// The limits as numbers: how many brackets and the like nest, and how many links a chain has.
+/// The values of the limits on nesting and on the links of a chain.
 pub fn limits()
     ensures nesting { depth_limit ≡ 128 }
     ensures chain { chain_limit ≡ 128 }
 {}
 
-/// Items with separators between and maybe a trailing one, up to where the tokens begin so.
+/// Parses separated items with an optional trailing separator, up to what the lookahead accepts.
 pub fn list<C: Context, P: Production<C>, S: Lookahead>(
     context: &C,
     input: &mut ParseStream<'_>,
@@ -45,7 +45,7 @@ pub fn list<C: Context, P: Production<C>, S: Lookahead>(
     Err(input.cursor.refuse())
 }
 
-/// Items one behind the other, as long as the tokens begin so.
+/// Parses items as long as the lookahead accepts the tokens.
 pub fn many<
     T: Drop,
     S: Fn(&Cursor<'_>) -> bool,
@@ -66,7 +66,8 @@ pub fn many<
     Err(input.cursor.refuse())
 }
 
-/// Items one behind the other, as long as the tokens begin so, where more than `NESTING` are too deep.
+/// Parses items as long as the lookahead accepts the tokens; more than `NESTING` are rejected as
+/// too deep.
 pub fn chain<C: Context, P: Production<C>, S: Lookahead>(
     context: &C,
     input: &mut ParseStream<'_>,
@@ -88,7 +89,7 @@ pub fn chain<C: Context, P: Production<C>, S: Lookahead>(
     Ok(found)
 }
 
-/// These items and further ones, each behind `::` (Rust Reference, Paths).
+/// Parses further items, each after `::`, and appends them to these (Rust Reference, Paths).
 fn further<C: Context, P: Production<C>>(
     context: &C,
     input: &mut ParseStream<'_>,
@@ -113,7 +114,8 @@ fn further<C: Context, P: Production<C>>(
     Ok(found)
 }
 
-/// At least one item, with `::` between. A path that begins with `Self` is noted (Rust Reference, Paths).
+/// Parses at least one item, with `::` between items, and notes a path that begins with `Self`
+/// (Rust Reference, Paths).
 pub fn path<C: Context, P: Production<C>>(
     context: &C,
     input: &mut ParseStream<'_>,

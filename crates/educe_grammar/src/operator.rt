@@ -1,10 +1,10 @@
-//! Operators with two operands (Rust Reference, Operator expressions).
+//! Binary operators (Rust Reference, Operator expressions).
 ghost use Rattle.std.specs.Prelude.{◌≡◌};
 ghost use Rattle.educe_grammar.specs.Operators as spec;
 
 use educe_tokens::{Token, TokenKind};
 
-/// What the grammar tells apart of an operator with two operands.
+/// The classes of binary operators that the grammar distinguishes.
 #[derive(Clone, Copy)]
 pub enum Operator {
     /// `&&` or `||`
@@ -19,7 +19,7 @@ pub enum Operator {
     Calculates,
 }
 
-/// The operator of two puncts.
+/// The operator that two puncts spell.
 fn pair_of(c: char, d: char) -> Option<Operator>
     ensures { result ≡ spec.pair_of c d }
 {
@@ -36,7 +36,7 @@ fn pair_of(c: char, d: char) -> Option<Operator>
     }
 }
 
-/// The operator of one punct.
+/// The operator that one punct spells.
 fn single_of(c: char) -> Option<Operator>
     ensures { result ≡ spec.single_of c }
 {
@@ -68,7 +68,7 @@ fn single_operator(first: &Token) -> Option<Operator>
     }
 }
 
-/// The longest operator that the tokens begin with, and how many tokens it takes.
+/// The longest operator at the start of the tokens, and its number of tokens.
 #[tactic(auto, unfolding(crate::specs::Operators::operator_at))]
 pub fn operator_at(tokens: &[Token]) -> Option<(Operator, usize)>
     ensures { result ≡ spec.operator_at tokens.now }

@@ -1,12 +1,12 @@
-//! Why a list of tokens is not read.
+//! Errors of the parser.
 use std::alloc::AllocError;
 
-/// A rejection of the parser. A number says where: that many tokens were left to read.
+/// An error of the parser. Its place is given as the number of tokens that were left to read.
 #[derive(Clone, Copy)]
 pub enum ParseError {
     /// Out of memory.
     Memory,
-    /// The tokens that are left can't go on.
+    /// The next token fits nothing that may stand here.
     Syntax(usize),
     /// The nesting, or a chain, exceeds its limit.
     TooDeep(usize),

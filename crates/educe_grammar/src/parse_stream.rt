@@ -1,4 +1,4 @@
-//! What a parser reads from: the tokens that are left, and what it noted of those that were read.
+//! The input of a parser: the tokens that are left, and what was noted of those already read.
 
 ghost use Rattle.std.specs.Prelude.{◌≡◌, []};
 
@@ -6,8 +6,8 @@ use crate::cursor::Cursor;
 use educe_tokens::{Seq, TokenSlice};
 use std::alloc::Global;
 
-/// A path that begins with `Self`: how many tokens are left to read at its beginning, behind its first
-/// segment, and behind it (Rust Reference, Paths).
+/// A path that begins with `Self`: how many tokens are left at its beginning, after its first
+/// segment, and after it (Rust Reference, Paths).
 #[derive(Clone, Copy)]
 pub struct SelfPath {
     pub start: usize,
@@ -15,7 +15,8 @@ pub struct SelfPath {
     pub behind: usize,
 }
 
-/// A cursor, with the paths that begin with `Self` among what was read, in the order of their ends.
+/// A cursor, with the paths that begin with `Self` among the tokens already read, in the order of
+/// their ends.
 #[derive(Drop)]
 pub struct ParseStream<'a> {
     pub cursor: Cursor<'a>,
@@ -23,7 +24,7 @@ pub struct ParseStream<'a> {
 }
 
 impl<'a> ParseStream<'a> {
-    /// At the first of the tokens.
+    /// A stream at the first token, with no path noted.
     pub fn new(alloc: Global, tokens: &'a TokenSlice) -> ParseStream<'a>
         ensures cursor { result.cursor ≡ tokens.now }
         ensures selves { result.selves ≡ [] }

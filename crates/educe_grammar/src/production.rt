@@ -1,5 +1,5 @@
-//! What the loops take: how an item is read, and a lookahead. Both are types, so that no function
-//! value is passed when the program runs.
+//! Productions and lookaheads, which the loops take as types, so that no function value is passed
+//! at run time.
 ghost use Rattle.std.specs.Prelude.{◌≡◌, ℕ};
 ghost use Rattle.educe_grammar.specs.Ahead.{Look, sees_any};
 ghost use Rattle.educe_grammar.specs.Noting.{Noter};
@@ -11,9 +11,9 @@ use crate::parse_error::ParseError;
 use crate::parse_stream::ParseStream;
 use std::alloc::Global;
 
-/// What a production is read with: an allocator, and maybe what reads the parts inside.
+/// The context of a production: an allocator, and where needed the parser of nested parts.
 pub trait Context {
-    /// The allocator of what is read.
+    /// The allocator for the trees that are built.
     fn alloc(&self) -> Global;
 }
 
@@ -31,16 +31,16 @@ impl<R> Context for Parts<R> {
 
 /// A production of the grammar.
 pub trait Production<C> {
-    /// What is read.
+    /// The tree that the production builds.
     type Tree: Drop;
 
-    // What it asks of the context, with a budget.
+    // What the production requires of the context, with a budget.
     ghost ready: { C → ℕ → Type 0 };
 
-    // The program that it is, with a budget.
+    // The program that the production runs, with a budget.
     ghost reads: { ℕ → Noter Self.Tree };
 
-    /// Reads it.
+    /// Parses the production.
     fn parse(context: &C, input: &mut ParseStream<'_>, budget: u8) -> Result<Self::Tree, ParseError>
         requires { ready context.now budget }
         ensures { Gives (reads budget input.old) result input.new };
@@ -48,10 +48,10 @@ pub trait Production<C> {
 
 /// A lookahead: what the tokens may begin with.
 pub trait Lookahead {
-    // The beginnings.
+    // The alternatives that the lookahead accepts.
     ghost look: { Look };
 
-    /// Whether the tokens begin so.
+    /// Whether the lookahead accepts the next tokens.
     fn is_next(cursor: &Cursor<'_>) -> bool
         ensures { result ≡ sees_any look cursor.now };
 }

@@ -1,4 +1,4 @@
-//! What was read, with its tokens.
+//! Trees with the tokens that they were parsed from.
 ghost use Rattle.educe_grammar.specs.Noting.{IsCopied, written_by};
 ghost use Rattle.educe_grammar.specs.Steps.{Gives};
 
@@ -7,7 +7,7 @@ use crate::parse_stream::ParseStream;
 use crate::production::Production;
 use educe_tokens::Written;
 
-/// What is read, and its tokens as they were written.
+/// Parses the production, and returns its tree with its tokens as they were written.
 pub fn written<C, P: Production<C>>(
     context: &C,
     input: &mut ParseStream<'_>,

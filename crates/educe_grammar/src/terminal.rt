@@ -1,4 +1,4 @@
-//! What the grammar asks of one token.
+//! Terminals of the grammar: the kinds of tokens that a parser asks for.
 ghost use Rattle.std.specs.Prelude.{◌≡◌, chars};
 ghost use Rattle.std.specs.List.{list_any};
 ghost use Rattle.std.specs.Str.{bytes_eq};
@@ -8,7 +8,7 @@ ghost use Rattle.educe_grammar.specs.Terminals as spec;
 use educe_tokens::{LiteralKind, Spelling, Token, TokenKind};
 use educe_tree::{is_name, is_spelled};
 
-/// A word that the grammar spells out (Rust Reference, Keywords).
+/// A keyword of the grammar (Rust Reference, Keywords).
 #[derive(Clone, Copy)]
 pub enum Keyword {
     /// `as`

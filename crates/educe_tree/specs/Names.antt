@@ -5,7 +5,7 @@ use Rattle.std.specs.Str.{bytes_eq}
 use Rattle.educe_tokens.specs.TokenKind.{TokenKind}
 use Rattle.educe_tokens.specs.TokenKind.TheVariants.{Ident, Lifetime, Literal, Punct, Start, Stop, Doc}
 
--- The strict and reserved keywords of the edition 2021.
+-- The strict and reserved keywords of edition 2021.
 abbrev pub keywords : List (List ℕ)
 keywords =
     codes "abstract" ∷ codes "as" ∷ codes "async" ∷ codes "await" ∷ codes "become" ∷ codes "box" ∷ codes "break"
@@ -20,7 +20,7 @@ keywords =
 unfoldable pub is_keyword : List ℕ → Bool
 is_keyword text = list_any (λ keyword. bytes_eq keyword text) keywords
 
--- An identifier that is neither `_` nor a keyword.
+-- The token is a name: an identifier that is neither `_` nor a keyword.
 abbrev pub is_name : TokenKind → List ℕ → Bool
 is_name Ident text = not (bytes_eq text (codes "_")) && not (is_keyword text)
 is_name Lifetime text = false

@@ -1,4 +1,4 @@
--- The laws of tokens as terms, which proofs cite with no call.
+-- The laws of tokens as terms, which proofs cite without a call.
 use Rattle.std.specs.Prelude.{◌≡◌, ℕ, List, true, chars}
 use Rattle.std.specs.Char.{is_ascii}
 use Rattle.std.specs.List.{list_all}
@@ -6,23 +6,23 @@ use Rattle.educe_tokens.specs.Laws.{LexingLaws, PrintingLaws, KindLaws, CopyingL
 use Rattle.educe_tokens.proofs.Ascii.{chars-ascii}
 use Rattle.educe_tokens.proofs.Lawful as lawful
 
--- Texts have one list of tokens or one cause of a rejection.
+-- A text has one list of tokens or one cause of rejection.
 pub lawful_lexing : LexingLaws
 lawful_lexing = lawful.lawful_lexing
 
--- Texts that are printed lex as their tokens.
+-- Printed texts lex as their tokens.
 pub lawful_printing : PrintingLaws
 lawful_printing = lawful.lawful_printing
 
--- Spellings decide kinds.
+-- A spelling decides the kind of its token.
 pub lawful_kinds : KindLaws
 lawful_kinds = lawful.lawful_kinds
 
--- Copies keep what they say they do.
+-- Copying changes only the jointness of puncts.
 pub lawful_copies : CopyingLaws
 lawful_copies = lawful.lawful_copies
 
--- Strings and documentation have one value.
+-- Strings and documentation have exactly one value.
 pub lawful_values : ValueLaws
 lawful_values = lawful.lawful_values
 

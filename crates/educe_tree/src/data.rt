@@ -19,7 +19,7 @@ pub enum FieldForm {
     Named,
     /// In round brackets, without names.
     Unnamed,
-    /// Not at all.
+    /// Without fields, as `struct A;`.
     Unit,
 }
 
@@ -42,7 +42,7 @@ pub struct Variant {
     pub attrs: Attributes,
     pub ident: Ident,
     pub fields: FieldShape,
-    /// What stands behind `=`, where there is one.
+    /// The expression of an explicit discriminant.
     pub discriminant: Option<Expr>,
     pub span: Span,
 }

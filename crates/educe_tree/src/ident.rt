@@ -21,7 +21,7 @@ pub struct Ident {
 }
 
 impl Ident {
-    /// A name of ASCII characters that the program makes, at no place.
+    /// A generated name of ASCII characters, which has no place in the source.
     #[tactic(auto, using(educe_tokens::proofs::Quoting::ascii_name_is))]
     pub fn from_name(alloc: Global, name: &str) -> Result<Ident, AllocError>
         requires { IsTrue (is_ascii_name name.now) }

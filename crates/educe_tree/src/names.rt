@@ -15,7 +15,7 @@ const KEYWORDS: [&str; 51] = [
     "typeof", "unsafe", "unsized", "use", "virtual", "where", "while", "yield",
 ];
 
-/// Whether the text is these characters.
+/// Whether the text has exactly the characters of the word.
 pub fn is_spelled(text: &Spelling, word: &str) -> bool
     ensures { result ≡ bytes_eq (chars word.now) text.now }
 {

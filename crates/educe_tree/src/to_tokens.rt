@@ -1,4 +1,4 @@
-//! Values that are printed as tokens, and those that are printed as they were written.
+//! Values that are printed as tokens, generated or as they were written.
 ghost use Rattle.std.specs.Prelude.{◌≡◌, IfOk, OnOk, List, chars, map};
 ghost use Rattle.std.specs.String.{string_bytes};
 ghost use Rattle.educe_tokens.specs.Lexes.{Lexeme, LexesAside};
@@ -28,7 +28,7 @@ pub trait ToTokens {
     // The last token is not joint.
     ghost ends_apart: { (value : Self) → EndsApart (lexemes_of value) };
 
-    // The text of the tokens lexes as them.
+    // The text of the tokens lexes as these tokens.
     ghost lexes_back: { (value : Self) → LexesBack (lexemes_of value) };
 }
 
@@ -37,7 +37,7 @@ pub trait AsWritten {
     // The tokens that the value holds.
     ghost held: { Self → Written };
 
-    /// The tokens, lent.
+    /// The tokens that the value holds.
     fn written(&self) -> &Written
         ensures { result.now ≡ held self.now };
 }
@@ -61,7 +61,7 @@ impl<T: AsWritten> ToTokens for T {
     }
 }
 
-/// The text of a value, which is that of its tokens.
+/// The text of a value: its tokens, printed.
 pub fn text_of_tree<T: ToTokens>(alloc: Global, tree: &T) -> Result<String, AllocError>
     ensures spelled { IfOk result (λ s. chars (string_bytes s) ≡ text_of (T.lexemes_of tree.now)) }
     ensures lexes { IfOk result (λ s. LexesAside (chars (string_bytes s)) (T.lexemes_of tree.now)) }

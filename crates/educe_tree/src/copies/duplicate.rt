@@ -1,10 +1,10 @@
-//! What it is to have a copy; lists, optional trees and tokens have one.
+//! The trait of trees that can be copied; lists, optional trees and tokens have it.
 ghost use Rattle.std.specs.Prelude.{◌≡◌, IfOk};
 
 use educe_tokens::{Seq, Written, pair};
 use std::alloc::{AllocError, Global};
 
-/// A tree of which there may be a second one.
+/// A tree that can be copied.
 pub trait Duplicate: Drop {
     /// An equal tree in memory of its own, its spans included.
     fn duplicate(&self, alloc: Global) -> Result<Self, AllocError>
@@ -36,7 +36,7 @@ impl<T: Duplicate> Duplicate for Option<T> {
     }
 }
 
-/// Equal trees of both, in memory of their own.
+/// Copies of both trees, in memory of their own.
 pub fn duplicate_both<T: Duplicate, U: Duplicate>(
     alloc: Global,
     first: &T,
