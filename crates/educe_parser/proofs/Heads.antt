@@ -27,7 +27,7 @@ unit_ok : (outcome : Outcome Head) (rest : Tokens) → and_then outcome (λ x. p
 unit_ok (Ok (x, left)) rest h = (x, ap (λ left. Ok (x, left)) (ok_pair h).1)
 unit_ok (Err e) rest h = absurd (cc)
 
--- the same of a rejection
+-- what is rejected without its value was rejected with one
 unit_err : (outcome : Outcome Head) (e : ParseError) → and_then outcome (λ x. pure {A = Unit {0}} tt) ≡ Err e → outcome ≡ Err e
 unit_err (Ok (x, left)) e h = absurd (cc)
 unit_err (Err f) e h = let same : f ≡ e = cc in ap Err same

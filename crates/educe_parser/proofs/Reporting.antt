@@ -15,12 +15,12 @@ use Rattle.educe_parser.specs.Answers.{IsDuplicateError}
 pub memory_refused : (tokens : Tokens) (e : EduceError) → e ≡ placeless Alloc → IsRefusalOf tokens e
 memory_refused tokens e short = subst (IsRefusalOf tokens) (sym short) IsRefusalOf.memory
 
--- that of a union
+-- the rejection of a union has a cause
 pub union_refused : (tokens : Tokens) (word : Token) (e : EduceError) → IsUnion tokens word → (e ≡ placeless Alloc) ⊎ (e ≡ union_of word) → IsRefusalOf tokens e
 union_refused tokens word e is (inl short) = memory_refused tokens e short
 union_refused tokens word e is (inr reported) = subst (IsRefusalOf tokens) (sym reported) (IsRefusalOf.union word is)
 
--- that of a name
+-- the rejection of a duplicate name has a cause
 pub name_refused : (tokens : Tokens) (found : DeriveInput) (e : EduceError) → IsWhole definition tokens found → IsDuplicateError found e → IsRefusalOf tokens e
 name_refused tokens found e whole (inl short) = memory_refused tokens e short
 name_refused tokens found e whole (inr (name, twice, reported)) = subst (IsRefusalOf tokens) (sym reported) (IsRefusalOf.repeated found name whole twice)

@@ -106,7 +106,7 @@ earlier (n ∷ ns) name texts text found =
           record { front = n ∷ e.front; first = e.first; between = e.between; is = ap (λ ms. n ∷ ms) e.is; same = e.same })
     ]
 
--- so is a name that was seen
+-- a name that was seen is repeated
 pub repeated : (before after : List Named) (name : Named) → AllByRecursion IsText before → IsText name → has_name before (bytes_of name) ≡ true → AreApart before
     → IsRepeated name (before ++ name ∷ after)
 repeated before after name texts text found apart = repeated_behind before after name (earlier before name texts text found) apart
@@ -120,7 +120,7 @@ flipped false false h = refl
 
 -- ---- the lists of names of a definition
 
--- those of its parameters, and of its shape
+-- the scopes of a definition are those of its parameters, and of its shape
 pub scopes_same : (definition : DeriveInput) (shape : Shape) (params : List GenericParam) (lifetimes types : List Named) → params ≡ definition.generics.params
     → lifetimes ≡ filter_map lifetime_named params → types ≡ filter_map type_named params → definition.shape ≡ shape
     → lifetimes ∷ types ∷ shape_scopes shape ≡ scopes definition

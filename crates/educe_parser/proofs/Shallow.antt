@@ -22,13 +22,13 @@ name_shallow : (tokens : Tokens) (left : ℕ) → read depth_limit name tokens �
 unfolding name run
 name_shallow tokens left h = expect_fails (accepts Name) tokens left (made_fails (expect (accepts Name) tokens) (λ found _. name_of found) left h)
 
--- so the rejection where it stops is another one
+-- the rejection where the program of a name stops is not that of too deep nesting
 stop_shallow : (tokens : Tokens) (error : ParseError) → stop_of (read depth_limit name tokens) ≡ Some error → (refusal_of tokens error).kind ≢ kind.TooDeep
 stop_shallow tokens Memory stop = λ deep. cc
 stop_shallow tokens (Syntax left) stop = λ deep. cc
 stop_shallow tokens (TooDeep left) stop = absurd (name_shallow tokens left (deep_stop (read depth_limit name tokens) left stop))
 
--- and so is the one that is answered
+-- the rejection that is answered for a name is not that of too deep nesting
 pub answer_shallow : (tokens : Tokens) (result : Result Ident EduceError) → IsAnswer (read depth_limit name) tokens result → IfErr result (λ e. e.kind ≢ kind.TooDeep)
 answer_shallow tokens (Ok x) is = tt
 answer_shallow tokens (Err e) (inl short) = λ deep. (let same = sym (ap (λ (e : EduceError). e.kind) short) ∙ deep in cc)

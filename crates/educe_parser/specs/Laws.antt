@@ -1,4 +1,4 @@
--- The laws of parsing: of the rules that the calls read by, of definitions, of places, of parts and of types.
+-- The laws of parsing: of rules, definitions, places, parts and types.
 use Rattle.std.specs.Prelude.{◌≡◌, ◌⊎◌, ◌↔◌, ℕ, List, [], true, Ok}
 use Rattle.std.specs.List.{AllByRecursion}
 use Rattle.std.proofs.Common.{sym, subst}
@@ -38,22 +38,22 @@ use Rattle.educe_grammar.proofs.Reported.{cause_reported, refusal_reported}
 
 -- ---- rules
 
--- What holds of a rule and each list of tokens, within the limits.
+-- Laws of a rule, for each list of tokens and within the limits.
 pub record RuleLaws {A : Type 0} (g : Rule A) : Type 0 where
-  -- The list has a reading, or there is a cause why it has none.
+  -- The list has a reading, or a cause of rejection.
   pub decided : (tokens : Tokens) → IsDecided g tokens
-  -- It has one reading only.
+  -- The list has at most one reading.
   pub one_reading : (tokens : Tokens) (x y : A) → IsWhole g tokens x → IsWhole g tokens y → x ≡ y
-  -- Where it has one, no cause stands but out of memory.
+  -- A list that has a reading has no cause of rejection but out of memory.
   pub uncaused : (tokens : Tokens) (x : A) → IsWhole g tokens x → IsUncaused (IsParseCause g tokens)
-  -- It has one cause only.
+  -- The list has at most one cause of rejection.
   pub one_cause : (tokens : Tokens) → IsSingle (IsParseCause g tokens)
-  -- A cause has the words of its message, and its place.
+  -- A cause of rejection has its place and the words that its message cites.
   pub reported : (tokens : Tokens) (e : EduceError) → IsParseCause g tokens e → IsReported tokens e
-  -- The reading is what the program of the rule reads.
+  -- The reading is what the program of the rule parses.
   pub by_program : (tokens : Tokens) (x : A) → IsWhole g tokens x ↔ (read depth_limit g tokens ≡ Ok (x, []))
 
--- A rule whose readings the program reads, and in which what nests stands behind an opener, has them.
+-- The laws hold of a rule whose readings its program parses, and whose nested parts stand behind an opener.
 lawful : {A : Type 0} (g : Rule A) → again.ReadsAgain g → is_ready g ≡ true → RuleLaws g
 lawful g reads_again is_ready = record {
   decided = decided.decided g reads_again is_ready;
@@ -64,46 +64,46 @@ lawful g reads_again is_ready = record {
   by_program = λ tokens x. (reads_again depth_limit tokens x, decided.whole_if_read g reads_again tokens x);
 }
 
--- The rule of a name has them.
+-- The laws of the rule for names.
 pub lawful_name : RuleLaws name
 lawful_name = lawful name again.name_again ready.name_ready
 
--- That of a path in an expression.
+-- The laws of the rule for paths in expressions.
 pub lawful_path : RuleLaws expr_path
 lawful_path = lawful expr_path again.expr_path_again ready.expr_path_ready
 
--- That of an expression.
+-- The laws of the rule for expressions.
 pub lawful_expression : RuleLaws expression
 lawful_expression = lawful expression again.expression_again ready.expression_ready
 
--- That of predicates.
+-- The laws of the rule for predicates.
 pub lawful_predicates : RuleLaws predicates
 lawful_predicates = lawful predicates again.predicates_again ready.predicates_ready
 
--- That of metas.
+-- The laws of the rule for metas.
 pub lawful_metas : RuleLaws metas
 lawful_metas = lawful metas again.metas_again ready.metas_ready
 
--- That of a definition.
+-- The laws of the rule for definitions.
 pub lawful_definition : RuleLaws definition
 lawful_definition = lawful definition again.definition_again ready.definition_ready
 
 -- ---- definitions
 
--- What holds of definitions whose names are apart, and each list of tokens, within the limits.
+-- Laws of definitions whose names are distinct, for each list of tokens and within the limits.
 pub record DefinitionLaws : Type 0 where
-  -- The list is such a definition, or there is a cause why it is rejected.
+  -- The list is such a definition, or has a cause of rejection.
   pub decided : (tokens : Tokens) → ((found : DeriveInput) × IsDefinition tokens found) ⊎ HasCause (IsRefusalOf tokens)
-  -- Where it is one, no cause stands but out of memory.
+  -- A list that is such a definition has no cause of rejection but out of memory.
   pub uncaused : (tokens : Tokens) (found : DeriveInput) → IsDefinition tokens found → IsUncaused (IsRefusalOf tokens)
-  -- It is rejected for one cause only.
+  -- The list has at most one cause of rejection.
   pub one_cause : (tokens : Tokens) → IsSingle (IsRefusalOf tokens)
-  -- A cause has the words of its message, and its place.
+  -- A cause of rejection has its place and the words that its message cites.
   pub reported : (tokens : Tokens) (e : EduceError) → IsRefusalOf tokens e → IsReported tokens e
-  -- Of one that is read the names are names, and each type, parameter and predicate is the reading of its tokens.
+  -- In a parsed definition names are names, and each type, parameter and predicate is the reading of its tokens.
   pub parts : (tokens : Tokens) (found : DeriveInput) → IsWhole definition tokens found → HasReadParts found
 
--- Definitions have them.
+-- The laws of definitions hold.
 pub lawful_definitions : DefinitionLaws
 lawful_definitions = record {
   decided = decided.definition_decided;
@@ -115,24 +115,24 @@ lawful_definitions = record {
 
 -- ---- places
 
--- What is read stands where its tokens do.
+-- Laws of places: the parts of a tree lie at the places of its tokens.
 pub record PlaceLaws : Type 0 where
   pub definitions : (tokens : Tokens) (found : DeriveInput) → IsWhole definition tokens found → IsDefinitionPlaced tokens found
   pub metas : (tokens : Tokens) (found : List Meta) → IsWhole metas tokens found → AreMetasPlaced tokens found
 
--- Definitions and metas do.
+-- The laws of places hold of definitions and metas.
 pub lawful_places : PlaceLaws
 lawful_places = record { definitions = definition_stands; metas = metas_stand }
 
--- What holds of each token's place holds of a place where a token stands.
+-- A property of all tokens' spans holds of every span that is a token's.
 pub place_has : (P : Span → Type 0) (tokens : Tokens) (place : Span) → AllByRecursion (λ (t : Token). P t.span) tokens → HasPlace tokens place → P place
 place_has P tokens place each is = subst P is.at_place (all_at (λ (t : Token). P t.span) is.front is.rest is.found (subst (AllByRecursion (λ (t : Token). P t.span)) is.is each))
 
--- What holds where each token starts holds where a span starts.
+-- A property of all offsets where tokens start holds of the start of a span.
 pub start_has : (P : ℕ → Type 0) (tokens : Tokens) (span : Span) → AllByRecursion (λ (t : Token). P t.span.start) tokens → IsSpan tokens span → P span.start
 start_has P tokens span each is = subst (λ (s : Span). P s.start) (sym is.is) (place_has (λ s. P s.start) tokens is.first each is.first_stands)
 
--- What holds where each token ends holds where a span ends.
+-- A property of all offsets where tokens end holds of the end of a span.
 pub end_has : (P : ℕ → Type 0) (tokens : Tokens) (span : Span) → AllByRecursion (λ (t : Token). P t.span.end) tokens → IsSpan tokens span → P span.end
 end_has P tokens span each is = subst (λ (s : Span). P s.end) (sym is.is) (place_has (λ s. P s.end) tokens is.last each is.last_stands)
 
@@ -150,10 +150,10 @@ lawful_parts = record {
 
 -- ---- types
 
--- Types read of lists that are equal, spans and jointness aside, are alike, whatever the budgets.
+-- Types that are parsed from lists that are equal, spans and jointness aside, are alike, whatever the budgets.
 abbrev pub TypeLaw : Type 0
 TypeLaw = (b c : ℕ) (ts us : Tokens) (x y : Ty) → AreEqualAside ts us → Reads b any_type ts x → Reads c any_type us y → AlikeTypes x y
 
--- So they are.
+-- The law of types holds.
 pub lawful_types : TypeLaw
 lawful_types = alike.types_alike

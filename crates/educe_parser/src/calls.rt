@@ -1,4 +1,4 @@
-//! The calls of the parser: each reads a whole list of tokens.
+//! The entry points of the parser, each of which parses a whole list of tokens.
 ghost use Rattle.std.specs.Prelude.{◌≢◌, List, length, IfOk, IfErr, IfSome, IfNone};
 ghost use Rattle.educe_tree.specs.declared.attr.Meta.{Meta};
 ghost use Rattle.educe_tree.specs.declared.derive.DeriveInput.{DeriveInput};
@@ -28,7 +28,7 @@ use educe_tokens::{EduceError, Kind, TokenSlice};
 use educe_tree::{DeriveInput, Expr, ExprPath, Ident, Metas, Predicates};
 use std::alloc::Global;
 
-/// The name that the tokens are (Rust Reference, Identifiers).
+/// Parses a name (Rust Reference, Identifiers).
 pub fn parse_ident(alloc: Global, tokens: &TokenSlice) -> Result<Ident, EduceError>
     ensures found { IfOk result (λ x. IsWhole names.name tokens.now x) }
     ensures only { (x : Ident) → IsWhole names.name tokens.now x → IsOnly x result }
@@ -41,7 +41,7 @@ pub fn parse_ident(alloc: Global, tokens: &TokenSlice) -> Result<Ident, EduceErr
     whole(alloc, tokens, |input| name(alloc, input))
 }
 
-/// The path of an expression that the tokens are (Rust Reference, Path expressions).
+/// Parses a path in an expression (Rust Reference, Path expressions).
 pub fn parse_path(alloc: Global, tokens: &TokenSlice) -> Result<ExprPath, EduceError>
     ensures found { IfOk result (λ x. IsWhole expressions.expr_path tokens.now x) }
     ensures only { (x : ExprPath) → IsWhole expressions.expr_path tokens.now x → IsOnly x result }
@@ -52,7 +52,7 @@ pub fn parse_path(alloc: Global, tokens: &TokenSlice) -> Result<ExprPath, EduceE
     whole(alloc, tokens, |input| expr_path(alloc, input))
 }
 
-/// The expression that the tokens are (Rust Reference, Expressions).
+/// Parses an expression (Rust Reference, Expressions).
 pub fn parse_expr(alloc: Global, tokens: &TokenSlice) -> Result<Expr, EduceError>
     ensures found { IfOk result (λ x. IsWhole expressions.expression tokens.now x) }
     ensures only { (x : Expr) → IsWhole expressions.expression tokens.now x → IsOnly x result }
@@ -63,7 +63,7 @@ pub fn parse_expr(alloc: Global, tokens: &TokenSlice) -> Result<Expr, EduceError
     whole(alloc, tokens, |input| expression(alloc, input))
 }
 
-/// The predicates of a where clause that the tokens are (Rust Reference, Where clauses).
+/// Parses the predicates of a where clause (Rust Reference, Where clauses).
 pub fn parse_predicates(alloc: Global, tokens: &TokenSlice) -> Result<Predicates, EduceError>
     ensures found { IfOk result (λ x. IsWhole generics.predicates tokens.now x) }
     ensures only { (x : List WherePredicate) → IsWhole generics.predicates tokens.now x → IsOnly x result }
@@ -74,7 +74,7 @@ pub fn parse_predicates(alloc: Global, tokens: &TokenSlice) -> Result<Predicates
     whole(alloc, tokens, |input| predicates(alloc, input))
 }
 
-/// The metas of an attribute that the tokens are (Rust Reference, Attributes).
+/// Parses the metas of an attribute (Rust Reference, Attributes).
 pub fn parse_metas(alloc: Global, tokens: &TokenSlice) -> Result<Metas, EduceError>
     ensures found { IfOk result (λ x. IsWhole attributes.metas tokens.now x) }
     ensures only { (x : List Meta) → IsWhole attributes.metas tokens.now x → IsOnly x result }
@@ -86,7 +86,7 @@ pub fn parse_metas(alloc: Global, tokens: &TokenSlice) -> Result<Metas, EduceErr
     whole(alloc, tokens, |input| metas(alloc, input))
 }
 
-/// The definition that the tokens are, whatever names it gives twice.
+/// Parses a definition; its names may be duplicate.
 fn read_definition(alloc: Global, tokens: &TokenSlice) -> Result<DeriveInput, EduceError>
     ensures found { IfOk result (λ x. IsWhole definitions.definition tokens.now x) }
     ensures err { IfErr result (IsParseCause definitions.definition tokens.now) }
@@ -94,7 +94,7 @@ fn read_definition(alloc: Global, tokens: &TokenSlice) -> Result<DeriveInput, Ed
     whole(alloc, tokens, |input| definition(alloc, input))
 }
 
-/// The error of a definition in which a name is given twice; none where the names are apart.
+/// The error for the first duplicate name of a definition; none where its names are distinct.
 fn duplicate_error(alloc: Global, found: &DeriveInput) -> Option<EduceError>
     ensures none { IfNone result (AreNamesApart found.now) }
     ensures some { IfSome result (IsDuplicateError found.now) }
@@ -106,8 +106,8 @@ fn duplicate_error(alloc: Global, found: &DeriveInput) -> Option<EduceError>
     }
 }
 
-/// The error of tokens that are no definition, where this is the error of the parser: a union has its
-/// own, at its word.
+/// The error for tokens that are no definition, given that of the parser: a union is reported at
+/// its keyword.
 fn unread(alloc: Global, tokens: &TokenSlice, error: EduceError) -> EduceError
     requires { IsParseCause definitions.definition tokens.now error }
     ensures { IsRefusalOf tokens.now result }
@@ -119,8 +119,8 @@ fn unread(alloc: Global, tokens: &TokenSlice, error: EduceError) -> EduceError
     }
 }
 
-/// The definition that the tokens are (Rust Reference, Structs; Enumerations). Unions are not supported,
-/// and a name that is given twice is an error.
+/// Parses a definition whose names are distinct (Rust Reference, Structs; Enumerations). Unions and
+/// duplicate names are rejected.
 pub fn parse_derive_input(alloc: Global, tokens: &TokenSlice) -> Result<DeriveInput, EduceError>
     ensures found { IfOk result (λ x. IsWhole definitions.definition tokens.now x) }
     ensures apart { IfOk result (λ x. AreNamesApart x) }

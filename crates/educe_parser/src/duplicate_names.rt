@@ -1,5 +1,5 @@
-//! Names that are given twice in a definition, where they have to differ without a leading `r#` (Rust
-//! Reference, Names).
+//! Duplicate names: in a definition names must be distinct, a leading `r#` aside (Rust Reference,
+//! Names).
 ghost use Rattle.std.specs.Prelude.{◌≡◌, ◌⊎◌, ◌<◌, ◌≤◌, [], ◌∷◌, ◌++◌, MatchBool, IfOk, IfSome, IfNone, List, Option, map, chars, encode_utf8_all};
 ghost use Rattle.std.specs.List.{filter_map};
 ghost use Rattle.educe_tokens.specs.declared.error.Kind.TheVariants.{Alloc};
@@ -40,7 +40,7 @@ impl<'a> Name<'a> {
         }
     }
 
-    /// The same name.
+    /// A second reference to this name.
     fn same(&self) -> Name<'a>
         ensures { result ≡ self.now }
     {
@@ -59,7 +59,7 @@ impl<'a> Name<'a> {
         unraw(self.text)
     }
 
-    /// The error of the name, which is given twice.
+    /// The error for this name as a duplicate.
     pub fn duplicate_error(&self, alloc: Global) -> EduceError
         ensures { (result ≡ placeless Alloc) ⊎ (result ≡ spec.duplicate_of self.now) }
     {
@@ -145,7 +145,7 @@ fn variant_names(alloc: Global, variants: &[Variant]) -> Result<Vec<Name<'_>>, A
         .collect(alloc)
 }
 
-/// The first name that an earlier one of the list repeats; none where the names differ.
+/// The first name that an earlier one of the list equals; none where the names are distinct.
 fn first_repeat<'a>(alloc: Global, names: &[Name<'a>]) -> Result<Option<Name<'a>>, AllocError>
     ensures some { IfOk result (λ found. IfSome found (λ name. IsRepeated name names.now)) }
     ensures none { IfOk result (λ found. IfNone found (AreApart names.now)) }
@@ -159,8 +159,7 @@ fn first_repeat<'a>(alloc: Global, names: &[Name<'a>]) -> Result<Option<Name<'a>
     Ok(None)
 }
 
-/// The earliest of the repeated names of some lists and of one more list, where it is known of the
-/// others.
+/// The earliest of the repeated names, given that of the other lists, after one more list.
 fn earliest<'a>(
     alloc: Global,
     known: Option<Name<'a>>,
@@ -182,7 +181,7 @@ fn earliest<'a>(
     Ok(Some(first))
 }
 
-/// The same with the fields of each variant.
+/// The earliest of the repeated names of some lists and of the fields of each variant.
 fn earliest_of_fields<'a>(
     alloc: Global,
     known: Option<Name<'a>>,
@@ -199,8 +198,7 @@ fn earliest_of_fields<'a>(
     Ok(found)
 }
 
-/// The name that is given twice in a definition, at its later place; of several such names the one
-/// whose later place comes first.
+/// The first duplicate name of a definition: a name whose earlier occurrence is in the same scope.
 pub fn first_duplicate(alloc: Global, ast: &DeriveInput) -> Result<Option<Name<'_>>, AllocError>
     ensures { IfOk result (λ found. IsEarliest found (scopes ast.now)) }
 {

@@ -1,4 +1,5 @@
-//! The parts that stand inside one another, each with a budget, and what is read with all of it.
+//! The mutual recursion of types and expressions, each with a budget for nesting, and the
+//! productions that start with the whole budget.
 ghost use Rattle.educe_grammar.specs.Attributes as attributes;
 ghost use Rattle.educe_grammar.specs.Definitions as definitions;
 ghost use Rattle.educe_grammar.specs.Expressions as spec;
@@ -14,7 +15,7 @@ use educe_tokens::NESTING;
 use educe_tree::{DeriveInput, Expr, ExprPath, Metas, Predicates, Ty};
 use std::alloc::Global;
 
-/// How deep brackets, angle lists, `&`, `*`, `dyn` and `->` may nest.
+/// The limit on the nesting of brackets, angle lists, `&`, `*`, `dyn` and `->`.
 pub const DEPTH_LIMIT: u8 = NESTING as u8;
 
 // What reads the parts inside by the functions of this file.
@@ -58,36 +59,36 @@ fn expr(alloc: Global, input: &mut ParseStream<'_>, budget: u8) -> Result<Expr, 
     educe_parser_expressions::expression(&parts!(alloc), input, budget)
 }
 
-/// The path of an expression, with the whole budget (Rust Reference, Path expressions).
+/// Parses a path in an expression, with the whole budget (Rust Reference, Path expressions).
 pub fn expr_path(alloc: Global, input: &mut ParseStream<'_>) -> Result<ExprPath, ParseError>
     ensures { Gives (read depth_limit spec.expr_path input.old) result input.new }
 {
     educe_parser_expressions::expr_path(&parts!(alloc), input, DEPTH_LIMIT)
 }
 
-/// An expression, with the whole budget (Rust Reference, Expressions).
+/// Parses an expression, with the whole budget (Rust Reference, Expressions).
 pub fn expression(alloc: Global, input: &mut ParseStream<'_>) -> Result<Expr, ParseError>
     ensures { Gives (read depth_limit spec.expression input.old) result input.new }
 {
     educe_parser_expressions::expression(&parts!(alloc), input, DEPTH_LIMIT)
 }
 
-/// The predicates of a where clause, with the whole budget (Rust Reference, Where clauses).
+/// Parses the predicates of a where clause, with the whole budget (Rust Reference, Where clauses).
 pub fn predicates(alloc: Global, input: &mut ParseStream<'_>) -> Result<Predicates, ParseError>
     ensures { Gives (read depth_limit generics.predicates input.old) result input.new }
 {
     educe_parser_definitions::predicates(&parts!(alloc), input, DEPTH_LIMIT)
 }
 
-/// The items of a list in an attribute, with the whole budget (Rust Reference, Meta item attribute
-/// syntax).
+/// Parses the items of a list in an attribute, with the whole budget (Rust Reference, Meta item
+/// attribute syntax).
 pub fn metas(alloc: Global, input: &mut ParseStream<'_>) -> Result<Metas, ParseError>
     ensures { Gives (read depth_limit attributes.metas input.old) result input.new }
 {
     educe_parser_definitions::metas(&parts!(alloc), input, DEPTH_LIMIT)
 }
 
-/// A definition, with the whole budget (Rust Reference, Items).
+/// Parses a definition, with the whole budget (Rust Reference, Items).
 pub fn definition(alloc: Global, input: &mut ParseStream<'_>) -> Result<DeriveInput, ParseError>
     ensures { Gives (read depth_limit definitions.definition input.old) result input.new }
 {

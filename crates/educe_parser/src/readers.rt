@@ -1,10 +1,10 @@
-//! Function values that read the parts which stand inside of others.
+//! Function values that parse nested parts.
 
 use educe_grammar::{Cursor, Inside, ParseError, ParseStream, Typed};
 use educe_tree::{Expr, Ty};
 use std::alloc::Global;
 
-/// Function values that read these parts.
+/// Function values that parse types, types in which `dyn` has one bound, and expressions.
 #[derive(Clone, Copy)]
 pub struct Readers<T, P, E> {
     pub types: T,

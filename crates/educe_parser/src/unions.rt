@@ -20,7 +20,7 @@ use educe_parser_definitions::{attributes, visibility};
 use educe_tokens::{EduceError, Kind, Token, TokenKind, TokenSlice};
 use std::alloc::{AllocError, Global};
 
-/// What stands before the item of a definition: attributes and a visibility.
+/// Parses what stands before the item of a definition: attributes and a visibility.
 #[tactic(auto, unfolding(educe_grammar::specs::Noting::run))]
 fn head(alloc: Global, input: &mut ParseStream<'_>, budget: u8) -> Result<(), ParseError>
     ensures { Gives (read budget (unit (both attributes.attributes definitions.visibility)) input.old) result input.new }
@@ -29,7 +29,7 @@ fn head(alloc: Global, input: &mut ParseStream<'_>, budget: u8) -> Result<(), Pa
     visibility(alloc, input, budget)
 }
 
-/// What stands behind that, which is the item of a definition.
+/// The tokens after the attributes and the visibility.
 fn behind_head(alloc: Global, tokens: &TokenSlice) -> Result<&[Token], ParseError>
     ensures ok { let outcome = plain.read depth_limit (unit (both attributes.attributes definitions.visibility)) tokens.now in
         IfOk result (λ rest. outcome ≡ Ok (tt, rest.now)) }
@@ -79,7 +79,7 @@ pub fn union_word<'a>(
     }
 }
 
-/// The error of a union, at its word.
+/// The error for a union, at its keyword.
 pub fn union_error(alloc: Global, word: &Token) -> EduceError
     ensures { (result ≡ placeless Alloc) ⊎ (result ≡ union_of word.now) }
 {

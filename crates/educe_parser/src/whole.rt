@@ -1,4 +1,4 @@
-//! Whole lists of tokens.
+//! Parsing of whole lists of tokens.
 ghost use Rattle.std.specs.Prelude.{◌≡◌};
 ghost use Rattle.educe_grammar.specs.Parsed as spec;
 ghost use Rattle.educe_grammar.specs.Noting.{Noter, Forgets};
@@ -9,7 +9,7 @@ use educe_grammar::{ParseError, ParseStream};
 use educe_tokens::{EduceError, Kind, Span, Token, TokenSlice};
 use std::alloc::Global;
 
-/// No token, at the end of the last one.
+/// The empty span at the end of the last token.
 fn end_place(tokens: &[Token]) -> Span
     ensures { result ≡ spec.end_place tokens.now }
 {
@@ -22,7 +22,7 @@ fn end_place(tokens: &[Token]) -> Span
     }
 }
 
-/// The place of the token at which so many are left; where none is left, the end.
+/// The span of the token at which this many are left; the empty span at the end where none is left.
 fn place_at(tokens: &[Token], left: usize) -> Span
     ensures { result ≡ spec.place_at tokens.now left }
 {
@@ -32,7 +32,7 @@ fn place_at(tokens: &[Token], left: usize) -> Span
     }
 }
 
-/// The error of the tokens where the parser stops.
+/// The rejection of the tokens that an error of the parser becomes.
 fn refusal(alloc: Global, tokens: &[Token], error: ParseError) -> EduceError
     ensures { result ≡ spec.refusal_of tokens.now error }
 {
@@ -43,7 +43,7 @@ fn refusal(alloc: Global, tokens: &[Token], error: ParseError) -> EduceError
     }
 }
 
-/// What is read of all of the tokens.
+/// The value of all of the tokens, by this function.
 pub fn whole<T: Drop, F: Fn(&mut ParseStream<'_>) -> Result<T, ParseError>>(
     alloc: Global,
     tokens: &TokenSlice,

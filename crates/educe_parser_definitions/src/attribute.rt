@@ -127,7 +127,7 @@ impl Production<Global> for UnreadValue {
     }
 }
 
-/// The same, as it was written.
+/// `=` and tokens that are not read, as they were written.
 #[tactic(auto, using(educe_grammar::proofs::Copied::unread_value_copied), unfolding(educe_grammar::proofs::Opened::rules))]
 fn written_value(
     alloc: Global,

@@ -123,7 +123,8 @@ impl<R: Inside> Production<Parts<R>> for BoundedName {
     }
 }
 
-/// The same, as it was written.
+/// A name and whether a colon with any bounds stands behind it, with its tokens as they were
+/// written.
 #[tactic(auto, using(educe_grammar::proofs::Copied::bounded_name_copied), unfolding(educe_grammar::proofs::Opened::rules))]
 fn written_name<R: Inside>(
     parts: &Parts<R>,

@@ -33,7 +33,8 @@ fn no_segment_args(segments: &[Segment]) -> bool
     segments.iter().all(|segment| has_no_args(segment))
 }
 
-/// Whether the path may name a macro (Rust Reference, Simple paths).
+/// Whether the path may name a macro: it has no arguments and is not qualified (Rust Reference,
+/// Simple paths).
 pub fn is_mod_path(path: &ExprPath) -> bool
     ensures { result ≡ spec.is_mod_path path.now }
 {

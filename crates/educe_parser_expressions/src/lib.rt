@@ -1,5 +1,5 @@
-//! The parser of types and of expressions: each function that reads tokens reads one production of the
-//! grammar, or a piece of one.
+//! The parser of types and of expressions: each function that reads tokens parses one production of
+//! the grammar, or a part of one.
 #![tactic(auto)]
 
 mod expr_paths;

@@ -1,4 +1,5 @@
-//! What links the operands of an expression (Rust Reference, Operator expressions).
+//! The links between the operands of an expression: operators and casts (Rust Reference, Operator
+//! expressions).
 ghost use Rattle.std.specs.Prelude.{◌≡◌, true};
 ghost use Rattle.educe_grammar.specs.Expressions as spec;
 

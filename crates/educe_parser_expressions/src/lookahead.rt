@@ -1,4 +1,4 @@
-//! Lookaheads: what the next tokens may begin.
+//! Lookaheads of types and expressions.
 ghost use Rattle.std.specs.Prelude.{◌≡◌, [], ◌∷◌};
 ghost use Rattle.educe_grammar.specs.Ahead.{sees_any, one, lone};
 ghost use Rattle.educe_grammar.specs.declared.terminal.Terminal.TheVariants as terminal;
@@ -27,7 +27,7 @@ pub fn at_fn(cursor: &Cursor<'_>) -> bool
         || cursor.sees(Terminal::Word(Keyword::Fn))
 }
 
-/// `::<`, with arguments behind it.
+/// Lookahead for `::<`, with arguments after it.
 #[tactic(auto, using(educe_grammar::proofs::Behind::behind_pair), unfolding(educe_grammar::specs::Ahead::sees_any))]
 pub fn at_turbofish(cursor: &Cursor<'_>) -> bool
     ensures { result ≡ sees_any expressions.at_turbofish cursor.now }
@@ -35,7 +35,7 @@ pub fn at_turbofish(cursor: &Cursor<'_>) -> bool
     cursor.begins_pair(':', ':') && cursor.behind(2).begins_lone('<', '=')
 }
 
-/// The name of a field, and the colon before its value.
+/// Lookahead for the name of a field and the colon before its value.
 #[tactic(auto, using(educe_grammar::proofs::Behind::behind_one), unfolding(educe_grammar::specs::Ahead::sees_any))]
 pub fn at_value(cursor: &Cursor<'_>) -> bool
     ensures { result ≡ sees_any expressions.at_value cursor.now }
@@ -43,7 +43,7 @@ pub fn at_value(cursor: &Cursor<'_>) -> bool
     cursor.sees(Terminal::NameOrIndex) && cursor.behind(1).begins_lone(':', ':')
 }
 
-/// What stands behind the fields of a struct.
+/// Lookahead for what may follow the fields of a struct.
 pub struct BehindFields;
 
 impl Lookahead for BehindFields {
@@ -55,7 +55,7 @@ impl Lookahead for BehindFields {
     }
 }
 
-/// A prefix of an operand.
+/// Lookahead for a prefix operator.
 pub struct AtPrefix;
 
 impl Lookahead for AtPrefix {
@@ -67,7 +67,7 @@ impl Lookahead for AtPrefix {
     }
 }
 
-/// A postfix of an operand.
+/// Lookahead for a postfix of an operand.
 pub struct AtPostfix;
 
 impl Lookahead for AtPostfix {
@@ -81,7 +81,7 @@ impl Lookahead for AtPostfix {
     }
 }
 
-/// `as` or an operator with two operands.
+/// Lookahead for `as` or a binary operator.
 pub struct AtLink;
 
 impl Lookahead for AtLink {

@@ -1,5 +1,5 @@
-//! What stands behind a path in an expression: the fields of a struct, or what a macro is called with
-//! (Rust Reference, Struct expressions; Macro invocation).
+//! What follows a path in an expression: the fields of a struct, or the input of a macro call (Rust
+//! Reference, Struct expressions; Macro invocation).
 ghost use Rattle.std.specs.Prelude.{◌≡◌, ◌+◌};
 ghost use Rattle.educe_grammar.specs.Expressions as spec;
 ghost use Rattle.educe_grammar.specs.NotedReads.{read};
@@ -15,8 +15,8 @@ use educe_tokens::{Bracket, TokenSlice, unit};
 use educe_tree::{ExprForm, ExprPath};
 use std::alloc::Global;
 
-/// Whether such a tail may stand behind the path: the path of a macro has no arguments (Rust
-/// Reference, Macro invocation).
+/// Whether the tail may follow the path: the path of a macro has no arguments (Rust Reference,
+/// Macro invocation).
 pub fn fits_tail(path: &ExprPath, tail: Tail) -> bool
     ensures { result ≡ spec.fits_tail (path.now, tail) }
 {
@@ -36,7 +36,7 @@ pub fn tail_form(tail: Tail) -> ExprForm
     }
 }
 
-/// Whether each `self` stands before `::`.
+/// Whether each `self` is followed by `::`.
 #[tactic(auto, unfolding(educe_grammar::specs::Expressions::self_begins_paths))]
 fn self_begins_paths(group: &TokenSlice) -> bool
     ensures { result ≡ spec.self_begins_paths group.now }
@@ -52,7 +52,7 @@ fn self_begins_paths(group: &TokenSlice) -> bool
     true
 }
 
-/// What a macro is called with (Rust Reference, Macro invocation).
+/// Parses the input of a macro call (Rust Reference, Macro invocation).
 #[tactic(auto, unfolding(educe_grammar::proofs::Opened::rules, educe_grammar::specs::Expressions::macro_group))]
 fn macro_group(alloc: Global, input: &mut ParseStream<'_>, budget: u8) -> Result<(), ParseError>
     ensures { Gives (read budget spec.macro_group input.old) result input.new }

@@ -36,7 +36,7 @@ pub name_kind : (t : Token) → IsTrue (accepts terminal.Name t) → t.kind ≡ 
 unfolding accepts
 name_kind t passes = word_kind (some_words true []) t.kind t.spelling passes
 
--- so is the name of a segment
+-- the name of a segment is an identifier
 pub segment_kind : (t : Token) → IsTrue (accepts terminal.PathSegment t) → t.kind ≡ kind.Ident
 unfolding accepts
 segment_kind t passes = word_kind segment_words t.kind t.spelling passes
@@ -74,6 +74,6 @@ read_lifetime budget s rest t passes found taken text span =
 pub ident_spelled : (t : Token) (text : List ℕ) → t.kind ≡ kind.Ident → text ≡ t.spelling → IsTrue (spells kind.Ident text)
 ident_spelled t text is same = subst (λ text. IsTrue (spells kind.Ident text)) (sym same) (subst (λ k. IsTrue (spells k t.spelling)) is t.spelled)
 
--- the same of a lifetime
+-- the spelling of a lifetime token spells a lifetime
 pub lifetime_spelled : (t : Token) (text : List ℕ) → t.kind ≡ kind.Lifetime → text ≡ t.spelling → IsTrue (spells kind.Lifetime text)
 lifetime_spelled t text is same = subst (λ text. IsTrue (spells kind.Lifetime text)) (sym same) (subst (λ k. IsTrue (spells k t.spelling)) is t.spelled)

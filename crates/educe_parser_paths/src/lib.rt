@@ -1,5 +1,5 @@
-//! The parser of what types are made of: names, trees of tokens, paths and bounds. Each function that
-//! reads tokens reads one production of the grammar, or a piece of one.
+//! The parser of the constituents of types: names, token trees, paths and bounds. Each function
+//! that reads tokens parses one production of the grammar, or a part of one.
 #![tactic(auto)]
 
 mod lookahead;

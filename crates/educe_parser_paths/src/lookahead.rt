@@ -1,4 +1,4 @@
-//! Lookaheads: what the next tokens may begin.
+//! Lookaheads of types, paths and token trees.
 ghost use Rattle.std.specs.Prelude.{◌≡◌};
 ghost use Rattle.educe_grammar.specs.Ahead.{sees_any};
 ghost use Rattle.educe_grammar.specs.Expressions as expressions;
@@ -7,7 +7,7 @@ ghost use Rattle.educe_grammar.specs.Types as types;
 use educe_grammar::{Cursor, Keyword, Lookahead, Terminal};
 use educe_tokens::Bracket;
 
-/// What stands behind a type or behind bounds.
+/// Lookahead for what may follow a type or bounds.
 pub struct BehindType;
 
 impl Lookahead for BehindType {
@@ -29,7 +29,7 @@ impl Lookahead for BehindType {
     }
 }
 
-/// A constant, which is no name.
+/// Lookahead for a constant argument that is no name.
 #[tactic(auto, unfolding(educe_grammar::specs::Ahead::sees_any))]
 pub fn at_constant(cursor: &Cursor<'_>) -> bool
     ensures { result ≡ sees_any types.at_constant cursor.now }
@@ -40,7 +40,7 @@ pub fn at_constant(cursor: &Cursor<'_>) -> bool
         || cursor.opens(Bracket::Curly)
 }
 
-/// A name and `=`, as in `Item = T`.
+/// Lookahead for an associated type binding, as `Item = T`.
 #[tactic(auto, using(educe_grammar::proofs::Behind::behind_one), unfolding(educe_grammar::specs::Ahead::sees_any))]
 pub fn at_binding(cursor: &Cursor<'_>) -> bool
     ensures { result ≡ sees_any types.at_binding cursor.now }
@@ -48,7 +48,7 @@ pub fn at_binding(cursor: &Cursor<'_>) -> bool
     cursor.sees(Terminal::Name) && cursor.behind(1).begins_lone('=', '=')
 }
 
-/// `<` or `::<`, with arguments behind it.
+/// Lookahead for `<` or `::<`, with arguments after it.
 #[tactic(auto, using(educe_grammar::proofs::Behind::behind_pair), unfolding(educe_grammar::specs::Ahead::sees_any))]
 pub fn at_angle_args(cursor: &Cursor<'_>) -> bool
     ensures { result ≡ sees_any types.at_angle_args cursor.now }
@@ -57,7 +57,7 @@ pub fn at_angle_args(cursor: &Cursor<'_>) -> bool
         || cursor.begins_pair(':', ':') && cursor.behind(2).begins_lone('<', '=')
 }
 
-/// A token tree (Rust Reference, Token trees).
+/// Lookahead for a token tree (Rust Reference, Token trees).
 #[tactic(auto, unfolding(educe_grammar::specs::Ahead::sees_any))]
 pub fn at_tree(cursor: &Cursor<'_>) -> bool
     ensures { result ≡ sees_any expressions.at_tree cursor.now }

@@ -18,10 +18,10 @@ use educe_tokens::{Boxed, Bracket, Seq, pair, terminated, unit};
 use educe_tree::{AngleArg, AngleArgs, Args, Path, Segment, Segments, Ty, TypeForm, Types};
 use std::alloc::{AllocError, Global};
 
-/// The arguments of a segment, how it ends with them, and whether a segment may stand behind it.
+/// The arguments of a segment, its ending with them, and whether another segment may follow.
 type ArgsRead = (Args, Ending, bool);
 
-/// The same of a segment.
+/// A segment with its ending, and whether another segment may follow it.
 type SegmentRead = (Segment, Ending, bool);
 
 /// The trait of a qualified path with its ending, where there is one.
@@ -42,7 +42,7 @@ fn round_read(alloc: Global, inputs: Types, output: Option<Typed>) -> Result<Arg
     }
 }
 
-/// Whether behind each segment but the last another may stand.
+/// Whether each segment but the last may be followed by another.
 #[tactic(auto, unfolding(educe_grammar::specs::Types::may_follow))]
 fn may_follow(found: &[SegmentRead]) -> bool
     ensures { result ≡ spec.may_follow found.now }
@@ -57,7 +57,7 @@ fn may_follow(found: &[SegmentRead]) -> bool
     true
 }
 
-/// How the last segment ends.
+/// The ending of the last segment.
 fn last_ending(found: &[SegmentRead]) -> Ending
     ensures { result ≡ spec.last_ending found.now }
 {
@@ -67,7 +67,7 @@ fn last_ending(found: &[SegmentRead]) -> Ending
     }
 }
 
-/// The segments, without how they end.
+/// The segments without their endings.
 fn segments_of(alloc: Global, found: Seq<SegmentRead>) -> Result<Segments, AllocError>
     ensures { IfOk result (λ segments. segments ≡ map (λ read. read.0) found) }
 {
@@ -107,7 +107,7 @@ fn is_self(leading: bool, segments: &[Segment]) -> bool
     }
 }
 
-/// The path of the segments, and how it ends.
+/// The path of the segments, with its ending.
 fn path_read(
     alloc: Global,
     leading: bool,
@@ -125,7 +125,8 @@ fn path_read(
     Ok((Path { leading, segments }, ending))
 }
 
-/// The segments behind those of the trait, where there is one (Rust Reference, Qualified paths).
+/// The path of a trait's segments, if there is one, and these segments after them (Rust Reference,
+/// Qualified paths).
 pub fn qualified_path(self_trait: SelfTrait, found: Segments) -> Result<Path, AllocError>
     ensures { IfOk result (λ path. path ≡ spec.qualified_path self_trait found) }
 {
@@ -143,7 +144,7 @@ pub fn qualified_path(self_trait: SelfTrait, found: Segments) -> Result<Path, Al
     Ok(Path { leading, segments })
 }
 
-/// The path of these segments behind those of the trait, where there is one.
+/// The path of these segments after those of the trait, if there is one.
 fn path_behind(
     alloc: Global,
     self_trait: SelfTrait,
@@ -155,7 +156,7 @@ fn path_behind(
     qualified_path(self_trait, segments)
 }
 
-/// The path of these segments behind its type and its trait, and how it ends.
+/// The qualified path of a type, a trait and these segments, with its ending.
 fn qualified_read(
     alloc: Global,
     head: (Ty, SelfTrait),
@@ -170,7 +171,7 @@ fn qualified_read(
     Ok((TypeForm::Path(Some(self_type), path), ending))
 }
 
-/// A constant that is no name (Rust Reference, Const generics).
+/// The production of a constant argument that is no name (Rust Reference, Const generics).
 pub struct Constant;
 
 impl<R: Inside> Production<Parts<R>> for Constant {
@@ -254,7 +255,7 @@ pub fn angle_args<R: Inside>(
     in_angles::<Parts<R>, GenericArg>(parts, input, budget)
 }
 
-/// The type behind `->`, where there is one (Rust Reference, Function pointer types).
+/// Parses the type after `->`, if there is one (Rust Reference, Function pointer types).
 #[tactic(auto, unfolding(educe_grammar::proofs::Opened::rules))]
 pub fn output<R: Inside>(
     parts: &Parts<R>,

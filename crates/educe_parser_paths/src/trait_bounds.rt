@@ -18,7 +18,7 @@ use educe_tokens::{Bracket, Seq, unit};
 use educe_tree::{Lifetime, Path, Paths};
 use std::alloc::{AllocError, Global};
 
-/// The path of a bound, where it is no lifetime, and how the bound ends.
+/// The path of a bound, unless it is a lifetime, and the ending of the bound.
 pub type BoundRead = (Option<Path>, Ending);
 
 /// A bound of a lifetime (Rust Reference, Lifetime bounds).
@@ -98,7 +98,7 @@ pub fn optional_for_all(
     Ok(true)
 }
 
-/// The paths of the bounds that are no lifetimes.
+/// The paths of the bounds; lifetimes are left out.
 pub fn bound_paths(alloc: Global, found: Seq<BoundRead>) -> Result<Paths, AllocError>
     ensures { IfOk result (λ paths. paths ≡ spec.bound_paths found) }
 {
@@ -141,7 +141,7 @@ impl<R: Inside> Production<Parts<R>> for BoundPath {
     }
 }
 
-/// A bound (Rust Reference, Trait and lifetime bounds).
+/// The production of a bound (Rust Reference, Trait and lifetime bounds).
 pub struct Bound;
 
 impl<R: Inside> Production<Parts<R>> for Bound {

@@ -1,4 +1,4 @@
--- What the calls answer, and why one rejects.
+-- Re-exports: the results of the calls, and the causes of rejection.
 pub use Rattle.educe_grammar.specs.Parsed
 pub use Rattle.educe_grammar.specs.Refusal
 pub use Rattle.educe_grammar.specs.Naming
@@ -9,10 +9,10 @@ pub use Rattle.educe_grammar.specs.Within
 pub use Rattle.educe_grammar.specs.Alike
 pub use Rattle.educe_grammar.specs.Depth
 pub use Rattle.educe_grammar.specs.Causes
--- The laws of tokens, and of the calls: a reading or a cause, and one of them.
+-- Re-exports: the laws of tokens and of the calls, by which each list has either a reading or a cause of rejection.
 pub use Rattle.educe_tree.specs.TokenLaws
 pub use Rattle.educe_parser.specs.Laws
--- The grammar: which tokens are which value, and the ways to make a rule.
+-- Re-exports: the grammar, which relates tokens and values, and the combinators of rules.
 pub use Rattle.educe_grammar.specs.Reads
 pub use Rattle.educe_grammar.specs.Reading
 pub use Rattle.educe_grammar.specs.Rules
@@ -20,19 +20,19 @@ pub use Rattle.educe_grammar.specs.Combining
 pub use Rattle.educe_grammar.specs.Terminals
 pub use Rattle.educe_grammar.specs.Ahead
 pub use Rattle.educe_grammar.specs.Steps
--- The productions. Those of generic parameters are `GenericParams`, since `Generics` is the tree.
+-- Re-exports: the productions. Those of generic parameters are `GenericParams`, since `Generics` is the tree.
 pub use Rattle.educe_grammar.specs.Names
 pub use Rattle.educe_grammar.specs.Types
 pub use Rattle.educe_grammar.specs.Expressions
 pub use Rattle.educe_grammar.specs.Generics as GenericParams
 pub use Rattle.educe_grammar.specs.Attributes
 pub use Rattle.educe_grammar.specs.Definitions
--- Names and keywords, and parts of trees.
+-- Re-exports: names and keywords, and parts of trees.
 pub use Rattle.educe_tree.specs.Names as Keywords
 pub use Rattle.educe_tree.specs.Words
 pub use Rattle.educe_tree.specs.Params
 pub use Rattle.educe_tree.specs.Fields
--- The trees, and what is asked of a token.
+-- Re-exports: the trees, and the terminals.
 pub use Rattle.educe_tree.specs.declared.attr.Attribute
 pub use Rattle.educe_tree.specs.declared.attr.Meta
 pub use Rattle.educe_tree.specs.declared.attr.MetaPath

@@ -1,5 +1,5 @@
-//! The syntax of definitions: the trees, their copies and the calls that parse. This crate has no
-//! code of its own: it passes on what users of the parser name.
+//! The syntax of definitions: the trees, their copies, and the calls that parse. A facade with no
+//! code of its own: it re-exports what users of the parser need.
 #![tactic(auto)]
 
 pub use educe_grammar::Terminal;

@@ -27,7 +27,7 @@ Adds-append {first = first} front back = record {
   nowhere = nowhere_both front.more back.more front.nowhere back.nowhere;
 }
 
--- the same, by equal lexemes
+-- tokens are added, by equal lexemes
 pub Adds-same : {xs ys : List Lexeme} {old new : Tokens} → xs ≡ ys → Adds xs old new → Adds ys old new
 Adds-same e grown = record { more = grown.more; joined = grown.joined; same = grown.same ∙ e; nowhere = grown.nowhere }
 
@@ -44,7 +44,7 @@ Adds-both {old = old} found nowhere = record {
 pub lexemes-Adds : {xs : List Lexeme} {old new : Tokens} → old ≡ [] → Adds xs old new → lexemes new ≡ xs
 lexemes-Adds e grown = ap lexemes (grown.joined ∙ ap (λ t. t ++ grown.more) e) ∙ grown.same
 
--- and lies nowhere
+-- what is added to no tokens has the span of no place
 pub nowhere-Adds : {xs : List Lexeme} {old new : Tokens} → old ≡ [] → Adds xs old new → LieNowhere new
 nowhere-Adds e grown = subst LieNowhere (sym (grown.joined ∙ ap (λ t. t ++ grown.more) e)) grown.nowhere
 

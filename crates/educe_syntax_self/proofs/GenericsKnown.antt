@@ -78,6 +78,6 @@ module _ {readers : Readers} {parts : Parts} {limit : ℕ} (known : Known reader
 pub param_reads_again : ReadsAgain generic_param
 param_reads_again budget tokens x h = read_whole generic_param budget (again_generic_param (known (suc budget)) budget (omega arith)) tokens x h finish_seen
 
--- so is a predicate
+-- a predicate is read to its end
 pub predicate_reads_again : ReadsAgain predicate
 predicate_reads_again budget tokens x h = read_whole predicate budget (again_predicate (known (suc budget)) budget (omega arith)) tokens x h finish_seen

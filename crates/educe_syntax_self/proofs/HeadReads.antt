@@ -42,7 +42,7 @@ use Rattle.educe_syntax_self.proofs.Starts.{IsNamed}
 name_ident : (t : Token) → token_in (set_of terminal.Name) t.kind t.spelling ≡ true → t.kind ≡ kind.Ident
 name_ident t is = word_kind (some_words true []) t.kind t.spelling is
 
--- so it may be a segment
+-- a name may be a segment
 name_segment : (t : Token) → token_in (set_of terminal.Name) t.kind t.spelling ≡ true → IsTrue (accepts terminal.PathSegment t)
 unfolding accepts is_within
 name_segment t is = within_sound (set_of terminal.Name) (set_of terminal.PathSegment) t.kind t.spelling refl is
@@ -240,7 +240,7 @@ segment_no_scope : (t : Token) (is : token_in (set_of terminal.Name) t.kind t.sp
 segment_no_scope t is written =
     ap (λ r. is_scope_word r.ident.text && has_no_args r.args) (out-roll-Segment (record { ident = segment_name_of (found t is); args = written })) ∙ ap (λ b. b && has_no_args written) (name_no_scope t is)
 
--- and none is `Self`
+-- no segment of a name is `Self`
 segment_no_self : (t : Token) (is : token_in (set_of terminal.Name) t.kind t.spelling ≡ true) (written : Args) → is_self_segment (segment_of (segment_name_of (found t is)) written) ≡ false
 segment_no_self t is written = ap (λ r. bytes_eq r.ident.text (codes "Self")) (out-roll-Segment (record { ident = segment_name_of (found t is); args = written })) ∙ name_no_self t is
 

@@ -40,7 +40,7 @@ module _ {A : Type 0} (g : Rule A) (again : ReadsAgain g) (budget : ℕ) (tokens
       step (Ok p) found e = let same = ok_pair e in (p.1.selves, found ∙ (λ i. Ok (same.0 i, record { cursor = same.1 i; selves = p.1.selves })))
       step (Err error) found e = absurd (cc)
 
-  -- the same of a stream that is these tokens
+  -- what is read of a stream that is these tokens, with what is noted
   read_from : (s : ParseStream) → s.cursor ≡ tokens → s.selves ≡ [] → read budget g s ≡ Ok (y, record { cursor = []; selves = read_so.0 })
   read_from s at none = ap (read budget g) (λ i. record { cursor = at i; selves = none i }) ∙ read_so.1
 
@@ -67,7 +67,7 @@ unfolding notes_of at_end read_so
 notes_known g again tokens x is =
     let so = read_so g again depth_limit tokens x is in so.1 ∙ (λ i. Ok (x, record { cursor = []; selves = sym (ap noted_in so.1) i }))
 
--- and where it is read
+-- what is noted of a whole list, where a call reads it
 pub notes_found : {A : Type 0} (g : Rule A) → ReadsAgain g → (tokens : Tokens) (y : A) → IsWhole g tokens y → (s new : ParseStream) (result : Result A ParseError) (x : A) → s.cursor ≡ tokens → s.selves ≡ []
     → result ≡ Ok x → Gives (read depth_limit g s) result new → new.selves ≡ notes_of g tokens
 notes_found {A = A} g again tokens y is s new result x at none same gives =

@@ -45,14 +45,14 @@ predicates_visited head tokens x is_head is =
 pub lawful_types : VisitLaws any_type
 lawful_types = record { reads = changed_reads any_type; visited = types_visited }
 
--- so have paths
+-- paths have the laws of visits
 pub lawful_paths : VisitLaws expr_path
 lawful_paths = record { reads = changed_reads expr_path; visited = paths_visited }
 
--- and generic parameters
+-- generic parameters have the laws of visits
 pub lawful_params : VisitLaws generic_param
 lawful_params = record { reads = changed_reads generic_param; visited = params_visited }
 
--- and predicates
+-- predicates have the laws of visits
 pub lawful_predicates : VisitLaws predicate
 lawful_predicates = record { reads = changed_reads predicate; visited = predicates_visited }

@@ -20,7 +20,7 @@ argument_is (param.Lifetime p) named = refl
 argument_is (param.TypeParam p) named = name_is p.ident.text named
 argument_is (param.Const p) named = name_is p.ident.text named
 
--- so may those of further parameters
+-- the names of further parameters may be arguments
 end_is : (more : List GenericParam) → AllByRecursion IsNamed more → ends_arguments (flat_map behind_comma (map argument_of more) ++ punct 62 false ∷ []) ≡ true
 unfolding ends_arguments
 end_is [] named = refl

@@ -77,12 +77,12 @@ pub record Segments (c : Setting) (budget : ℕ) {A : Type 0} (g : Rule A) (Firs
 pub data Headed {A : Type 0} (First V : A → A → Type 0) : List A → List A → Type 0 where
   leads : {x y : A} {xs ys : List A} → First x y → Pairwise V xs ys → Headed First V (x ∷ xs) (y ∷ ys)
 
--- so are the segments of a path of which the first is replaced or isn't
+-- the segments of a path are related, of which the first is replaced or isn't, as the flag says
 abbrev pub Become : {A : Type 0} → (A → A → Type 0) → (A → A → Type 0) → Bool → List A → List A → Type 0
 Become First V true xs ys = Headed First V xs ys
 Become First V false xs ys = Pairwise V xs ys
 
--- so are those of any path
+-- the segments of any path are related, of which the first may be replaced
 abbrev pub Started : {A : Type 0} → (A → A → Type 0) → (A → A → Type 0) → List A → List A → Type 0
 Started First V xs ys = Headed First V xs ys ⊎ Pairwise V xs ys
 

@@ -21,12 +21,12 @@ pub data Begin (low high : ℕ) : List SelfPath → Type 0 where
   none : Begin low high []
   one : (note : SelfPath) (notes : List SelfPath) → low < note.start → note.start ≤ high → Begin low high notes → Begin low high (note ∷ notes)
 
--- so it does between others
+-- paths that begin between two bounds begin between wider ones
 pub begin_wider : {low high down up : ℕ} {notes : List SelfPath} → down ≤ low → high ≤ up → Begin low high notes → Begin down up notes
 begin_wider below above Begin.none = Begin.none
 begin_wider below above (Begin.one note notes least most more) = Begin.one note notes (omega arith) (omega arith) (begin_wider below above more)
 
--- so do more of them
+-- two lists of paths that begin between two bounds do so together
 pub begin_both : {low high : ℕ} {notes more : List SelfPath} → Begin low high notes → Begin low high more → Begin low high (notes ++ more)
 begin_both Begin.none others = others
 begin_both {more = more} (Begin.one note notes least most others) behind = Begin.one note (notes ++ more) least most (begin_both others behind)

@@ -114,7 +114,7 @@ module _ (new : Tokens) (changes : Changes) (each : (budget : ℕ) (p : Part) (b
   replaces_reads (written g) budget before tokens behind x out y is = (replaces_reads g budget before tokens behind x.0 out y.0 is.0, is.2)
   replaces_reads (part p) budget before tokens behind x out y is = each budget p before tokens behind x out y is
 
--- the same of the parts
+-- what the tokens of a part become is by the part's rule, with one more of the budget
 pub parts_replaced : (new : Tokens) (n budget : ℕ) (p : Part) (before tokens behind : Tokens) (x : TreeOf p) (out : Tokens) (y : TreeOf p) → changes_below new n budget p before tokens behind x out y → parts (suc budget) p out y
 unfolding changes_below
 parts_replaced new zero budget p before tokens behind x out y is = absurd is

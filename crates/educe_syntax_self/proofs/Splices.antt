@@ -92,7 +92,7 @@ more_places tokens notes i d note old new inside is places size marks = record {
 -- ---- the pass
 
 module _ (head : Tokens) (at : ℕ → Option ℕ) where
-  -- so many tokens fall away
+  -- the pass skips the tokens that are dropped
   walk_drop : (n : ℕ) (ts : Tokens) → walk head at n ts ≡ walk head at zero (drop n ts)
   unfolding walk
   walk_drop zero ts = refl

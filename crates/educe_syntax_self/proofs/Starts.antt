@@ -57,12 +57,12 @@ pub data SameStart : Tokens → Tokens → Type 0 where
   kept : (t : Token) (ts us : Tokens) → SameStart (t ∷ ts) (t ∷ us)
   changed : (t u : Token) (ts us : Tokens) → is_self t ≡ true → IsNamed u → SameStart (t ∷ ts) (u ∷ us)
 
--- the same tokens begin alike
+-- a list begins as itself
 pub same_start : (ts : Tokens) → SameStart ts ts
 same_start [] = SameStart.none
 same_start (t ∷ ts) = SameStart.kept t ts ts
 
--- so do lists behind one another
+-- lists that begin alike do so before lists that begin alike
 pub start_both : {ts us vs ws : Tokens} → SameStart ts us → SameStart vs ws → SameStart (ts ++ vs) (us ++ ws)
 start_both SameStart.none more = more
 start_both {vs = vs} {ws = ws} (SameStart.kept t ts us) more = SameStart.kept t (ts ++ vs) (us ++ ws)
@@ -79,12 +79,12 @@ start_kind (SameStart.changed t u ts us is named) = named.named ∙ sym (self_id
 pair_stays : (c d : ℕ) (t : Token) {ts us : Tokens} → SameStart ts us → begins_pair c d (t ∷ us) ≡ begins_pair c d (t ∷ ts)
 pair_stays c d t {ts = ts} {us = us} same = pair_kinds c d t us ∙ ap (λ k. is_joint c t.kind && is_sign d k) (start_kind same) ∙ sym (pair_kinds c d t ts)
 
--- so does one punct
+-- one punct stays
 pub lone_stays : (c d : ℕ) (t : Token) {ts us : Tokens} → SameStart ts us → begins_lone c d (t ∷ us) ≡ begins_lone c d (t ∷ ts)
 unfolding begins_lone
 lone_stays c d t same = ap (λ b. is_sign c t.kind && not b) (pair_stays c d t same)
 
--- and an operator with two operands
+-- a binary operator stays
 pub operator_stays : (t : Token) (op : Tokens) {ts us : Tokens} → SameStart ts us → operator_at (t ∷ op ++ us) ≡ operator_at (t ∷ op ++ ts)
 unfolding operator_at
 operator_stays t [] {ts = ts} {us = us} same = operator_kinds t us ∙ ap (λ k. longer_of (pair_operator t.kind k) (single_operator t.kind)) (start_kind same) ∙ sym (operator_kinds t ts)

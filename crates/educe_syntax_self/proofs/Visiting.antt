@@ -47,7 +47,7 @@ unfolding Parses expr_path
 path_tokens budget ts y is = ap (λ (p : ExprPath). p.written.tokens) is.1 ∙ is.2.1
 
 module _ (head : Tokens) (changes : Changes) (budget : ℕ) where
-  -- so has what a predicate becomes
+  -- what a predicate becomes has the tokens that it is read from
   predicate_tokens : (before tokens behind : Tokens) (x : WherePredicate) (out : Tokens) (y : WherePredicate) → Replaces head parts changes budget predicate before tokens behind x out y → y.written.tokens ≡ out
   unfolding Replaces predicate
   predicate_tokens before tokens behind x out y is = ap (λ (p : WherePredicate). p.written.tokens) is.3 ∙ is.4.2
@@ -145,7 +145,7 @@ module _ (head : Tokens) (is_head : IsHead head) where
       let v = path_visit x.written.tokens x is_read in
       (v.value, subst (λ (us : Tokens). Reads (suc depth_limit) expr_path us v.value) (sym is) v.reads)
 
-  -- and what is read of them is the answer
+  -- what is read of the tokens of a visited type is the answer
   pub type_answer : (x : Ty) → IsReadType x → (ts : Tokens) → ts ≡ replaced_in any_type head (out-Ty x).written.tokens → (y : Ty) → Reads (suc depth_limit) any_type ts y → IsVisitedType head x y
   type_answer x is_read ts is y reads =
       let v = type_visit (out-Ty x).written.tokens x is_read in

@@ -1,5 +1,5 @@
--- Tokens in which each path that begins with `Self` begins with other tokens instead, by the rule that reads them: a path is
--- what the rule of paths reads, and what falls away with `Self` are the arguments of its segment. A macro's path stays.
+-- The replacement of each `Self` that begins a path, as a relation guided by the rule that parses the tokens. The
+-- arguments of the `Self` are dropped. The path of a macro call is unchanged.
 use Rattle.std.specs.Prelude.{◌≡◌, ℕ, zero, suc, ◌-◌, ◌<◌, ◌≤◌, Bool, true, false, IsTrue, List, [], ◌∷◌, ◌++◌, length, take, drop, Some, ◌⊎◌, not, ◌&&◌}
 use Rattle.educe_tokens.specs.declared.token.Token.{Token}
 use Rattle.educe_grammar.specs.declared.terminal.Terminal.TheVariants.{Sign}
@@ -13,15 +13,15 @@ use Rattle.educe_grammar.specs.Reads.{rule_of, parts}
 use Rattle.educe_syntax_self.specs.Selves.{begins_self, begins_call}
 use Rattle.educe_grammar.specs.Rules.{Rule, token, documentation, empty, both, made, checked, either, prefer, operator, lone, binary, nest, angles, under, arrow, list, many, chain, path, sliced, written, part, Part, TreeOf}
 
--- Between what stands before and behind: these tokens, which are this value, become those, which are that value.
+-- A relation: between the tokens before and behind, these tokens with their value become those with theirs.
 abbrev pub Change : Type 0 → Type 1
 Change A = Tokens → Tokens → Tokens → A → Tokens → A → Type 0
 
--- The same of the parts, with each budget.
+-- The relations of the parts, for any budget.
 abbrev pub Changes : Type 1
 Changes = ℕ → (p : Part) → Change (TreeOf p)
 
--- `::` stands at the end.
+-- The list ends with `::`.
 unfoldable pub ends_in_colons : Tokens → Bool
 ends_in_colons [] = false
 ends_in_colons (t ∷ []) = false
@@ -33,33 +33,33 @@ abbrev pub is_replaced : Tokens → Tokens → Tokens → Bool
 is_replaced before tokens behind = begins_self tokens && (not (ends_in_colons before) && not (begins_call behind))
 
 module _ {A : Type 0} (Item : Change A) where
-  -- Items with separators between, and maybe one after the last.
+  -- A list of items with separators between them and an optional trailing one, changed item by item.
   pub data Listed (separates : Token → Bool) : Tokens → Tokens → Tokens → List A → Tokens → List A → Type 0 where
     none : {before behind : Tokens} → Listed separates before [] behind [] [] []
     last : {x y : A} {before behind : Tokens} (tokens out : Tokens) → Item before tokens behind x out y → Listed separates before tokens behind (x ∷ []) out (y ∷ [])
     more : {x y : A} {xs ys : List A} {before behind : Tokens} (front rest out later : Tokens) (separator : Token) → Item before front (separator ∷ rest ++ behind) x out y → IsTrue (separates separator)
         → Listed separates (before ++ front ++ separator ∷ []) rest behind xs later ys → Listed separates before (front ++ separator ∷ rest) behind (x ∷ xs) (out ++ separator ∷ later) (y ∷ ys)
 
-  -- Items one behind the other.
+  -- A sequence of items, changed item by item.
   pub data Repeated : Tokens → Tokens → Tokens → List A → Tokens → List A → Type 0 where
     none : {before behind : Tokens} → Repeated before [] behind [] [] []
     more : {x y : A} {xs ys : List A} {before behind : Tokens} (front rest out later : Tokens) → Item before front (rest ++ behind) x out y
         → Repeated (before ++ front) rest behind xs later ys → Repeated before (front ++ rest) behind (x ∷ xs) (out ++ later) (y ∷ ys)
 
--- Of a path: the first segment, or a later one.
+-- The change of the first segment of a path or that of a later one, as the flag says.
 abbrev pub One : {A : Type 0} → Change A → Change A → Bool → Change A
 One First Item true before tokens behind x out y = First before tokens behind x out y
 One First Item false before tokens behind x out y = Item before tokens behind x out y
 
 module _ {A : Type 0} (First Item : Change A) where
-  -- Segments; the flag says that the first of them is the first of its path.
+  -- The segments of a path, changed one by one; the flag says that the first of them is the first of its path.
   pub data Linked : Bool → Tokens → Tokens → Tokens → List A → Tokens → List A → Type 0 where
     last : {x y : A} {before behind : Tokens} {flag : Bool} (tokens out : Tokens) → One First Item flag before tokens behind x out y → Linked flag before tokens behind (x ∷ []) out (y ∷ [])
     more : {x y : A} {xs ys : List A} {before behind : Tokens} {flag : Bool} (front rest out later : Tokens) (first second : Token) → One First Item flag before front (first ∷ second ∷ rest ++ behind) x out y
         → begins_pair 58 58 (first ∷ second ∷ rest) ≡ true → begins_pair 58 58 (first ∷ second ∷ later) ≡ true
         → Linked false (before ++ front ++ first ∷ second ∷ []) rest behind xs later ys → Linked flag before (front ++ first ∷ second ∷ rest) behind (x ∷ xs) (out ++ first ∷ second ∷ later) (y ∷ ys)
 
--- Between two tokens, with one less of the budget.
+-- An opening token, the changed content with one less of the budget, and a closing token.
 pub record Between {A : Type 0} (Inside : Change A) (budget : ℕ) (opening closing : Token → Bool) (before tokens behind : Tokens) (x : A) (out : Tokens) (y : A) : Type 0 where
   pub first : Token
   pub inside : Tokens
@@ -72,7 +72,7 @@ pub record Between {A : Type 0} (Inside : Change A) (budget : ℕ) (opening clos
   pub closes : IsTrue (closing last)
   pub reads : Inside (before ++ first ∷ []) inside (last ∷ behind) x changed y
 
--- Behind a token, with one less of the budget.
+-- An opening token, and the changed content with one less of the budget.
 pub record Under {A : Type 0} (Inside : Change A) (budget : ℕ) (opening : Token → Bool) (before tokens behind : Tokens) (x : A) (out : Tokens) (y : A) : Type 0 where
   pub first : Token
   pub inside : Tokens
@@ -83,13 +83,13 @@ pub record Under {A : Type 0} (Inside : Change A) (budget : ℕ) (opening : Toke
   pub opens : IsTrue (opening first)
   pub reads : Inside (before ++ first ∷ []) inside behind x changed y
 
--- The first segment of a path: the new beginning, of which the value is a reading, or what it was.
+-- The first segment of a path becomes the new beginning, whose reading is the new value; or it stays as it is.
 abbrev pub FirstOf : (new : Tokens) → Parts → ℕ → {A : Type 0} → Rule A → Bool → Change A → Change A
 FirstOf new all budget g true stays before tokens behind x out y = (out ≡ new) × Parses all (suc budget) g out y
 FirstOf new all budget g false stays before tokens behind x out y = stays before tokens behind x out y
 
 module _ (new : Tokens) (parts : Parts) (changes : Changes) where
-  -- By the rule, with a budget, these tokens, which are this value, become those, which are that value.
+  -- By the rule with a budget, the first tokens with their value become the second with theirs.
   unfoldable pub Replaces : ℕ → {A : Type 0} → Rule A → Change A
   Replaces budget (token asked) before tokens behind x out y = (tokens ≡ x.token ∷ []) × (out ≡ tokens) × (y ≡ x)
   Replaces budget documentation before tokens behind x out y = (tokens ≡ x.token ∷ []) × (out ≡ tokens) × (y ≡ x)
@@ -125,11 +125,11 @@ module _ (new : Tokens) (parts : Parts) (changes : Changes) where
   Replaces budget (written g) before tokens behind x out y = Replaces budget g before tokens behind x.0 out y.0 × (x.1.tokens ≡ tokens) × (y.1.tokens ≡ out)
   Replaces budget (part p) before tokens behind x out y = changes budget p before tokens behind x out y
 
--- The parts whose budget is below the first number.
+-- The relations of the parts for budgets below the first number.
 unfoldable pub changes_below : Tokens → ℕ → Changes
 changes_below new zero budget p = λ before tokens behind x out y. ⊥
 changes_below new (suc n) budget p = λ before tokens behind x out y. Replaces new parts (changes_below new n) budget (rule_of p) before tokens behind x out y
 
--- By the rule, within the limits, the whole list, which is this value, becomes that one, which is that value.
+-- By the rule and within the limits, the whole list with its value becomes the other list with its value.
 abbrev pub Changed : Tokens → {A : Type 0} → Rule A → Tokens → A → Tokens → A → Type 0
 Changed new g tokens x out y = Replaces new parts (changes_below new (suc depth_limit)) depth_limit g [] tokens [] x out y

@@ -1,4 +1,4 @@
--- The word `Self` in tokens, and the call of a macro.
+-- Tests for the word `Self` and for a macro call.
 use Rattle.std.specs.Prelude.{Bool, true, false, ◌&&◌, [], ◌∷◌}
 use Rattle.educe_tokens.specs.TokenKind.{TokenKind}
 use Rattle.educe_tokens.specs.TokenKind.TheVariants as kind
@@ -13,7 +13,7 @@ use Rattle.educe_grammar.specs.Terminals.{accepts}
 abbrev pub is_self : Token → Bool
 is_self t = accepts (terminal.Word keyword.SelfType) t
 
--- A bracket that opens.
+-- The token is an opening bracket.
 abbrev pub is_opening : TokenKind → Bool
 is_opening (kind.Start b) = true
 is_opening kind.Ident = false
@@ -23,13 +23,13 @@ is_opening (kind.Punct c joint) = false
 is_opening (kind.Stop b) = false
 is_opening kind.Doc = false
 
--- `!` and a bracket that opens, as in the call of a macro.
+-- The list begins with `!` and an opening bracket, as the input of a macro call does.
 unfoldable pub begins_call : Tokens → Bool
 begins_call [] = false
 begins_call (t ∷ []) = false
 begins_call (t ∷ u ∷ ts) = is_sign 33 t.kind && is_opening u.kind
 
--- `Self`.
+-- The list begins with the word `Self`.
 unfoldable pub begins_self : Tokens → Bool
 begins_self [] = false
 begins_self (t ∷ ts) = is_self t

@@ -1,4 +1,4 @@
-//! Values of tokens that are known to have one.
+//! Parsing of tokens that are known to have a value.
 ghost use Rattle.std.specs.Prelude.{◌≡◌, suc, IfOk, IfErr};
 ghost use Rattle.educe_grammar.specs.Expressions.{expr_path};
 ghost use Rattle.educe_grammar.specs.Parsed.{depth_limit};
@@ -13,7 +13,7 @@ use educe_tokens::TokenSlice;
 use educe_tree::{ExprPath, Ty};
 use std::alloc::{AllocError, Global};
 
-/// What was read, where reading fails for want of memory alone.
+/// The value that was read, where reading fails only when out of memory.
 pub(crate) fn unless_memory<T: Drop>(read: Result<T, ParseError>) -> Result<T, AllocError>
     requires { IfErr read (λ error. error ≡ ParseError.Memory) }
     ensures { IfOk result (λ found. read ≡ Ok found) }
@@ -25,7 +25,7 @@ pub(crate) fn unless_memory<T: Drop>(read: Result<T, ParseError>) -> Result<T, A
     }
 }
 
-/// The type that the tokens are.
+/// Parses a type from tokens that are known to be one.
 pub(crate) fn type_again(alloc: Global, tokens: &TokenSlice) -> Result<Ty, AllocError>
     requires { (ty : Ty) × Reads (suc depth_limit) any_type tokens.now ty }
     ensures { IfOk result (λ found. Reads (suc depth_limit) any_type tokens.now found) }
@@ -34,7 +34,7 @@ pub(crate) fn type_again(alloc: Global, tokens: &TokenSlice) -> Result<Ty, Alloc
     unless_memory(read_type(alloc, &mut input))
 }
 
-/// The path that the tokens are.
+/// Parses a path from tokens that are known to be one.
 pub(crate) fn path_again(alloc: Global, tokens: &TokenSlice) -> Result<ExprPath, AllocError>
     requires { (path : ExprPath) × Reads (suc depth_limit) expr_path tokens.now path }
     ensures { IfOk result (λ found. Reads (suc depth_limit) expr_path tokens.now found) }

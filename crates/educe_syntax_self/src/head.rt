@@ -1,4 +1,4 @@
-//! What stands in place of `Self`: the name of the definition with its parameters as arguments.
+//! The head that replaces `Self`: the name of the definition with its parameters as arguments.
 ghost use Rattle.std.specs.Prelude.{IsTrue, OnOk, [], ◌∷◌, map};
 ghost use Rattle.std.specs.List.{flat_map};
 ghost use Rattle.educe_tokens.specs.Pieces.{spells};

@@ -1,5 +1,5 @@
-//! `Self` in types, paths and generics: it is replaced by the name of the definition, so that what
-//! mentions it may stand where `Self` is another type.
+//! Replaces `Self` in types, paths and generics by the name of the definition, so that they may be
+//! used where `Self` is another type.
 #![tactic(auto)]
 
 mod again;

@@ -1,4 +1,4 @@
-//! `Self` is replaced by the name of the definition.
+//! The replacement of `Self` by the name of the definition.
 ghost use Rattle.std.specs.Prelude.{◌≡◌, IsTrue, IfOk};
 ghost use Rattle.std.specs.List.{AllByRecursion, AllZip};
 ghost use Rattle.educe_tokens.specs.Appends.{LieNowhere};
@@ -21,7 +21,7 @@ use educe_tree::{
 };
 use std::alloc::{AllocError, Global};
 
-/// What stands in place of `Self`: the name of a definition, with its parameters as arguments.
+/// The head that replaces `Self`: the name of a definition, with its parameters as arguments.
 #[derive(Drop)]
 pub struct ReplaceSelf {
     pub head: TokenStream,
@@ -29,7 +29,8 @@ pub struct ReplaceSelf {
 }
 
 impl ReplaceSelf {
-    /// The name of the definition and `::<` its parameters `>`, or the name alone where there are none.
+    /// The head of a definition: its name and `::<` its parameters `>`, or the name alone where
+    /// there are no parameters.
     pub fn new(alloc: Global, ast: &DeriveInput) -> Result<ReplaceSelf, AllocError>
         requires { AreNamed ast.now }
         ensures head { IfOk result (λ replace. lexemes replace.head ≡ head_for ast.now) }
