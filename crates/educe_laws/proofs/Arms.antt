@@ -334,11 +334,11 @@ module _ (which : Comparison) (d : DeriveInput) (table : Answers) (a b : Value) 
 
       module _ (inside : AllByRecursion (λ k. In k kept) is.ordered) (named : AllByRecursion (λ k. HasOwnPath d.tokens k.how) is.ordered)
           (known : AllByRecursion (λ c. IsSome (says which table c)) (map (seen look_a look_b) is.ordered)) where
-        -- the first field, in the order of the steps, that tells the two values apart
+        -- the first field, in the order of the steps, in which the two values differ
         abbrev first : Option Compared
         first = first_where (differs which table) (map (seen look_a look_b) is.ordered)
 
-        -- its steps go on, or return what the first field says that tells the two values apart
+        -- its steps go on, or return the answer of the first field in which the two values differ
         steps_value : list_value scene arm_env Nothing is.steps ≡ decided scene arm_env d.tokens apart which first
         steps_value =
             let own = bound names.own in

@@ -123,7 +123,7 @@ module _ (scene : Scene) (env : Env) (input : List Token) (apart : AllByRecursio
       ∙ inits_give kept inits parts.more (λ env xs. next env (parts.first ∷ xs)) are.1 own.1 reads.1 parts.more_are
       ∙ ap (next env) (sym parts.are)
 
-  -- so the form gives the value of its case
+  -- the form that builds a case gives the value of the case
   pub cloned_gives : (name : Option (List ℕ)) (shape : FieldShape) (x : Form) (place : ℕ) (found : Outcome) (is : IsCloneConstruct scene.definition reading name shape x)
       → AreKept trait.Clone scene.definition shape.fields → case_named scene.definition is.variant ≡ Some (place, shape.fields)
       → AllByRecursion (λ (k : Kept). HasOwnPath input k.how) (kept_fields trait.Clone scene.definition shape.fields) → AllByRecursion ReadsField (kept_fields trait.Clone scene.definition shape.fields)

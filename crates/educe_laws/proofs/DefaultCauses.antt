@@ -35,7 +35,7 @@ module _ (d : DeriveInput) where
   type_refused e (inl in_lists) = inl (record { attributes = d.attrs; stand = type_stands d; cause = in_lists })
   type_refused e (inr said) = inr (IsDefaultCause.by_type said.1)
 
-  -- so is one of the attributes of a variant
+  -- a cause of the attributes of a variant is one of the handler
   pub variant_refused : (own : Values) → AreTypeSettings d own → (variant : Variant) → IsAmong variant (variants_of d) → (e : EduceError)
       → OfPlace Default (mark_row (is_none own.expression)) (listed d) variant.attrs e → Refuses e
   variant_refused own settings variant among e (inl in_lists) = inl (record { attributes = variant.attrs; stand = variant_stands d variant among; cause = in_lists })

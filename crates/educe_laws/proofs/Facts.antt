@@ -48,7 +48,7 @@ pub record ArePlain (names : List (List ℕ)) : Type 0 where
   pub raw : AllByRecursion (λ text. unraw text ≡ text) names
   pub others : AllByRecursion (λ text. bytes_eq text (codes "self") ≡ false) names
 
--- those of an enum's comparison are such
+-- the plain names of an enum's comparison have no `r#`, and none of them is `self`
 pub are_plain : ArePlain plain_names
 are_plain = record { raw = (refl, (refl, (refl, (refl, tt)))); others = (refl, (refl, (refl, (refl, tt)))) }
 

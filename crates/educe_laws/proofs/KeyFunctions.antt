@@ -69,7 +69,7 @@ wrapped_same true w n fits = int_wrap_fits w n fits
 wrapped_same false w (pos n) fits = ap pos (mod-eq_of_lt fits)
 wrapped_same false w (negsuc n) fits = absurd fits
 
--- so is a number of a type
+-- a number of a type is left as it is by wrapping to that type
 lawful_ranges : RangeLaws
 lawful_ranges = record { kept = λ ty. wrapped_same (is_signed ty) (width ty) }
 
@@ -233,7 +233,7 @@ number_at d table variants is numbers have value v at =
 
 module _ (which : Trait) (d : DeriveInput) (table : Answers) (variants : List Variant) (fit : AreFit which d variants) (numbers : List ℤ) (have : HaveNumbers table d numbers) where
   module _ (value : Value) (is_of : IsOf d variants value) where
-    -- that of the value is at its place
+    -- the variant of the value is at its place among what is counted
     counted_at : slice_get (map (λ (c : Counted). c.variant) (counted d)) value.variant ≡ Some is_of.variant
     counted_at = ap (λ vs. slice_get vs value.variant) (counted_variants d variants fit.enum.is) ∙ is_of.at
 
@@ -283,7 +283,7 @@ module _ (d : DeriveInput) (names : Names) (are : AreNames d names) where
     known = (inl refl, (inr (inl refl), tt));
   }
 
-  -- so is that behind a key function
+  -- the scope behind a key function is one around a match
   pub outer_keyed : (m n : ℤ) → IsOuter names (keyed names m n)
   outer_keyed m n = record {
     own = λ i. of_three m n true (other_self i) (function_self i);

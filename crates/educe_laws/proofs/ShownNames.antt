@@ -30,7 +30,7 @@ all_plain = record {
   others = (refl, (refl, (refl, (refl, (refl, (refl, (refl, (refl, (refl, (refl, (refl, tt)))))))))));
 }
 
--- texts that are told apart are so the other way round
+-- texts that differ do so the other way round
 told_apart : (a b : List ℕ) → bytes_eq a b ≡ false → bytes_eq b a ≡ false
 told_apart a b apart = bytes_eq-differ b a (λ same. false≢true (sym apart ∙ (bytes_eq-Decides a b).1 (sym same)))
 
@@ -68,7 +68,7 @@ module _ (d : DeriveInput) (names : DebugNames) (are : AreDebugNames d names) wh
   abbrev all : List (List ℕ)
   all = chosen_fmt_names names ++ chosen_marker_names names
 
-  -- those of a marker are among them
+  -- the names of a marker are among all names that are chosen
   function_in : In names.function all
   function_in = In-behind (chosen_fmt_names names) (chosen_marker_names names) names.function (inl refl)
 

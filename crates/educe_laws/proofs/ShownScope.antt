@@ -23,11 +23,11 @@ use Rattle.educe_laws.proofs.Variables.{before_last, at_last, each_differs, name
 abbrev pub builder_binding : DebugNames → Binding
 builder_binding names = record { name = names.builder; referent = BuilderName }
 
--- that of the type of the keys of a map
+-- the binding of the type of the keys of a map
 abbrev pub helper_binding : DebugNames → Binding
 helper_binding names = record { name = names.helper; referent = Helper }
 
--- with true that type, which stands in front
+-- with true the binding of the type of the keys of a map, which stands in front
 abbrev pub helper_bindings : Bool → DebugNames → List Binding
 helper_bindings false names = []
 helper_bindings true names = helper_binding names ∷ []

@@ -189,7 +189,7 @@ last_if b same = innermost (if same then Some b.referent else None) None
 pub before_last : (names : List Binding) (b : Binding) (name : List ℕ) → b.name ≢ name → look_up (names ++ b ∷ []) name ≡ look_up names name
 before_last names b name differs = look_up-outer names (b ∷ []) name (ap (last_if b) (bytes_eq-differ b.name name differs))
 
--- that of the last binding stands for what is bound there
+-- the name of the last binding stands for what is bound there
 pub at_last : (names : List Binding) (b : Binding) → look_up (names ++ b ∷ []) b.name ≡ Some b.referent
 at_last names b = look_up-inner names (b ∷ []) b.name b.referent (ap (last_if b) (bytes_eq-same b.name))
 
@@ -445,6 +445,6 @@ pub arm_scope : (which : Comparison) (d : DeriveInput) (names : Names) (fields :
     → AreScoped d (names.other ∷ names.discriminant ∷ variables names.own (trait_of which) d fields ++ variables names.others (trait_of which) d fields)
 arm_scope which d names fields are distinct few = names_scoped d names are (kept_fields (trait_of which) d fields) (fields_different (trait_of which) d fields distinct few)
 
--- so are those in the scope of a key function
+-- the names in the scope of a key function are apart, and none but `self` is a word of the definition
 pub key_scope : (d : DeriveInput) (names : Names) → AreNames d names → AreScoped d (chosen_names names)
 key_scope d names are = chosen_scoped d plain_names (chosen_names names) are.are are_plain
