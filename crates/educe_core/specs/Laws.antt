@@ -12,7 +12,7 @@ use Rattle.educe_core.specs.Headline.{Defines, IsValid, IsCause}
 
 -- What holds of each text.
 pub record ExpansionLaws : Type 0 where
-  -- It is a definition within the limits whose names are apart, or it has a cause.
+  -- Each text is a definition within the limits whose names are apart, or it has a cause of a rejection.
   pub defined_or_refused : (source : List ℕ) → ((d : DeriveInput) × Defines (chars source) d) ⊎ HasCause (IsCause source)
   -- If no tokens of it are a definition within the limits, it has a cause `Syntax`, `TooDeep` or `NotCarried`.
   pub unread_refused : (source : List ℕ) → ((found : List Token) → IsReading (chars source) found → (d : DeriveInput) → IsWhole definition found d → ⊥)

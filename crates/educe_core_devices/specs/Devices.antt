@@ -5,17 +5,17 @@ use Rattle.std.specs.Prelude.{◌≡◌, ℕ, ◌+◌, ◌-◌, ◌^◌, ◌<◌
 abbrev pub Rose : ℕ → ℕ → Type 0
 Rose before now = min (before + 1) (2 ^ 64 - 1) ≤ now
 
--- These bytes, and then the told ones.
+-- These bytes, and then the reported ones.
 abbrev pub ahead : List ℕ → Option (List ℕ) → Option (List ℕ)
 ahead bytes None = None
 ahead bytes (Some told) = Some (bytes ++ told)
 
--- The told bytes, and then these.
+-- The reported bytes, and then these.
 abbrev pub behind : Option (List ℕ) → List ℕ → Option (List ℕ)
 behind None bytes = None
 behind (Some told) bytes = Some (told ++ bytes)
 
--- No told byte is left.
+-- No reported byte is left.
 abbrev pub IsAtEnd : Option (List ℕ) → Type 0
 IsAtEnd told = IfSome told (λ bytes. bytes ≡ [])
 
