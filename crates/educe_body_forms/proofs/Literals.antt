@@ -46,11 +46,11 @@ stands_ends (c ∷ cs) h =
     let parts = and_parts (stands c) (list_all stands cs) h in
     rw (plain_step InStr c parts.0, ends) (stands_ends cs parts.1)
 
--- so it is spelled
+-- a text that stands in a literal as it is, in quotes, is spelled as a string literal
 stands_spelled : (text : List ℕ) → Stands text → IsTrue (spells (Literal Str) (in_quotes text))
 stands_spelled text h = or_left (is_str (in_quotes text)) (is_raw_str (in_quotes text)) (quoted_from InStr 34 (text ++ 34 ∷ []) (stands_ends text h))
 
--- so it is where the text is known by an equation
+-- a text that stands in a literal as it is, known by an equation, is in quotes spelled as a string literal
 pub spelled-same : (made text : List ℕ) → made ≡ text → Stands text → IsTrue (spells (Literal Str) (in_quotes made))
 spelled-same made text is h = subst (λ text. IsTrue (spells (Literal Str) (in_quotes text))) (sym is) (stands_spelled text h)
 

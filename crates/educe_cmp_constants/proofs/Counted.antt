@@ -17,7 +17,7 @@ pub record IsCounted (ty : DiscriminantType) (base : List ℕ) (variants : List 
   pub reached : steps ≤ place
   pub onward : (rest : List Constant) → AllZip (IsConstant ty base) (counted_from near steps (drop place variants)) rest → AllZip (IsConstant ty base) (counted_from None 0 variants) (found ++ rest)
 
--- those from a variant on, by its discriminant
+-- the constants that are counted from a variant on, by its discriminant
 abbrev counted_by : Option Expr → ℕ → Variant → List Variant → Option Expr → List Counted
 counted_by near steps v vs o =
     elim o [

@@ -122,7 +122,7 @@ module _ (which : Trait) (d : DeriveInput) where
       → NoCause (OfVariant which d variant)
   variant_uncaused variant of_variant of_case = record { none_stands = λ e cause. elim cause [ inl own ↦ of_variant.none_stands e own | inr case ↦ of_case.none_stands e case ] }
 
-  -- so it is with the variants of an enum
+  -- the variants of an enum, none of which has a cause, have none
   pub variants_uncaused : (variants : List Variant) → AllByRecursion (λ variant. NoCause (OfVariant which d variant)) variants → NoCause (OfShape which d (Enum variants))
   variants_uncaused variants each = record {
     none_stands = λ e cause. (In-all (λ variant. NoCause (OfVariant which d variant)) variants cause.0 each (among_in cause.0 variants cause.1)).none_stands e cause.2;

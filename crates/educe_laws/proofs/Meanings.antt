@@ -42,7 +42,7 @@ each_ordered : (by_rank : Bool) (P : Kept → Type 0) (kept ordered : List Kept)
 each_ordered true P kept ordered in_order each = each_moved P kept ordered in_order.same each
 each_ordered false P kept ordered in_order each = subst (AllByRecursion P) (sym in_order) each
 
--- so it does in the order of the trait
+-- what holds of each field that takes part holds of each in the order of the trait
 pub each_in_order : (which : Trait) (P : Kept → Type 0) (kept ordered : List Kept) → IsInOrder which kept ordered → AllByRecursion P kept → AllByRecursion P ordered
 each_in_order which = each_ordered (is_order which)
 

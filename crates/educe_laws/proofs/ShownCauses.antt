@@ -68,7 +68,7 @@ module _ (d : DeriveInput) where
   variant_refused variant among e (inl in_lists) = inl (record { attributes = variant.attrs; stand = variant_stands d variant among; cause = in_lists })
   variant_refused variant among e (inr said) = inr (IsShownCause.by_variant variant among said.1)
 
-  -- and so is one of the attributes of a field of a case
+  -- a cause of the attributes of a field of a case is one of the handler
   pub field_refused : (case : ShownCase) → IsCase d case → (field : Field) → IsAmong field case.fields → (e : EduceError)
       → OfField Debug (entry_row case.named) (listed d) field.attrs e → Refuses e
   field_refused case is field among e (inl in_lists) =

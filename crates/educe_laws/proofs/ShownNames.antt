@@ -23,7 +23,7 @@ fmt_plain = record {
   others = (refl, (refl, (refl, (refl, (refl, (refl, (refl, (refl, (refl, tt)))))))));
 }
 
--- so it is of these and of those that a marker declares besides
+-- the names that `fmt` and a marker declare, where nothing is in their way, have no `r#`, and none of them is `self`
 all_plain : ArePlain (plain_fmt_names ++ plain_marker_names)
 all_plain = record {
   raw = (refl, (refl, (refl, (refl, (refl, (refl, (refl, (refl, (refl, (refl, (refl, tt)))))))))));
@@ -52,7 +52,8 @@ module _ (d : DeriveInput) (names : DebugNames) (are : AreDebugNames d names) wh
   pub fmt_scope : AreScoped d (chosen_fmt_names names)
   fmt_scope = chosen_scoped d plain_fmt_names (chosen_fmt_names names) fmt_are fmt_plain
 
-  -- so it is of these and of the variables of the fields of a case that are shown
+  -- no two of the names that `fmt` declares and of the variables of shown fields are the same, and none is a word of the
+  -- definition
   pub fmt_arm_scope : (case : ShownCase) → AreNamesApart (field_names case.fields) → length case.fields ≤ 2 ^ 64
       → AreScoped d (chosen_fmt_names names ++ variables_for names.prefix (shown_fields d case))
   fmt_arm_scope case distinct few =

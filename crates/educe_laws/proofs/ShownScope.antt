@@ -44,7 +44,7 @@ helped_by names form.Tuple bs found = tt
 helped_by names form.Map bs found = found refl
 
 module _ (d : DeriveInput) (names : DebugNames) (are : AreDebugNames d names) where
-  -- those behind the argument, behind the builder, and behind the formatter
+  -- the names that are chosen behind the argument, behind the builder, and behind the formatter
   abbrev behind_argument : List (List ℕ)
   behind_argument = names.wrapper ∷ names.helper ∷ names.value_type ∷ names.function_type ∷ names.value ∷ names.value_formatter ∷ []
 

@@ -124,7 +124,7 @@ kept_different place (f ∷ fs) (s ∷ all) differ =
 pub different_by : (fs : List Field) (all : List FieldSettings) → AreNamesApart (field_names fs) → length fs ≤ 2 ^ 64 → AreDifferent (map kept_key (kept_by 0 fs all))
 different_by fs all names few = kept_different 0 fs all (lawful_keys.apart fs names few)
 
--- so do those that take part in what a trait does
+-- the fields of a case that take part in what a trait does have keys that differ
 pub fields_different : (which : Trait) (d : DeriveInput) (fs : List Field) → AreNamesApart (field_names fs) → length fs ≤ 2 ^ 64 → AreDifferent (map kept_key (kept_fields which d fs))
 fields_different which d fs names few = different_by fs (map (settings_of which d) fs) names few
 
@@ -211,7 +211,7 @@ module _ (prefix : List ℕ) (refer : Refer) where
       ap (innermost (here_if k (bytes_eq (variable prefix k) (variable prefix k)))) (unbound ks (variable prefix k) (each_flipped (variable prefix k) (map (variable prefix) ks) differ))
       ∙ ap (here_if k) (bytes_eq-same (variable prefix k))
 
-  -- so does each
+  -- each variable stands for what its field does
   bound_at : (ks : List Kept) (k : Kept) → AreDifferent (map (variable prefix) ks) → In k ks → look_up (map (own_binding prefix refer) ks) (variable prefix k) ≡ Some (refer k.place k.field)
   bound_at [] k differ found = absurd found
   bound_at (j ∷ ks) k differ found =
@@ -270,7 +270,7 @@ module _ (d : DeriveInput) (plain names : List (List ℕ)) (are : AreChosenFor d
             apart (λ has. no_word (subst (HasWord d.tokens) raw has))
       ]
 
-  -- so does none of those around a match
+  -- no binding around a match hides a word of the definition
   pub outer_apart : (outer : List Binding) → AllByRecursion (IsOwnName names) outer → AllByRecursion (IsApart d.tokens) outer
   outer_apart outer known = each_weaker (IsOwnName names) (IsApart d.tokens) own_apart outer known
 

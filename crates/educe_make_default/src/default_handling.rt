@@ -113,7 +113,7 @@ fn new_item(alloc: Global, ast: &DeriveInput, generics: Generics) -> Result<Impl
     })
 }
 
-/// The same, where the type asks for it.
+/// The impl that holds `new`, where the type asks for it.
 fn new_if(
     alloc: Global,
     ast: &DeriveInput,
