@@ -23,7 +23,7 @@ IsAtEnd told = IfSome told (λ bytes. bytes ≡ [])
 abbrev pub EndsOnNothing : ℕ → List ℕ → Option (List ℕ) → Type 0
 EndsOnNothing count room left = count ≡ 0 → 0 < length room → IsAtEnd left
 
--- Of a nonempty piece at least one byte is taken.
+-- At least one byte of a nonempty piece is taken.
 abbrev pub TakesSome : ℕ → List ℕ → Type 0
 TakesSome count piece = 0 < length piece → 0 < count
 
@@ -50,7 +50,7 @@ pub record IsUnchanged (device : Change) : Type 0 where
   pub bytes : device.after ≡ device.before
   pub faults : device.faults_after ≡ device.faults_before
 
--- A device that might fail did.
+-- A device that may fail has failed.
 pub record Fails (device : Change) : Type 0 where
   pub rose : Rose device.faults_before device.faults_after
   pub might : IsTrue device.may_fail
