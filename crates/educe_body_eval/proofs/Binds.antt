@@ -56,7 +56,7 @@ fields_from-own : (place : ℕ) (values : List FieldValue) → fields_from (Some
 fields_from-own place [] = refl
 fields_from-own place (x ∷ xs) = ap (λ (more : List Referent). OwnField place ∷ more) (fields_from-own (place + 1) xs)
 
--- those of the first field on are all
+-- what the fields from the first on stand for is what all fields stand for
 pub fields_from-named : (found : Option Referent) (value : Value) → fields_from found 0 value.fields ≡ fields_named found value
 fields_from-named None value = fields_from-bound None (λ place x. refl) 0 value.fields
 fields_from-named (Some This) value = fields_from-own 0 value.fields

@@ -59,7 +59,7 @@ fn assigns(form: &Form) -> bool
     }
 }
 
-/// The same of forms.
+/// Whether an assignment or a discard stands in one of the forms, at any depth.
 #[cycle(assigns)]
 pub fn any_assigns(forms: &Forms) -> bool
     ensures { result ≡ spec.any_assigns forms.now }
@@ -72,7 +72,7 @@ pub fn any_assigns(forms: &Forms) -> bool
     false
 }
 
-/// The same of the blocks of arms.
+/// Whether an assignment or a discard stands in the block of one of the arms, at any depth.
 #[cycle(assigns)]
 fn arms_assign(arms: &Arms) -> bool
     ensures { result ≡ spec.arms_assigning arms.now }
@@ -85,7 +85,7 @@ fn arms_assign(arms: &Arms) -> bool
     false
 }
 
-/// The same of initializers.
+/// Whether an assignment or a discard stands in one of the initializers, at any depth.
 #[cycle(assigns)]
 fn inits_assign(inits: &Inits) -> bool
     ensures { result ≡ spec.inits_assigning inits.now }

@@ -82,7 +82,7 @@ pub(crate) fn returned(inner: Flow) -> Flow
     }
 }
 
-/// The opposite truth.
+/// The opposite of the truth that a form gives.
 pub(crate) fn opposite(inner: Flow) -> Flow
     ensures { result ≡ meaning.go_on inner meaning.opposite }
 {

@@ -121,7 +121,7 @@ fn arms_number(
     Ok(None)
 }
 
-/// The same, of a value that may be missing.
+/// The number that a key function gives for a value that may be missing.
 fn number_for(
     alloc: Global,
     stage: &Stage,

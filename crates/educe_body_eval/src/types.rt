@@ -1,4 +1,4 @@
-//! The types of fields, told apart by their tokens, and default values of these types.
+//! The types of fields, distinguished by their tokens, and default values of these types.
 ghost use Rattle.std.specs.Prelude.{◌≡◌, ◌++◌, IsTrue, IfOk};
 ghost use Rattle.std.specs.List.{flat_map};
 ghost use Rattle.std.specs.Cmp.Lexicographic.{pointwise};
@@ -93,7 +93,8 @@ fn first_place(fields: &[Field], ty: &[Token]) -> usize
     fields.len()
 }
 
-/// The same of the fields of variants, one variant behind the other; a place of 2^64 or more is none.
+/// The place of the first field whose type has these tokens, counted over the fields of all variants, one
+/// variant behind the other; without one, how many fields there are. A place of 2^64 or more is none.
 fn place_among(variants: &[Variant], ty: &[Token]) -> Option<usize>
     ensures { let fields = flat_map (λ v. v.fields.fields) variants.now in
         spec.IsPlace (spec.first_place fields (spellings ty.now)) result }
@@ -161,7 +162,8 @@ fn text_callee(
     written_callee(alloc, written)
 }
 
-/// The same where these names are in scope.
+/// What tokens call where these names are in scope: tokens that have one of them among their identifiers call
+/// nothing.
 pub(crate) fn pasted_callee(
     alloc: Global,
     ast: &DeriveInput,

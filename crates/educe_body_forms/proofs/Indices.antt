@@ -102,7 +102,7 @@ index_is_read {E = E} text bs (Err e) o is spelled plain h same =
     let given : Err e ≡ Ok n = parse-decimal {E = E} 64 n bs (Err e) small small (bytes_decimal text bs n small is own) h in absurd (cc) in
     subst (IsIndexOf text) (sym same) none
 
--- an index is told by its number
+-- two indices are the same where their decimal digits are
 pub index_tells : (place index : ℕ) (key : List ℕ) → place < 2 ^ 64 → IsIndexOf key (Some index) → nat_eq index place ≡ bytes_eq (decimal place) key
 index_tells place index key small own =
     sym (same_from_decides (bytes_eq (decimal place) key) (nat_eq index place) (bytes_eq-Decides (decimal place) key) (

@@ -46,11 +46,11 @@ stands_ends (c ∷ cs) h =
     let parts = and_parts (stands c) (list_all stands cs) h in
     rw (plain_step InStr c parts.0, ends) (stands_ends cs parts.1)
 
--- so it is spelled
+-- a text that stands in a literal as it is, in quotes, is spelled as a string literal
 stands_spelled : (text : List ℕ) → Stands text → IsTrue (spells (Literal Str) (in_quotes text))
 stands_spelled text h = or_left (is_str (in_quotes text)) (is_raw_str (in_quotes text)) (quoted_from InStr 34 (text ++ 34 ∷ []) (stands_ends text h))
 
--- so it is where the text is known by an equation
+-- a text that stands in a literal as it is, known by an equation, is in quotes spelled as a string literal
 pub spelled-same : (made text : List ℕ) → made ≡ text → Stands text → IsTrue (spells (Literal Str) (in_quotes made))
 spelled-same made text is h = subst (λ text. IsTrue (spells (Literal Str) (in_quotes text))) (sym is) (stands_spelled text h)
 
@@ -67,18 +67,18 @@ continue_stands c h =
     let apart : (d : ℕ) → d < 128 → (is_ascii_alphanumeric d || (d == 95)) ≡ false → P d = λ d s e k. absurd (false≢true (sym (is_xid_continue-ascii d s ∙ e) ∙ k)) in
     stands-from c (false_from_ne_true _ (λ e. at_equal P c 34 (apart 34 (omega arith) refl) e h)) (false_from_ne_true _ (λ e. at_equal P c 92 (apart 92 (omega arith) refl) e h))
 
--- a letter, a digit or `_` does
+-- a letter, a digit or `_` stands in a literal as it is
 ascii_stands : (c : ℕ) → is_ascii_word c ≡ true → stands c ≡ true
 ascii_stands c h = grind (arith, nat_tests)
 
--- a word is of such characters
+-- the characters of a word stand in a literal as they are
 word_stands : (text : List ℕ) → is_word text ≡ true → Stands text
 word_stands [] h = absurd (false≢true h)
 word_stands (c ∷ cs) h =
     let parts = and_parts (is_word_start c) (list_all is_xid_continue cs) h in
     and_from (stands c) (list_all stands cs) (continue_stands c (word_continues c parts.0)) (list_all_wider is_xid_continue stands continue_stands cs parts.1)
 
--- so is a raw one
+-- the characters of a raw identifier stand in a literal as they are
 raw_word_stands : (text : List ℕ) → is_raw_word text ≡ true → Stands text
 raw_word_stands [] h = absurd (false≢true h)
 raw_word_stands (c ∷ []) h = absurd (false≢true h)
@@ -89,15 +89,15 @@ raw_word_stands (c ∷ d ∷ cs) h =
     let word = word_stands cs (and_parts (is_word cs) (not (is_never_raw cs)) parts.1).0 in
     and_from (stands c) (stands d && list_all stands cs) (at c 114 refl marks.0) (and_from (stands d) (list_all stands cs) (at d 35 refl marks.1) word)
 
--- an identifier is
+-- the characters of an identifier stand in a literal as they are
 pub ident_stands : (text : List ℕ) → IsTrue (spells Ident text) → Stands text
 ident_stands text h = ⊎_elim (word_stands text) (raw_word_stands text) (or_cases (is_word text) (is_raw_word text) h)
 
--- an integer is
+-- the characters of an integer stand in a literal as they are
 int_stands : (text : List ℕ) → IsTrue (spells (Literal Int) text) → Stands text
 int_stands text h = list_all_wider is_ascii_word stands ascii_stands text (int_words text (and_parts (has_int_form text) (fits_u128 text) h).0)
 
--- so is either of them
+-- the characters of an identifier or an integer stand in a literal as they are
 pub word_or_index_stands : (text : List ℕ) → IsTrue (is_name_or_index text) → Stands text
 word_or_index_stands text h = ⊎_elim (ident_stands text) (int_stands text) (or_cases (spells Ident text) (spells (Literal Int) text) h)
 
@@ -124,7 +124,7 @@ chars_quoted text u =
     ∙ ap (λ front. front ++ chars (codes "\"")) (chars-append (codes "\"") text quote)
     ∙ (λ i. mark i ++ chars text ++ mark i)
 
--- those of two texts with `::` between
+-- the characters of two texts with `::` between
 pub chars_path : (first last : List ℕ) → IsUtf8 first → chars (first ++ (codes "::" ++ last)) ≡ chars first ++ codes "::" ++ chars last
 chars_path first last f =
     let colons = IsUtf8-append (58 ∷ []) (58 ∷ []) (utf8_alone 58 (omega arith)) (utf8_alone 58 (omega arith)) in

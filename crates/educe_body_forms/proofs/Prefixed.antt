@@ -28,7 +28,7 @@ digits_continue : (digits : List ℕ) → AllDigits 10 digits → list_all is_xi
 digits_continue [] h = refl
 digits_continue (c ∷ cs) h = and_from _ _ (digit_continues c h.0) (digits_continue cs h.1)
 
--- so do the decimal digits of a place
+-- the decimal digits of a place go on with a word
 decimal_continues : (n : ℕ) → n < 2 ^ 64 → list_all is_xid_continue (decimal n) ≡ true
 decimal_continues n small = digits_continue (decimal n) (decimal_is_IsNumeral n small).0.1
 

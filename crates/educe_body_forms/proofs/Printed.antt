@@ -78,7 +78,7 @@ form_lexemes-IfLet pattern value forms (Some others) =
     λ i. (if_let_head pattern value).tokens ++ (quoted (codes "{") ++ block-items forms i ++ quoted (codes "}"))
     ++ (quoted (codes "else") ++ (quoted (codes "{") ++ block-items others i ++ quoted (codes "}")))
 
--- the same tokens as these forms, with or without braces
+-- a printout has the same tokens as the printouts of these forms, with or without braces
 in_braces-same : (braced : Bool) (inside : Printout) (forms : List Form) → inside.tokens ≡ flat_map form_lexemes forms
     → (in_braces braced inside).tokens ≡ (in_braces braced (each form_printout forms)).tokens
 in_braces-same false inside forms same = same
@@ -110,7 +110,7 @@ inits_in_a_row-items : (n : _) (row : Row_of-Init n) → (inits_in_a_row row).to
 inits_in_a_row-items n end_of-Init = refl
 inits_in_a_row-items n (more_of-Init key value rest) = ap (λ found. (keyed key (form_printout value)).tokens ++ found) (inits_in_a_row-items _ rest)
 
--- the same tokens in the brackets of a form
+-- printouts with the same tokens have them in the brackets of a form
 in_form-same : (form : FieldForm) (x y : Printout) → x.tokens ≡ y.tokens → (in_form form x).tokens ≡ (in_form form y).tokens
 in_form-same Named x y same = ap (λ found. quoted (codes "{") ++ found ++ quoted (codes "}")) same
 in_form-same Unnamed x y same = ap (λ found. quoted (codes "(") ++ found ++ quoted (codes ")")) same

@@ -44,20 +44,20 @@ abbrev pub name_lexemes : Option Ident → List Lexeme
 name_lexemes None = []
 name_lexemes (Some name) = record { kind = kind.Ident; spelling = name.text } ∷ []
 
--- The tokens of a word.
+-- The tokens of one word of a template with names.
 abbrev pub filled_word : List Ident → List ℕ → List Lexeme
 filled_word names word =
     cond (is_slot word) (name_lexemes (slice_get names (slot_of word)))
     (cond (begins_lifetime word) (record { kind = kind.Lifetime; spelling = word } ∷ [])
     (cond (begins_number word) (record { kind = kind.Literal Int; spelling = word } ∷ []) (quoted word)))
 
--- It is such a word.
+-- The word may stand in a template with names: it is a slot, a lifetime, an integer, or a word that a plain template may have.
 abbrev pub fits : List ℕ → Bool
 fits word =
     cond (is_slot word) true
     (cond (begins_lifetime word) (list_all is_ascii word && is_ascii_lifetime word)
     (cond (begins_number word) (list_all is_ascii word && spells (kind.Literal Int) word) (is_template word)))
 
--- The tokens of the template.
+-- The tokens of a template with these names in its slots.
 abbrev pub filled : List Ident → List ℕ → List Lexeme
 filled names text = flat_map (filled_word names) (template_words text)

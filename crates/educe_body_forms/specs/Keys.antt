@@ -34,7 +34,7 @@ fields_of definition = shape_fields definition.shape
 abbrev pub keys_of : DeriveInput → List (List ℕ)
 keys_of definition = keys_from 0 (fields_of definition)
 
--- Each differs from all that follow it.
+-- Each key differs from all that follow it.
 abbrev pub AreDifferent : List (List ℕ) → Type 0
 AreDifferent [] = Unit {0}
 AreDifferent (key ∷ keys) = AllByRecursion (λ later. key ≢ later) keys × AreDifferent keys

@@ -17,14 +17,14 @@ abbrev pub is_ascii_lifetime : List ℕ → Bool
 is_ascii_lifetime [] = false
 is_ascii_lifetime (c ∷ cs) = (c == 39) && is_ascii_name cs
 
--- `'` and a word are a lifetime.
+-- `'` and a word spell a lifetime.
 word_spells : (c : ℕ) (cs : List ℕ) → (c == 39) ≡ true → IsWord cs → IsTrue (spells Lifetime (c ∷ cs))
 word_spells c cs mark word =
     let Spelled : List ℕ → Type 0 = λ word. IsTrue (spells Lifetime (c ∷ word)) in
     let is_word = and_from (is_word_start word.first) (list_all is_xid_continue word.more) word.starts word.continues in
     subst Spelled (sym word.is) (and_from (c == 39) _ mark is_word)
 
--- So a lifetime in ASCII is one.
+-- A lifetime in ASCII spells a lifetime.
 pub ascii_lifetime_spells : (text : List ℕ) → IsTrue (is_ascii_lifetime text) → IsTrue (spells Lifetime text)
 ascii_lifetime_spells [] h = absurd (false≢true h)
 ascii_lifetime_spells (c ∷ cs) h =

@@ -33,7 +33,7 @@ pub record Printout : Type 0 where
 abbrev pub Prints : Printout → List Token → List Token → Type 0
 Prints printout old new = Appends printout.tokens old new
 
--- No tokens.
+-- The printout without tokens.
 abbrev pub nothing : Printout
 nothing = record { tokens = []; printable = printable-nil }
 
@@ -41,19 +41,19 @@ nothing = record { tokens = []; printable = printable-nil }
 abbrev pub says : (text : List ℕ) → is_printable_template text ≡ true → Printout
 says text h = record { tokens = quoted text; printable = printable-quoted text h }
 
--- An identifier.
+-- The printout of an identifier.
 abbrev pub name : Ident → Printout
 name ident = record { tokens = record { kind = kind.Ident; spelling = ident.text } ∷ []; printable = printable-ident ident.text ident.spelled }
 
--- A lifetime.
+-- The printout of a lifetime.
 abbrev pub lifetime : Lifetime → Printout
 lifetime l = record { tokens = record { kind = kind.Lifetime; spelling = l.text } ∷ []; printable = printable-lifetime l.text l.spelled }
 
--- An identifier or an integer.
+-- The printout of an identifier or an integer.
 abbrev pub word : Word → Printout
 word w = record { tokens = word_lexeme w.text ∷ []; printable = printable-word w }
 
--- Tokens as they were written.
+-- The printout of tokens as they were written.
 abbrev pub written : Written → Printout
 written w = record { tokens = written_lexemes w; printable = printable-written w }
 
@@ -103,28 +103,28 @@ pub round_printable : (inside : List Lexeme) → IsPrintable inside → IsPrinta
 unfolding quoted
 round_printable inside h = printable-brackets Round inside h
 
--- So may one in square brackets.
+-- A list in square brackets may stand anywhere.
 pub square_printable : (inside : List Lexeme) → IsPrintable inside → IsPrintable (quoted (codes "[") ++ inside ++ quoted (codes "]"))
 unfolding quoted
 square_printable inside h = printable-brackets Square inside h
 
--- And one in curly brackets.
+-- A list in curly brackets may stand anywhere.
 pub curly_printable : (inside : List Lexeme) → IsPrintable inside → IsPrintable (quoted (codes "{") ++ inside ++ quoted (codes "}"))
 unfolding quoted
 curly_printable inside h = printable-brackets Curly inside h
 
--- In round brackets.
+-- The printout in round brackets.
 abbrev pub in_round : Printout → Printout
 in_round x = record { tokens = quoted (codes "(") ++ x.tokens ++ quoted (codes ")"); printable = round_printable x.tokens x.printable }
 
--- In square brackets.
+-- The printout in square brackets.
 abbrev pub in_square : Printout → Printout
 in_square x = record { tokens = quoted (codes "[") ++ x.tokens ++ quoted (codes "]"); printable = square_printable x.tokens x.printable }
 
--- In curly brackets.
+-- The printout in curly brackets.
 abbrev pub in_curly : Printout → Printout
 in_curly x = record { tokens = quoted (codes "{") ++ x.tokens ++ quoted (codes "}"); printable = curly_printable x.tokens x.printable }
 
--- In angle brackets.
+-- The printout in angle brackets.
 abbrev pub in_angle : Printout → Printout
 in_angle inside = says (codes "<") refl beside inside beside says (codes ">") refl

@@ -84,12 +84,12 @@ entry_key Unnamed = nothing
 entry_key (Named key) = literal_printout key beside says (codes ",") refl
 entry_key (Mapped helper key) = says (codes "&") refl beside name helper beside in_round (literal_printout key) beside says (codes ",") refl
 
--- With true `&`.
+-- With true `&`, and else nothing.
 abbrev pub lender : Bool → Printout
 lender false = nothing
 lender true = says (codes "&") refl
 
--- Both.
+-- What stands before the value of an entry, and with true the `&` of the value.
 abbrev pub entry_front : EntryKey → Bool → Printout
 entry_front key by_reference = entry_key key beside lender by_reference
 
@@ -135,7 +135,7 @@ helper_function formatter = fmt_head (name formatter) beside in_curly (write_str
 abbrev pub helper_impl : Ident → Ident → Printout
 helper_impl helper formatter = says (codes "impl :: core :: fmt :: Debug for") refl beside name helper beside in_curly (helper_function formatter)
 
--- Both.
+-- The helper type for the keys of a map, and its impl of `Debug`.
 abbrev pub helper_printout : Ident → Ident → Printout
 helper_printout helper formatter = helper_struct helper beside helper_impl helper formatter
 
@@ -213,7 +213,7 @@ wrapper_head names = wrapper_start names beside wrapper_type names beside wrappe
 abbrev pub wrapper_impl : ArgumentNames → Printout
 wrapper_impl names = wrapper_head names beside in_curly (wrapper_function names)
 
--- Both.
+-- The type that wraps a field and its method, and its impl.
 abbrev pub wrapper_printout : ArgumentNames → Printout
 wrapper_printout names = wrapper_struct names beside wrapper_impl names
 
@@ -251,7 +251,7 @@ argument_start names = says (codes "let") refl beside name names.argument beside
 abbrev pub argument_block : ArgumentNames → Printout → Written → Written → Printout
 argument_block names x ty path = in_curly (wrapper_printout names beside wrapped names x ty path)
 
--- The same and `;`.
+-- `{ struct W .. impl .. W ( x , | .. | m ( .. ) ) } ;`.
 abbrev pub argument_rest : ArgumentNames → Printout → Written → Written → Printout
 argument_rest names x ty path = argument_block names x ty path beside says (codes ";") refl
 

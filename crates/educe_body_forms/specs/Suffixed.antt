@@ -27,7 +27,7 @@ use Rattle.educe_tree.specs.TokenLaws.{lawful_kinds}
 abbrev pub steps_text : ℕ → List ℕ
 steps_text n = decimal n ++ codes "usize"
 
--- The token that they are.
+-- The token of the decimal digits of a number, and `usize`.
 abbrev pub steps_lexeme : ℕ → Lexeme
 steps_lexeme n = word_lexeme (steps_text n)
 
@@ -39,27 +39,27 @@ digit_is c h =
     let range : IsInRange 48 57 c = digit_from_value c h in
     (grind (arith, nat_tests), grind (arith, nat_tests), grind (arith, nat_tests))
 
--- Each of them is a digit or mark of its base.
+-- Decimal digits are digits or underscores of their base.
 digits_each : (ds : List ℕ) → AllDigits 10 ds → list_all (is_digit_or_mark Decimal) ds ≡ true
 digits_each [] h = refl
 digits_each (c ∷ cs) h = let d = (digit_is c h.0).0 in rw d (digits_each cs h.1)
 
--- None of them is a mark.
+-- No decimal digit is an underscore.
 digits_kept : (ds : List ℕ) → AllDigits 10 ds → filter (λ c. not (c == 95)) ds ≡ ds
 digits_kept [] h = refl
 digits_kept (c ∷ cs) h = let d = (digit_is c h.0).1 in rw d (ap (λ rest. c ∷ rest) (digits_kept cs h.1))
 
--- There is one.
+-- Decimal digits that are not empty have a digit.
 digits_some : (ds : List ℕ) → AllDigits 10 ds → 0 < length ds → has_digit Decimal ds ≡ true
 digits_some [] h some = absurd (omega arith)
 digits_some (c ∷ cs) h some = let d = (digit_is c h.0).0 in rw d refl
 
--- They begin with a digit.
+-- Decimal digits that are not empty begin with a digit.
 pub digits_begin : (ds : List ℕ) → AllDigits 10 ds → 0 < length ds → begins is_ascii_digit ds ≡ true
 digits_begin [] h some = absurd (omega arith)
 digits_begin (c ∷ cs) h some = (digit_is c h.0).2
 
--- So do they with more behind them.
+-- Decimal digits that are not empty, with more behind them, begin with a digit.
 digits_begin-append : (ds more : List ℕ) → AllDigits 10 ds → 0 < length ds → begins is_ascii_digit (ds ++ more) ≡ true
 digits_begin-append [] more h some = absurd (omega arith)
 digits_begin-append (c ∷ cs) more h some = digits_begin (c ∷ cs) h some
@@ -89,6 +89,6 @@ is_usize = refl
 pub steps_spelled : (n : ℕ) → n < 2 ^ 64 → IsTrue (is_name_or_index (steps_text n))
 steps_spelled n small = or_right (spells Ident (steps_text n)) (spells (Literal Int) (steps_text n)) (decimal_suffixed n (codes "usize") small (inr is_usize))
 
--- It may stand anywhere.
+-- The token of a number of steps may stand anywhere.
 pub steps_printable : (n : ℕ) → n < 2 ^ 64 → IsPrintable (steps_lexeme n ∷ [])
 steps_printable n small = printable-word (record { text = steps_text n; spelled = steps_spelled n small })

@@ -249,7 +249,7 @@ comma_where true = says (codes ",") refl
 -- ---- forms that hold forms
 
 abbrev mutual
-  -- One form.
+  -- The printout of a form.
   pub form_printout : Form → Printout
   form_printout (Local ident) = name ident
   form_printout (form.Known known) = known_printout known
@@ -333,7 +333,7 @@ abbrev pub else_with : Option (List Form) → Printout
 else_with None = nothing
 else_with (Some forms) = else_printout (in_curly (each form_printout forms))
 
--- One arm of a match on a value, with or without braces around its forms and a comma behind them.
+-- The printout of one arm of a match on a value, with or without braces around its forms and a comma behind them.
 abbrev pub arm_printout : Arm → Printout
 arm_printout arm =
     pattern_printout arm.pattern beside says (codes "=>") refl beside in_braces arm.braced (each form_printout arm.block) beside comma_where arm.comma
@@ -342,7 +342,7 @@ arm_printout arm =
 abbrev pub match_value_printout : Ident → List Arm → Printout
 match_value_printout value arms = says (codes "match") refl beside name value beside in_curly (each arm_printout arms)
 
--- One field of a value that is built.
+-- The printout of one field of a value that is built.
 abbrev pub init_printout : Init → Printout
 init_printout init = keyed init.key (form_printout init.value)
 

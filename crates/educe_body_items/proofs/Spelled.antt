@@ -16,7 +16,7 @@ use Rattle.educe_body_items.specs.Items.{item_lexemes, tokens_of, spelling}
 abbrev pub ItemLexes : Item → Type 0
 ItemLexes item = LexesAside (text_of (item_lexemes item)) (item_lexemes item)
 
--- so does the text of items
+-- the text of items reads as their tokens
 pub spelling_lexes : (items : List Item) → AllByRecursion ItemLexes items → LexesAside (spelling items) (tokens_of items)
 spelling_lexes [] each = record { pieces = []; reads = refl; carried = refl; tokens_are = refl }
 spelling_lexes (item ∷ items) each =

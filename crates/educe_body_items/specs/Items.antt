@@ -166,7 +166,7 @@ marker_function marker = marker_head marker beside in_curly (marker_call marker)
 abbrev pub marker_printout : MarkerItem → Printout
 marker_printout marker = constant_start marker.attributes beside in_curly (marker_function marker) beside says (codes ";") refl
 
--- One item.
+-- The printout of an item.
 abbrev pub item_printout : Item → Printout
 item_printout (Impl item) = impl_printout item
 item_printout (New item) = inherent_printout item

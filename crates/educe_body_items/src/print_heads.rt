@@ -16,21 +16,21 @@ use std::alloc::{AllocError, Global};
 /// What stands before the block of a trait's function.
 #[derive(Clone, Copy)]
 enum Head {
-    /// That of `PartialEq::eq`.
+    /// The head of `PartialEq::eq`.
     Eq,
-    /// That of `PartialOrd::partial_cmp`.
+    /// The head of `PartialOrd::partial_cmp`.
     PartialCmp,
-    /// That of `Ord::cmp`.
+    /// The head of `Ord::cmp`.
     Cmp,
-    /// That of `Hash::hash`.
+    /// The head of `Hash::hash`.
     Hash,
-    /// That of `Default::default`.
+    /// The head of `Default::default`.
     Default,
-    /// That of `Clone::clone`.
+    /// The head of `Clone::clone`.
     Clone,
-    /// That of `Clone::clone_from`.
+    /// The head of `Clone::clone_from`.
     CloneFrom,
-    /// That of `Debug::fmt`.
+    /// The head of `Debug::fmt`.
     Fmt,
 }
 

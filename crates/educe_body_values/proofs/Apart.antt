@@ -103,7 +103,7 @@ plain_keys-differ place (f ∷ fields) apart small = split f.ident refl (λ name
           more names.1,
         )
 
--- so do the keys without `r#` of all fields
+-- the keys of all fields differ without `r#`
 pub keys_apart : (fields : List Field) → AreApart (field_names fields) → length fields ≤ 2 ^ 64 → AreDifferent (map unraw (keys_from 0 fields))
 keys_apart fields apart small = plain_keys-differ 0 fields apart (omega arith)
 

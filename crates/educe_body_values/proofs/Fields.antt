@@ -20,7 +20,7 @@ false_from_decides : {P : Type 0} (b : Bool) → Decides b P → ¬ P → b ≡ 
 false_from_decides true decides differs = absurd (differs (decides.0 refl))
 false_from_decides false decides differs = refl
 
--- texts that differ are told apart
+-- texts that differ are not equal by their test
 pub bytes_eq-differ : (text other : List ℕ) → text ≢ other → bytes_eq text other ≡ false
 bytes_eq-differ text other differs = false_from_decides (bytes_eq text other) (bytes_eq-Decides text other) differs
 

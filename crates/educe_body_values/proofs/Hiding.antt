@@ -86,11 +86,11 @@ callee_in-printed names path which is =
     callee_in-built_in names path which
     (ap built_in_named (sym (spelling_list path.written.tokens) ∙ sym (lawful_copies.spellings (lexemes path.written.tokens)) ∙ ap (map (λ (x : Lexeme). x.spelling)) is) ∙ path_named which)
 
--- so does the path that is made for it
+-- the path that is made for a built-in function calls it, whatever names are in scope
 pub callee_in-made : (names : List Binding) (path : ExprPath) (which : BuiltIn) → IsBuiltIn which path → callee_in names path ≡ Some (as_callee which)
 callee_in-made names path which is = callee_in-printed names path which is.made.tokens
 
--- two texts are told apart by their characters
+-- two texts are equal where their characters are
 pub chars_test : (a b : List ℕ) → IsUtf8 a → IsUtf8 b → bytes_eq a b ≡ bytes_eq (chars a) (chars b)
 chars_test a b utf8_a utf8_b =
     let spelled = bytes_eq-Decides (chars a) (chars b) in

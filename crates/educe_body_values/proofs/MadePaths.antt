@@ -158,7 +158,7 @@ made_reads : (name : List ℕ) (names : List (List ℕ)) (path : ExprPath) → a
     → IsWhole expr_path path.written.tokens path
 made_reads name names path known made = reads_from depth_limit path.written.tokens name names path refl made.held made.nowhere made.unqualified made.leading made.segments known
 
--- so is the path of each function that is built in
+-- the path that is made for a built-in function is the reading of its tokens
 pub built_in_reads : (which : BuiltIn) (path : ExprPath) → IsMade (path_lexemes which) (path_names which) path → IsBuiltIn which path
 unfolding quoted is_keyword
 built_in_reads Ne path made = record { made = made; reads = made_reads _ _ path refl made }

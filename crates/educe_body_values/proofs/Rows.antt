@@ -68,7 +68,7 @@ pub counted-gathers : (before things : List Thing) (thing : Thing) → counted b
 counted-gathers before things thing all is =
     ap counted is ∙ filter-append counts before (counted (thing ∷ [])) ∙ (λ i. all i ++ counted-once thing (counts thing) refl i) ∙ sym is
 
--- the same arguments count where one more is gathered
+-- the arguments that count do not change where one more is gathered
 counted-gathered : (before things : List Thing) (thing : Thing) (more : List Thing) → things ≡ before ++ counted (thing ∷ []) → counted (things ++ more) ≡ counted (before ++ thing ∷ more)
 counted-gathered before things thing more is =
     filter-append counts things more

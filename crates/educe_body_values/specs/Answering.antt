@@ -10,18 +10,18 @@ use Rattle.educe_body_values.specs.declared.answers.Answer.TheVariants.{Truth, O
 use Rattle.educe_body_values.specs.declared.answers.Row.{Row}
 use Rattle.educe_body_values.specs.declared.answers.Answers.{Answers}
 
--- Values of one type place and one number.
+-- The two values have one type place and one number.
 abbrev pub same_value : FieldValue → FieldValue → Bool
 same_value x y = (x.ty == y.ty) && int_eq x.number y.number
 
--- Both are missing, or both are the same value.
+-- Both arguments are missing, or both are the same value.
 abbrev pub same_argument : Option FieldValue → Option FieldValue → Bool
 same_argument None None = true
 same_argument (Some x) (Some y) = same_value x y
 same_argument None (Some y) = false
 same_argument (Some x) None = false
 
--- The same function that is built in, default values of one type, or functions that are written as one text.
+-- Both are the same built-in function, default values of one type, or functions that are written as one text.
 abbrev pub same_callee : Callee → Callee → Bool
 same_callee Ne Ne = true
 same_callee Cmp Cmp = true

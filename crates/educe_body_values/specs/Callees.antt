@@ -71,7 +71,7 @@ callee_of path = callee_or_text path (built_in path)
 abbrev pub texts : List (Bor (List ℕ)) → List (List ℕ)
 texts words = map (λ word. word.now) words
 
--- These have ASCII characters alone.
+-- The words have ASCII characters alone.
 abbrev pub are_ascii : List (Bor (List ℕ)) → Bool
 are_ascii [] = true
 are_ascii (word ∷ words) = list_all is_ascii word.now && are_ascii words

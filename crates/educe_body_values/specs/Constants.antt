@@ -49,7 +49,7 @@ or_number (Some n) other = Some n
 abbrev pub number_of : Answers → Expr → Option ℤ
 number_of table value = or_number (literal_number value.written.tokens) (text_number table value)
 
--- The same where these names are in scope: a text that has one of them among its identifiers has no number.
+-- The number of an expression where these names are in scope: a text that has one of them among its identifiers has no number.
 abbrev pub number_in : Answers → List Binding → Expr → Option ℤ
 number_in table names value = if names_bound names value.written.tokens then None else number_of table value
 
@@ -84,6 +84,6 @@ arms_number definition table names [] value = None
 arms_number definition table names (arm ∷ arms) value =
     if fits definition arm.pattern value then bare_number table names arm else arms_number definition table names arms value
 
--- The same, of a value that may be missing; the parameter is in scope.
+-- The number that a key function gives for a value that may be missing; the parameter is in scope.
 abbrev pub key_number : DeriveInput → Answers → List Binding → Ident → List KeyArm → Option Value → Option ℤ
 key_number definition table names this arms value = option_and_then (arms_number definition table (names ++ parameter this ∷ []) arms) value

@@ -46,7 +46,7 @@ KeysGive look [] (x ∷ values) = ⊥
 KeysGive look (k ∷ keys) [] = ⊥
 KeysGive look (k ∷ keys) (x ∷ values) = (look k ≡ Some x) × KeysGive look keys values
 
--- Keys of fields.
+-- What holds of the keys of fields.
 pub record KeyLaws : Type 0 where
   -- Where the names of fields are apart, a leading `r#` aside, their keys differ without `r#`.
   pub apart : (fields : List Field) → AreApart (field_names fields) → length fields ≤ 2 ^ 64 → AreDifferent (map unraw (keys_from 0 fields))
@@ -62,9 +62,9 @@ pub record ScopeLaws : Type 0 where
       → callee_in names path ≡ Some (callee_of path)
   -- A path that names a function that is built in calls it, whatever names are in scope.
   pub called : (names : List Binding) (path : ExprPath) (which : BuiltIn) → built_in path ≡ Some which → callee_in names path ≡ Some (as_callee which)
-  -- So does one that is printed as generated code writes it.
+  -- A path that is printed as generated code writes a built-in function calls that function, whatever names are in scope.
   pub printed : (names : List Binding) (path : ExprPath) (which : BuiltIn) → written_lexemes path.written ≡ path_lexemes which → callee_in names path ≡ Some (as_callee which)
-  -- So does the path that is made for it.
+  -- The path that is made for a built-in function calls it, whatever names are in scope.
   pub made : (names : List Binding) (path : ExprPath) (which : BuiltIn) → IsBuiltIn which path → callee_in names path ≡ Some (as_callee which)
   -- An expression whose identifiers are words of the input has the number that it has where no name is in scope.
   pub number : (input : List Token) (table : Answers) (names : List Binding) (value : Expr) → AllByRecursion (IsApart input) names → AreOwnNames input value.written.tokens
@@ -72,55 +72,55 @@ pub record ScopeLaws : Type 0 where
   -- Tokens whose identifiers are words of the input have no name in scope.
   pub free : (input : List Token) (names : List Binding) (tokens : List Token) → AllByRecursion (IsApart input) names → AreOwnNames input tokens → names_bound names tokens ≡ false
 
--- Forms that hold forms.
+-- What holds of forms that hold forms.
 pub record FormLaws : Type 0 where
   -- The value of a call, by the values of its arguments, each where the one before left the names.
   pub call : (scene : Scene) (env : Env) (path : ExprPath) (arguments : List Form) → form_value scene env (Call path arguments) ≡ args_list scene env arguments (call_value scene env.names path)
-  -- Of two arguments that leave the names as they are.
+  -- The value of a call of two arguments that leave the names as they are.
   pub call_two : (scene : Scene) (env : Env) (path : ExprPath) (x y : Form) (a b : Thing) → form_value scene env x ≡ Gives env a → form_value scene env y ≡ Gives env b
       → form_value scene env (Call path (x ∷ y ∷ [])) ≡ call_value scene env.names path env (a ∷ b ∷ [])
-  -- Of the opposite, by the value of what it holds.
+  -- The value of a negation, by the value of what it negates.
   pub negation : (scene : Scene) (env : Env) (held : Form) → form_value scene env (Not held) ≡ go_on (form_value scene env held) opposite
-  -- Of an order in `Some`.
+  -- The value of an order in `Some`, by the value of the order.
   pub in_some : (scene : Scene) (env : Env) (held : Form) → form_value scene env (SomeOf held) ≡ go_on (form_value scene env held) some_of
-  -- Of a test.
+  -- The value of a test, by the value of its condition.
   pub test : (scene : Scene) (env : Env) (held : Form) → form_value scene env (IfReturn held) ≡ go_on (form_value scene env held) unless_true
-  -- Of a return.
+  -- The value of a return, by the value that is returned.
   pub returned : (scene : Scene) (env : Env) (held : Form) → form_value scene env (Return held) ≡ go_on (form_value scene env held) Returns
-  -- Of a match on an order, by the value of what is matched.
+  -- The value of a match on an order, by the value of what is matched.
   pub matches : (scene : Scene) (env : Env) (matched : Form) (partial : Bool) (held : Option (List Form)) (greater less : Ordering)
       → form_value scene env (MatchOrdering matched partial held greater less) ≡ go_on (form_value scene env matched) (order_match partial greater less (held_list scene held))
-  -- Of a match on a value, by the arm that is taken.
+  -- The value of a match on a value, by the arm that is taken.
   pub match_value : (scene : Scene) (env : Env) (name : Ident) (arms : List Arm)
       → form_value scene env (MatchValue name arms) ≡ with_named scene env (look_up env.names name.text) (arms_list scene env arms)
-  -- Of an `if let`, by the forms behind its pattern or the others.
+  -- The value of an `if let`, by the forms behind its pattern or the others.
   pub if_let : (scene : Scene) (env : Env) (pattern : Pattern) (name : Ident) (forms : List Form) (others : Option (List Form))
       → form_value scene env (IfLet pattern name forms others) ≡ with_named scene env (look_up env.names name.text) (if_let_value scene env pattern forms others)
-  -- Of a block, by the values of its forms in order.
+  -- The value of a block, by the values of its forms in order.
   pub block : (scene : Scene) (env : Env) (forms : List Form) → form_value scene env (Block forms) ≡ leave env.names (list_value scene env Nothing forms)
-  -- Of what is fed to a hasher.
+  -- The value of a part that is fed to a hasher, by the value of the form that feeds it.
   pub hashed : (scene : Scene) (env : Env) (held : Form) → form_value scene env (HashPart held) ≡ go_on (form_value scene env held) hash_part
-  -- Of what is built, by the values of its initializers in order, however its fields are written.
+  -- The value of what is built, by the values of its initializers in order, however its fields are written.
   pub construct : (scene : Scene) (env : Env) (name : Option Ident) (written : FieldForm) (inits : List Init)
       → form_value scene env (Construct name written inits) ≡ with_case (case_named scene.definition name) (built_value scene env inits)
-  -- Of an assignment to a field of `self`, by the value that is assigned.
+  -- The value of an assignment to a field of `self`, by the value that is assigned.
   pub assign_field : (scene : Scene) (env : Env) (key : Word) (path : ExprPath) (held : Form) (handed : Bool)
       → form_value scene env (AssignField key path held handed) ≡ go_on (form_value scene env held) (assign scene path handed (field_named scene key.text))
-  -- Of an assignment to what a name stands for, by the value that is assigned.
+  -- The value of an assignment to what a name stands for, by the value that is assigned.
   pub assign_through : (scene : Scene) (env : Env) (name : Ident) (path : ExprPath) (held : Form) (handed : Bool)
       → form_value scene env (AssignThrough name path held handed) ≡ go_on (form_value scene env held) (assign scene path handed (look_up env.names name.text))
-  -- Of a text that is written.
+  -- The value of a text that is written.
   pub write_text : (scene : Scene) (env : Env) (formatter : Ident) (text : LiteralText) → form_value scene env (WriteText formatter text) ≡ text_flow env (look_up env.names formatter.text) text.text
-  -- Of a helper type.
+  -- The value of the declaration of a helper type.
   pub helper_type : (scene : Scene) (env : Env) (helper formatter : Ident) → form_value scene env (HelperType helper formatter) ≡ declared env helper.text Helper
-  -- Of a builder that is begun.
+  -- The value of a builder that is begun.
   pub builder : (scene : Scene) (env : Env) (builder formatter : Ident) (opening : Opening)
       → form_value scene env (Builder builder formatter opening) ≡ builder_flow env (look_up env.names formatter.text) builder.text opening
-  -- Of an entry, by the value that it shows, be it a reference to this or not.
+  -- The value of an entry, by the value that it shows, be it a reference to this or not.
   pub entry : (scene : Scene) (env : Env) (builder : Ident) (key : EntryKey) (held : Form) (by_reference : Bool)
       → form_value scene env (BuilderEntry builder key held by_reference) ≡ go_on (form_value scene env held) (entry_flow (look_up env.names builder.text) key)
-  -- Of the argument of a method, by the field that it is made of.
+  -- The value of the argument of a method, by the field that it is made of.
   pub argument : (scene : Scene) (env : Env) (own : ArgumentNames) (held : Form) (type : Written) (path : ExprPath)
       → form_value scene env (MethodArgument own held type path) ≡ go_on (form_value scene env held) (argument_flow own type path)
-  -- Of the end of a builder.
+  -- The value of the end of a builder.
   pub finish : (scene : Scene) (env : Env) (builder : Ident) → form_value scene env (Finish builder) ≡ finished env (look_up env.names builder.text)

@@ -81,11 +81,11 @@ scene scope answers = record {
   field = None;
 }
 
--- The same over a stage, which may be in an initializer.
+-- The values that a stage refers to, and the table; the stage may be in an initializer.
 abbrev pub scene_at : Stage → Scene
 scene_at stage = record (scene stage.scope.now stage.answers.now) { field = option_copied stage.field }
 
--- The same where the initializer of this field is evaluated.
+-- The values and the table where the initializer of this field is evaluated.
 abbrev pub for_field : Scene → Field → Scene
 for_field scene field = record scene { field = Some field }
 
@@ -175,7 +175,7 @@ abbrev pub referent_at : Option Referent → ℕ → FieldValue → Referent
 referent_at (Some This) place x = OwnField place
 referent_at found place x = Bound x
 
--- The same of fields, the first of which is at a place.
+-- What the fields of the value of a name stand for where a pattern binds them; the first field has this place.
 abbrev pub fields_from : Option Referent → ℕ → List FieldValue → List Referent
 fields_from found place [] = []
 fields_from found place (x ∷ xs) = referent_at found place x ∷ fields_from found (place + 1) xs
@@ -347,7 +347,7 @@ unless_true env (Truth true) = Returns env (Truth false)
 unless_true env (Truth false) = Gives env Nothing
 unless_true env thing = Stuck
 
--- The opposite truth.
+-- Gives the opposite of a truth.
 abbrev pub opposite : Env → Thing → Flow
 opposite env (Truth b) = Gives env (Truth (not b))
 opposite env thing = Stuck
@@ -372,7 +372,7 @@ abbrev pub with_made : Option FieldValue → (FieldValue → Flow) → Flow
 with_made None next = Stuck
 with_made (Some x) next = next x
 
--- The same of what a form gives.
+-- Goes on with the value that a form made, where it made one.
 abbrev pub if_made : (Env → FieldValue → Flow) → Env → Thing → Flow
 if_made next env thing = with_made (made_value thing) (next env)
 
@@ -382,7 +382,7 @@ order_arm env above below Equal = Gives env Nothing
 order_arm env above below Greater = Returns env (Order above)
 order_arm env above below Less = Returns env (Order below)
 
--- The same in `Some`, and none is returned.
+-- The arm of an order in `Some`: Equal goes on, Greater and Less return their orders in `Some`, and none is returned as none.
 abbrev pub partial_arm : Env → Ordering → Ordering → Option Ordering → Flow
 partial_arm env above below None = Returns env (PartialOrder None)
 partial_arm env above below (Some Equal) = Gives env Nothing
@@ -466,7 +466,7 @@ with_target false target next = next []
 with_target true None next = Stuck
 with_target true (Some x) next = next (Part x ∷ [])
 
--- This is assigned to what a name stands for.
+-- The value is assigned to what a name stands for.
 abbrev pub stored : Option Referent → Env → FieldValue → Flow
 stored target env x = with_own env (assigned target x env.own)
 
@@ -547,7 +547,7 @@ abbrev pub entered : EntryKey → Env → Option DebugShape → Thing → Flow
 entered key env None thing = Stuck
 entered key env (Some shown) thing = if fits_form env.names shown.form key then added env shown (entry_of (key_text key) env.arguments thing) else Stuck
 
--- The same where the name is that of the builder.
+-- An entry with this key and value is added to what is shown, where the name is that of the builder.
 abbrev pub entry_flow : Option Referent → EntryKey → Env → Thing → Flow
 entry_flow (Some BuilderName) key env thing = entered key env env.shown thing
 entry_flow found key env thing = Stuck
@@ -776,7 +776,7 @@ abbrev pub param_referent : List Word → Referent
 param_referent (param ∷ []) = Other
 param_referent params = Inert
 
--- These names, each of which stands for the same.
+-- The bindings of these names, each of which stands for the same.
 abbrev pub all_bound : Referent → List Word → List Binding
 all_bound referent names = map (λ (name : Word). record { name = name.text; referent = referent }) names
 

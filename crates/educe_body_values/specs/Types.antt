@@ -1,4 +1,4 @@
--- The types of fields, told apart by their tokens, and default values of these types.
+-- The types of fields, distinguished by their tokens, and default values of these types.
 use Rattle.std.specs.Prelude.{◌≡◌, ℕ, ◌+◌, ◌^◌, ◌≤◌, nat_lt, Bool, List, [], ◌∷◌, ◌++◌, Option, Some, None, if◌then◌else◌, codes}
 use Rattle.std.specs.Cmp.Lexicographic.{pointwise}
 use Rattle.std.specs.Str.{bytes_eq}
@@ -67,6 +67,6 @@ text_callee definition None written = written_callee written
 text_callee definition (Some field) written =
     if calls_default written field then default_of (type_place definition (type_spellings field)) else written_callee written
 
--- The same where these names are in scope: tokens that have one of them among their identifiers call nothing.
+-- What tokens call where these names are in scope: tokens that have one of them among their identifiers call nothing.
 abbrev pub pasted_callee : DeriveInput → Option Field → List Binding → Written → Option Callee
 pasted_callee definition field names written = if names_bound names written.tokens then None else text_callee definition field written

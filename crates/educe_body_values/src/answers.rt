@@ -32,7 +32,7 @@ pub struct Row {
 }
 
 impl Row {
-    /// The same row.
+    /// A copy of the row.
     pub fn duplicate(&self, alloc: Global) -> Result<Row, AllocError>
         ensures { IfOk result (λ row. row ≡ self.now) }
     {

@@ -82,7 +82,7 @@ impl BuiltIn {
 }
 
 impl Callee {
-    /// The same callee.
+    /// A copy of the callee.
     pub fn duplicate(&self, alloc: Global) -> Result<Callee, AllocError>
         ensures { IfOk result (λ callee. callee ≡ self.now) }
     {

@@ -72,7 +72,7 @@ impl Bindings {
         }
     }
 
-    /// How many there are.
+    /// How many bindings there are.
     pub fn len(&self) -> usize
         ensures { result ≡ length self.now }
     {

@@ -15,7 +15,7 @@ pub struct Stage<'a> {
 }
 
 impl<'a> Stage<'a> {
-    /// The same where the initializer of a field is evaluated.
+    /// The stage in which the initializer of a field is evaluated.
     pub fn for_field(&self, field: &'a Field) -> Stage<'a>
         ensures { scene_at result ≡ for_field (scene_at self.now) field.entry.now }
     {

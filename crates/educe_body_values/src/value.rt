@@ -4,8 +4,8 @@ ghost use Rattle.std.specs.Prelude.{◌≡◌, ◌++◌, IfOk};
 use educe_tokens::Seq;
 use std::alloc::{AllocError, Global};
 
-/// The value of a field. The type is the place, counted over all fields of the definition, of the
-/// first field whose type has the same tokens; the number tells the values of one type apart.
+/// The value of a field. The type is the place, counted over all fields of the definition, of the first field
+/// whose type has the same tokens; the number distinguishes the values of one type.
 #[derive(Clone, Copy, Debug, PartialEq, Eq)]
 pub struct FieldValue {
     pub ty: u32,
@@ -23,7 +23,7 @@ pub struct Value {
 }
 
 impl Value {
-    /// The same value.
+    /// A copy of the value.
     pub fn duplicate(&self, alloc: Global) -> Result<Value, AllocError>
         ensures { IfOk result (λ value. value ≡ self.now) }
     {

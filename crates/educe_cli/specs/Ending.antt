@@ -5,13 +5,13 @@ use Rattle.educe_core.specs.Run.{Answers}
 use Rattle.educe_core.specs.Status.{Status}
 use Rattle.educe_core.specs.Statuses.{code_of}
 
--- It was run over these words, and its exit status is that of the answer.
+-- The program ran over these words, and its exit status is that of the answer.
 pub record EndsAsRun (words : List (List ℕ)) (source sink notes : Change) (code : ℕ) : Type 0 where
   pub status : Status
   pub answers : Answers words source sink notes status
   pub coded : code ≡ code_of status
 
--- It was not run, its exit status is 8, and no device was touched.
+-- The program did not run: its exit status is 8, and no device was touched.
 pub record EndsUnrun (source sink notes : Change) (code : ℕ) : Type 0 where
   pub coded : code ≡ 8
   pub source_kept : IsUnchanged source

@@ -32,8 +32,8 @@ impl TraitHandler for OrdHandler {
     }
 }
 
-/// Its part that takes structs.
+/// The part of the handler of `Ord` that takes structs.
 pub type OrdStructHandler = StructPart<OrdHandler>;
 
-/// Its part that takes enums.
+/// The part of the handler of `Ord` that takes enums.
 pub type OrdEnumHandler = EnumPart<OrdHandler>;

@@ -32,8 +32,8 @@ impl TraitHandler for PartialEqHandler {
     }
 }
 
-/// Its part that takes structs.
+/// The part of the handler of `PartialEq` that takes structs.
 pub type PartialEqStructHandler = StructPart<PartialEqHandler>;
 
-/// Its part that takes enums.
+/// The part of the handler of `PartialEq` that takes enums.
 pub type PartialEqEnumHandler = EnumPart<PartialEqHandler>;

@@ -32,8 +32,8 @@ impl TraitHandler for PartialOrdHandler {
     }
 }
 
-/// Its part that takes structs.
+/// The part of the handler of `PartialOrd` that takes structs.
 pub type PartialOrdStructHandler = StructPart<PartialOrdHandler>;
 
-/// Its part that takes enums.
+/// The part of the handler of `PartialOrd` that takes enums.
 pub type PartialOrdEnumHandler = EnumPart<PartialOrdHandler>;

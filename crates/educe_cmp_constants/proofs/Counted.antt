@@ -17,7 +17,7 @@ pub record IsCounted (ty : DiscriminantType) (base : List ℕ) (variants : List 
   pub reached : steps ≤ place
   pub onward : (rest : List Constant) → AllZip (IsConstant ty base) (counted_from near steps (drop place variants)) rest → AllZip (IsConstant ty base) (counted_from None 0 variants) (found ++ rest)
 
--- those from a variant on, by its discriminant
+-- the constants that are counted from a variant on, by its discriminant
 abbrev counted_by : Option Expr → ℕ → Variant → List Variant → Option Expr → List Counted
 counted_by near steps v vs o =
     elim o [
@@ -59,7 +59,7 @@ counted_more ty base variants place value steps d v found more constant count ne
           (record { value_is = subst (IsBase near) (sym same) base_is; distance_is = distance_is }, side)));
     }
 
--- the same by what is told of the nearest expression and its distance
+-- one variant on, by what is given of the nearest expression and its distance
 pub counted_next : (ty : DiscriminantType) (base : List ℕ) (variants : List Variant) (place : ℕ) (value : Expr) (steps : ℕ) (d v : Variant) (found more : List Constant) (constant : Constant)
     (count : ℕ) (next : Expr) → place < length variants → v ≡ get_or variants place d → IsCounted ty base variants place value steps found
     → ((own : Expr) → v.discriminant ≡ Some own → (next ≡ own) × (count ≡ 0)) → (v.discriminant ≡ None → (next ≡ value) × (count ≡ steps))

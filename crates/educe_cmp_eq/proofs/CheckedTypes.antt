@@ -35,7 +35,7 @@ visited_kept : (d : DeriveInput) (cases : List (List Field)) (visited : List Kep
 visited_kept d [] visited are = are
 visited_kept d (fields ∷ cases) visited are = are.2 ∙ (λ i. are.3 i ++ visited_kept d cases are.1 are.4 i)
 
--- so the types that are seen are those that are checked
+-- the types that are seen are those that are checked
 pub seen_checked : (d : DeriveInput) (before after : SeenTypes) → touched_of before ≡ [] → Sees PartialEq d (cases_of d) before after → touched_of after ≡ checked_with true d
 seen_checked d before after none sees = sees.touched_is ∙ ap (λ front. front ++ touched_types sees.own) none ∙ ap touched_types (visited_kept d (cases_of d) sees.own sees.own_are)
 

@@ -39,7 +39,8 @@ fn see_case<'d>(
     Ok(())
 }
 
-/// The same of a variant.
+/// Sees the types of the fields of a variant that take part. It is rejected exactly where an attribute of the
+/// variant or of a field, or a rank, is wrong, or memory fails.
 fn see_variant<'d>(
     alloc: Global,
     task: Task<'d, '_>,
@@ -55,7 +56,8 @@ fn see_variant<'d>(
     Ok(())
 }
 
-/// The same of each variant.
+/// Sees the types of the fields of each variant that take part. It is rejected exactly where an attribute of
+/// a variant or of a field, or a rank, is wrong, or memory fails.
 fn see_variants<'d>(
     alloc: Global,
     task: Task<'d, '_>,

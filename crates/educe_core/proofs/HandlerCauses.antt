@@ -194,7 +194,7 @@ module _ (tokens : List Token) (d : DeriveInput) (placed : IsDefinitionPlaced to
       let all = subst (λ (s : Shape). AreFieldsPlaced tokens (shape_fields s)) is placed.fields in
       one_among (λ (v : Variant). AreFieldsPlaced tokens (fields_in v)) variants variant (each_apart (IsFieldPlaced tokens) fields_in variants all) among
 
-  -- so does the later of two marks
+  -- the later of two marks stands among the tokens
   twice_placed : (place : Span) → AreMarkedTwice d place → Starts place
   twice_placed place twice =
       let all = subst (λ (s : Shape). AllByRecursion (IsVariantPlaced tokens) (shape_variants s)) twice.chooses.is placed.variants in

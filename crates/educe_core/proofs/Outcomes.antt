@@ -10,12 +10,12 @@ use Rattle.educe_core_devices.specs.Status.{IsUnlessStopped}
 use Rattle.educe_core.specs.Run.{Answers, IsLine, ReadsAll, ReadsTooMuch, expand_words}
 use Rattle.educe_core.specs.Headline.{IsCause, IsValid}
 
--- what holds of every value holds of one that is told
+-- what holds of every value holds of one that is given
 told-any : {A : Type 0} {P : A → Type 0} (told : Option A) → ((x : A) → P x) → IfSome told P
 told-any None every = tt
 told-any (Some x) every = every x
 
--- what follows from being the whole input holds of the told bytes
+-- what follows from being the whole input holds of the reported bytes
 told-whole : {P : List ℕ → Type 0} (before after : Option (List ℕ)) (input : List ℕ) → before ≡ ahead input after → IsAtEnd after → ((x : List ℕ) → x ≡ input → P x) → IfSome before P
 told-whole None after input taken end follows = tt
 told-whole (Some x) None input taken end follows = cc
@@ -26,7 +26,7 @@ told-whole (Some x) (Some rest) input taken end follows =
 whole-is : {P : List ℕ → Type 0} (source : Change) (input : List ℕ) → ReadsAll source input → ((x : List ℕ) → x ≡ input → P x) → IfSome source.before P
 whole-is source input reads follows = told-whole source.before source.after input reads.taken reads.end follows
 
--- what follows from having more bytes than the limit holds of the told bytes
+-- what follows from having more bytes than the limit holds of the reported bytes
 told-long : {P : List ℕ → Type 0} (before after : Option (List ℕ)) (input : List ℕ) → before ≡ ahead input after → length input ≡ 131_073 → ((x : List ℕ) → 131_072 < length x → P x)
     → IfSome before P
 told-long None after input taken long follows = tt

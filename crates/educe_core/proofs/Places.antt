@@ -38,7 +38,7 @@ module _ (source : List ℕ) (utf8 : IsUtf8 source) where
   beginning = IsCharBoundary-start source utf8
 
   module _ (tokens : List Token) (are : IsReading (chars source) tokens) where
-    -- so it is where each token starts, and where it ends
+    -- a character begins, or the source ends, where each token starts and where it ends
     tokens_begin : AllByRecursion (λ (t : Token). Begins t.span.start × Begins t.span.end) tokens
     tokens_begin =
         all_from (IsSlice source) (λ (t : Token). Begins t.span.start × Begins t.span.end) tokens (λ t slice. (slice.starts, slice.ends)) (lawful_lexing.slices source tokens utf8 are.lexes)

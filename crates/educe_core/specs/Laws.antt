@@ -12,12 +12,12 @@ use Rattle.educe_core.specs.Headline.{Defines, IsValid, IsCause}
 
 -- What holds of each text.
 pub record ExpansionLaws : Type 0 where
-  -- It is a definition within the limits whose names are apart, or it has a cause.
+  -- Each text is a definition within the limits whose names are apart, or it has a cause of a rejection.
   pub defined_or_refused : (source : List ℕ) → ((d : DeriveInput) × Defines (chars source) d) ⊎ HasCause (IsCause source)
-  -- If no tokens of it are a definition within the limits, it has a cause `Syntax`, `TooDeep` or `NotCarried`.
+  -- If no tokens of a text are a definition within the limits, the text has a cause `Syntax`, `TooDeep` or `NotCarried`.
   pub unread_refused : (source : List ℕ) → ((found : List Token) → IsReading (chars source) found → (d : DeriveInput) → IsWhole definition found d → ⊥)
       → (e : EduceError) × (IsCause source e × ((e.kind ≡ Syntax) ⊎ ((e.kind ≡ TooDeep) ⊎ (e.kind ≡ NotCarried))))
-  -- If it has no cause, it is valid.
+  -- A text without a cause of a rejection is valid.
   pub valid_if_uncaused : (source : List ℕ) → ((e : EduceError) → IsCause source e → e.kind ≡ Alloc) → IsValid source
-  -- If it is valid, it has no cause.
+  -- A valid text has no cause of a rejection.
   pub uncaused_if_valid : (source : List ℕ) → IsValid source → (e : EduceError) → IsCause source e → e.kind ≢ Alloc → ⊥

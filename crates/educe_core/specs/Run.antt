@@ -31,7 +31,7 @@ refusal_line source error =
     decimal (line_of source error.span.start) ++ codes ":" ++ decimal (column_of source error.span.start) ++ codes ": "
     ++ message_of error.kind error.words ++ codes "\n"
 
--- This is the whole input, within the limit of 131,072 bytes, and no read failed.
+-- The input is the whole of what the source held, within the limit of 131,072 bytes, and no read failed.
 pub record ReadsAll (source : Change) (input : List ℕ) : Type 0 where
   pub taken : source.before ≡ ahead input source.after
   pub end : IsAtEnd source.after

@@ -5,17 +5,17 @@ use Rattle.std.specs.Prelude.{◌≡◌, ℕ, ◌+◌, ◌-◌, ◌^◌, ◌<◌
 abbrev pub Rose : ℕ → ℕ → Type 0
 Rose before now = min (before + 1) (2 ^ 64 - 1) ≤ now
 
--- These bytes, and then the told ones.
+-- These bytes, and then the reported ones.
 abbrev pub ahead : List ℕ → Option (List ℕ) → Option (List ℕ)
 ahead bytes None = None
 ahead bytes (Some told) = Some (bytes ++ told)
 
--- The told bytes, and then these.
+-- The reported bytes, and then these.
 abbrev pub behind : Option (List ℕ) → List ℕ → Option (List ℕ)
 behind None bytes = None
 behind (Some told) bytes = Some (told ++ bytes)
 
--- No told byte is left.
+-- No reported byte is left.
 abbrev pub IsAtEnd : Option (List ℕ) → Type 0
 IsAtEnd told = IfSome told (λ bytes. bytes ≡ [])
 
@@ -23,7 +23,7 @@ IsAtEnd told = IfSome told (λ bytes. bytes ≡ [])
 abbrev pub EndsOnNothing : ℕ → List ℕ → Option (List ℕ) → Type 0
 EndsOnNothing count room left = count ≡ 0 → 0 < length room → IsAtEnd left
 
--- Of a nonempty piece at least one byte is taken.
+-- At least one byte of a nonempty piece is taken.
 abbrev pub TakesSome : ℕ → List ℕ → Type 0
 TakesSome count piece = 0 < length piece → 0 < count
 
@@ -50,7 +50,7 @@ pub record IsUnchanged (device : Change) : Type 0 where
   pub bytes : device.after ≡ device.before
   pub faults : device.faults_after ≡ device.faults_before
 
--- A device that might fail did.
+-- A device that may fail has failed.
 pub record Fails (device : Change) : Type 0 where
   pub rose : Rose device.faults_before device.faults_after
   pub might : IsTrue device.may_fail

@@ -4,7 +4,7 @@ use Rattle.educe_core_devices.specs.Devices.{Change, Gains, FailsWithin, RunsSho
 use Rattle.educe_core_devices.specs.declared.status.Status.{Status}
 use Rattle.educe_core_devices.specs.declared.status.Status.TheVariants.{Done, Refused, Usage, ReadFault, WriteFault, TooLong, NotUtf8, NoMemory}
 
--- The exit status.
+-- The exit status of an answer.
 abbrev pub code_of : Status → ℕ
 code_of Done = 0
 code_of (Refused error) = 1

@@ -39,7 +39,7 @@ impl From<AllocError> for Stopped {
 
 /// Where bytes come from.
 pub trait Source {
-    /// The bytes that are left, where the source tells them.
+    /// The bytes that are left, where the source reports them.
     ghost left: { Self → Option (List ℕ) };
 
     /// How often a call has failed, up to the last value of a `u64`.
@@ -64,7 +64,7 @@ pub trait Source {
 
 /// Where bytes go.
 pub trait Sink {
-    /// The bytes that the sink holds, where it tells them.
+    /// The bytes that the sink holds, where it reports them.
     ghost held: { Self → Option (List ℕ) };
 
     /// How often a call has failed, up to the last value of a `u64`.

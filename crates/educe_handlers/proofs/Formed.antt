@@ -35,7 +35,7 @@ pub block_with : (which : Trait) (d : DeriveInput) (AreRight : List Function →
     → AreRight functions → IsImplBlock which d AreRight items
 block_with which d AreRight functions items is right = record { item = is.item; are = is.are; impl_is = impl_with which d AreRight functions is.item is.impl_is right }
 
--- so it is where their one function has a body that is as it is to be
+-- the block that is the impl with one function, where the function has a body that is as it is to be
 pub function_block : (which : Trait) (d : DeriveInput) (name : List ℕ) (IsRight : Body → Type 0) (body : Body) (functions : List Function) (items : List Item)
     → IsFunction name (λ own. own ≡ body) functions → IsRight body → IsImplBlock which d (λ own. own ≡ functions) items → IsImplBlock which d (IsFunction name IsRight) items
 function_block which d name IsRight body functions items named right is =

@@ -122,7 +122,7 @@ module _ (which : Trait) (d : DeriveInput) where
       → NoCause (OfVariant which d variant)
   variant_uncaused variant of_variant of_case = record { none_stands = λ e cause. elim cause [ inl own ↦ of_variant.none_stands e own | inr case ↦ of_case.none_stands e case ] }
 
-  -- so it is with the variants of an enum
+  -- the variants of an enum, none of which has a cause, have none
   pub variants_uncaused : (variants : List Variant) → AllByRecursion (λ variant. NoCause (OfVariant which d variant)) variants → NoCause (OfShape which d (Enum variants))
   variants_uncaused variants each = record {
     none_stands = λ e cause. (In-all (λ variant. NoCause (OfVariant which d variant)) variants cause.0 each (among_in cause.0 variants cause.1)).none_stands e cause.2;
@@ -151,13 +151,13 @@ module _ (which : Trait) (d : DeriveInput) where
 
   -- ---- causes of places are causes of what stands behind the name
 
-  -- those of a variant
+  -- the causes of a variant's attributes are causes of the shape
   variant_behind : (shape : Shape) (variant : Variant) → In variant (shape_variants shape) → (e : EduceError)
       → OfPlace which (variant_row which) (listed d) variant.attrs e → OfShape which d shape e
   variant_behind (Struct shape) variant found e cause = absurd found
   variant_behind (Enum variants) variant found e cause = (variant, in_among variant variants found, inl cause)
 
-  -- those of a field
+  -- the causes of a field's attributes are causes of the shape
   field_behind : (shape : Shape) (field : Field) → In field (shape_fields shape) → (e : EduceError)
       → OfField which (field_row which) (listed d) field.attrs e → OfShape which d shape e
   field_behind (Struct shape) field found e cause = inl (field, in_among field shape.fields found, cause)
@@ -165,7 +165,7 @@ module _ (which : Trait) (d : DeriveInput) where
       let (variant, outer, inner) = in_one_of fields_in variants field found in
       (variant, in_among variant variants outer, inr (inl (field, in_among field (fields_in variant) inner, cause)))
 
-  -- and those of a rank
+  -- the causes of a rank are causes of the shape
   rank_behind : (shape : Shape) (fields : List Field) → In fields (shape_cases shape) → (e : EduceError) → IsRankCause which d fields e → OfShape which d shape e
   rank_behind (Struct shape) fields (inl here) e cause = inr (subst (λ own. IsRankCause which d own e) (sym here) cause)
   rank_behind (Struct shape) fields (inr later) e cause = absurd later
@@ -215,13 +215,13 @@ module _ (which : Trait) (d : DeriveInput) (shape_uncaused : NoCause (OfShape wh
       field_uncaused (all_fields d) (each_in (all_fields d))
 
   module _ (type_uncaused : NoCause (OfPlace which (type_row which d) (listed d) d.attrs)) where
-    -- nor has a list of a place
+    -- no list of a place has a cause
     lists_uncaused : (e : EduceError) → IsListsCause d e → ⊥
     lists_uncaused e cause =
         lists_clear d e (λ found. type_uncaused.none_stands e (inl found)) (λ variant found own. shape_uncaused.none_stands e (variant_behind which d d.shape variant found e (inl own)))
         (λ field found own. (field_uncaused field found).none_stands e (inl own)) cause
 
-    -- nor has the trait, where it is listed
+    -- the trait has no cause, where it is listed
     own_uncaused : IsClear which d → is_listed (listed d) which ≡ true → (e : EduceError) → IsFieldwiseCause which d e → ⊥
     own_uncaused clear is_one e (IsFieldwiseCause.by_type said) = type_uncaused.none_stands e (inr (is_one, said))
     own_uncaused clear is_one e (IsFieldwiseCause.by_variant variant among said) =
@@ -232,7 +232,7 @@ module _ (which : Trait) (d : DeriveInput) (shape_uncaused : NoCause (OfShape wh
         shape_uncaused.none_stands e (rank_behind which d d.shape fields (among_in fields (shape_cases d.shape) among) e cause)
     own_uncaused clear is_one e (IsFieldwiseCause.by_copy clones lists said) = clear.copy e clones lists said
 
-    -- so the handler has none
+    -- the handler has no cause, where its trait is listed
     pub handler_uncaused : IsClear which d → IsTrue (is_fieldwise which) → is_listed (listed d) which ≡ true → NoCause (OfHandler (handling d) which)
     handler_uncaused clear fieldwise is_one = record {
       none_stands = λ e cause. elim cause [

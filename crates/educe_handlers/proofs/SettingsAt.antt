@@ -13,7 +13,7 @@ use Rattle.educe_laws.specs.Settings.{settings_of}
 use Rattle.educe_handlers.proofs.Growing.{image_at}
 
 module _ (which : Trait) (d : DeriveInput) where
-  -- those of variants, variant by variant
+  -- the settings of the fields of variants, variant by variant
   settings_of_variants : (variants : List Variant) → settings_in which d (map fields_in variants) ≡ map (λ v. map (settings_of which d) (fields_in v)) variants
   settings_of_variants [] = refl
   settings_of_variants (v ∷ vs) = ap (λ rest. map (settings_of which d) (fields_in v) ∷ rest) (settings_of_variants vs)
@@ -23,14 +23,14 @@ module _ (which : Trait) (d : DeriveInput) where
     pub settings_each : length all ≡ length variants
     settings_each = ap length (are ∙ settings_of_variants variants) ∙ length-map variants (λ v. map (settings_of which d) (fields_in v))
 
-    -- those of the variant at a place
+    -- the settings of the fields of the variant at a place
     pub settings_at : (i : ℕ) (v : Variant) (own : List FieldSettings) → i < length variants → v ≡ get_or variants i v → own ≡ get_or all i own
         → own ≡ map (settings_of which d) (fields_in v)
     settings_at i v own less item image =
         image_at (λ v. map (settings_of which d) (fields_in v)) variants all i v own (are ∙ settings_of_variants variants) less item image
 
   module _ (shape : FieldShape) (is : d.shape ≡ Struct shape) (all : List (List FieldSettings)) (are : all ≡ settings_in which d (cases_of d)) where
-    -- those of the one case of a struct
+    -- the settings of the fields of the one case of a struct
     only_case : all ≡ map (settings_of which d) shape.fields ∷ []
     only_case = are ∙ ap (λ s. settings_in which d (shape_cases s)) is
 

@@ -215,7 +215,7 @@ module _ {X : Type 0} (rank place : X → ℤ) where
       by_order Equal not_less m = inr (sym m, tie (sym m))
       by_order Greater not_less m = inl m
 
-  -- the same in a list that a stable sort by rank made of one in which the places rose
+  -- of two elements of one rank, in a stable sort by rank of a list in which the places rise, the one of greater place is second
   pub second_from_sort : (xs ys : List X) → Rises place xs → IsPermutation xs ys → IsSortedByKey rank int_cmp ys → IsStableByKey rank int_cmp xs ys
       → (a b : X) → In a ys → In b ys → rank a ≡ rank b → place a <ℤ place b → IsSecond ys b
   second_from_sort xs ys rises moved up stable a b has_a has_b same lower =

@@ -22,7 +22,7 @@ use Rattle.educe_laws.specs.Types.{AreVisited, AreOfFields, type_of, touched_by,
 pub mapped_more : {A B : Type 0} (f : A → B) (xs : List A) (i : ℕ) (d x : A) → i < length xs → x ≡ get_or xs i d → map f (take (i + 1) xs) ≡ map f (take i xs) ++ f x ∷ []
 mapped_more f xs i d x less item = ap (map f) (take_more xs i d less) ∙ map-append f (take i xs) (get_or xs i d ∷ []) ∙ ap (λ y. map f (take i xs) ++ f y ∷ []) (sym item)
 
--- those that are read, of two lists of fields
+-- the types that are read, of two lists of fields
 read-append : (front back : List Kept) → read_types (front ++ back) ≡ read_types front ++ read_types back
 read-append front back = map-append type_of front back
 

@@ -12,11 +12,11 @@ use Rattle.educe_tokens.specs.Spells.{IsWord}
 first_same : (x y : ℕ) (xs ys : List ℕ) → x ∷ xs ≡ y ∷ ys → x ≡ y
 first_same x y xs ys h = cc
 
--- And equal rests.
+-- Equal lists have equal rests.
 rest_same : (x y : ℕ) (xs ys : List ℕ) → x ∷ xs ≡ y ∷ ys → xs ≡ ys
 rest_same x y xs ys h = cc
 
--- That a test holds is one fact.
+-- Any two proofs that a test holds are equal.
 IsTrue-prop : (b : Bool) → IsProp (IsTrue b)
 IsTrue-prop b = hlevel (Bool-set)
 

@@ -30,8 +30,8 @@ pub fn bound_of_type(alloc: Global, task: Task<'_, '_>) -> Result<Bound, Stop>
     Ok(bound_said(bound))
 }
 
-/// The same of a trait for which it makes no difference what else is said. It is rejected exactly where
-/// an `educe` list or an attribute of the trait is wrong, or memory fails.
+/// The bound that the type says for a trait for which it makes no difference what else is said. It is
+/// rejected exactly where an `educe` list or an attribute of the trait is wrong, or memory fails.
 pub fn checked_bound(alloc: Global, task: Task<'_, '_>) -> Result<Bound, Stop>
     requires listed { task.listed.now ≡ listing.listed task.ast.now }
     requires lists { is_listed task.listed.now task.which ≡ true }

@@ -21,7 +21,7 @@ fn attributes(alloc: Global, ast: &DeriveInput) -> Result<Written, AllocError>
     Ok(Written::new(TokenSlice::new(alloc, tokens)?))
 }
 
-/// Those of items that are no impls of traits: the attributes that set the levels of lints.
+/// The attributes of items that are no impls of traits: those that set the levels of lints.
 pub fn lint_attributes(alloc: Global, ast: &DeriveInput) -> Result<Written, AllocError>
     ensures { IfOk result (λ attributes. written_lexemes attributes ≡ lints ast.now.attrs) }
 {

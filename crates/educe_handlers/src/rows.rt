@@ -38,7 +38,7 @@ pub fn struct_names(form: FieldForm) -> bool
     !matches!(form, FieldForm::Unnamed)
 }
 
-/// So it is of a variant.
+/// Whether the names of the fields of a variant are shown, where nothing is said of that.
 pub fn variant_names(form: FieldForm) -> bool
     ensures { result ≡ spec.variant_names form }
 {
@@ -93,14 +93,14 @@ pub fn type_row(which: Trait, ast: &DeriveInput) -> Row
     }
 }
 
-/// Its forms at a variant.
+/// The forms of the attribute of a trait at a variant.
 pub fn variant_row(_which: Trait) -> Row
     ensures { result ≡ spec.variant_row _which }
 {
     bound_row(false, false)
 }
 
-/// Its forms at a field.
+/// The forms of the attribute of a trait at a field.
 pub fn field_row(which: Trait) -> Row
     ensures { result ≡ spec.field_row which }
 {

@@ -11,9 +11,9 @@ use std::alloc::{AllocError, Global};
 /// The types of the fields that an impl goes over, in its order.
 #[derive(Drop)]
 pub struct SeenTypes<'a> {
-    /// Those of the fields that are read.
+    /// The types of the fields that are read.
     pub read: Vec<&'a Ty>,
-    /// Those of which the trait itself is asked.
+    /// The types of which the trait itself is asked.
     pub touched: Vec<&'a Ty>,
 }
 

@@ -98,7 +98,7 @@ module _ (prefix : List ℕ) (refer : Refer) where
       ∙ ap (option_map (bound_to p.name r)) (binds settings (place + 1) fs rs ps refers.1 are.1)
       ∙ ap Some (binds_one (settings f) (keeps (settings f)) place f r (kept_by (place + 1) fs (map settings fs)) p.name are.0.name_is refers.0)
 
-  -- so a pattern binds them of a value of its variant
+  -- a pattern binds the fields that take part of a value of its variant
   pattern_binds : (settings : Field → FieldSettings) (d : DeriveInput) (v : Variant) (value : Value) (pattern : Pattern) (rs : List Referent) → variant_of d value ≡ Some v → FieldsRefer refer 0 (fields_in v) rs
       → IsPatternBy prefix v (map settings (fields_in v)) pattern → bindings_of d pattern value rs ≡ Some (map (own_binding prefix refer) (kept_by 0 (fields_in v) (map settings (fields_in v))))
   pattern_binds settings d v value pattern rs found refers is =
@@ -107,7 +107,7 @@ module _ (prefix : List ℕ) (refer : Refer) where
       ∙ binds settings 0 (fields_in v) rs pattern.fields refers is.fields_are
 
 module _ (prefix : List ℕ) (look : Look) where
-  -- so they do for the places of the fields
+  -- the places of the fields are what their referents stand for
   places_refer : (place : ℕ) (fs : List Field) (xs : List FieldValue) → FieldsGive look place fs xs → FieldsRefer by_place place fs (own_fields place xs)
   places_refer place [] [] give = tt
   places_refer place [] (x ∷ xs) give = absurd give
@@ -295,7 +295,7 @@ module _ (which : Comparison) (d : DeriveInput) (table : Answers) (a b : Value) 
         ∙ ap (local_flow scene arm_env) (own_found d names are kept differ outer around by_place (by_value look_b) k found)
         ∙ place_gives scene arm_env a look_a k refl (In-all (IsPlaced look_a a.fields) kept k placed found)
 
-    -- so do those for the second value
+    -- the variables for the second value give the values of their fields
     reads_others : (k : Kept) → In k kept → Reads scene arm_env d.tokens apart which (bound names.own) (bound names.others) look_a look_b (bound names.others) look_b k
     reads_others k found x r =
         ap (form_value scene arm_env) r.is ∙ ap (λ (text : List ℕ). local_flow scene arm_env (look_up arm_env.names text)) r.name_is
@@ -334,11 +334,11 @@ module _ (which : Comparison) (d : DeriveInput) (table : Answers) (a b : Value) 
 
       module _ (inside : AllByRecursion (λ k. In k kept) is.ordered) (named : AllByRecursion (λ k. HasOwnPath d.tokens k.how) is.ordered)
           (known : AllByRecursion (λ c. IsSome (says which table c)) (map (seen look_a look_b) is.ordered)) where
-        -- the first field, in the order of the steps, that tells the two values apart
+        -- the first field, in the order of the steps, in which the two values differ
         abbrev first : Option Compared
         first = first_where (differs which table) (map (seen look_a look_b) is.ordered)
 
-        -- its steps go on, or return what the first field says that tells the two values apart
+        -- its steps go on, or return the answer of the first field in which the two values differ
         steps_value : list_value scene arm_env Nothing is.steps ≡ decided scene arm_env d.tokens apart which first
         steps_value =
             let own = bound names.own in
@@ -350,7 +350,7 @@ module _ (which : Comparison) (d : DeriveInput) (table : Answers) (a b : Value) 
             (read_steps scene arm_env d.tokens apart which own others look_a look_b is.ordered is.steps is.steps_are named reads_a reads_b) known
             ∙ go_on-end (decided scene arm_env d.tokens apart which first)
 
-        -- so does the arm where the second value is of the same variant
+        -- the arm goes on, or returns the answer of the first field that differs, where the second value is of the same variant
         arm_same : fits d is.inner b ≡ true → bindings_of d is.inner b (map Bound b.fields) ≡ Some (map (own_binding names.others (by_value look_b)) kept)
             → taken scene env arm.pattern arm.block a (own_fields 0 a.fields) ≡ decided scene env d.tokens env_apart which first
         arm_same passes binds_b =

@@ -69,22 +69,22 @@ module _ (suffice : AlwaysSuffice) (minimal : AreAlwaysMinimal) (d : DeriveInput
         minimal = minimal (exceptions_of which) d.generics.params d.ident.text (asks_for which) adds.touched header.own readings own_are;
       }
 
-  -- so does the impl of a trait
+  -- the impl of a trait has tight bounds
   item_tight : (which : Trait) (AreFunctions : List Function → Type 0) (item : ImplItem) → IsImpl which d AreFunctions item → HasTightBounds d (Impl item)
   item_tight which AreFunctions item is =
       let Tight : Trait → Type 0 = λ which. bound_for which d ≡ Auto → AreTight which d (keys_of item.generics.predicates) in
       subst Tight (sym is.which_is) (header_tight which item.generics is.header_is)
 
-  -- and the items of a block of one impl
+  -- the items of a block of one impl have tight bounds
   impl_tight : (which : Trait) (AreFunctions : List Function → Type 0) (items : List Item) → IsImplBlock which d AreFunctions items → AllByRecursion (HasTightBounds d) items
   impl_tight which AreFunctions items k = subst (AllByRecursion (HasTightBounds d)) (sym k.are) (item_tight which AreFunctions k.item k.impl_is, tt)
 
-  -- those of the block of `Eq`, with its check or without
+  -- the items of the block of `Eq`, with its check or without, have tight bounds
   eq_tight : (checks : Bool) (items : List Item) → IsEqBlockWith checks d items → AllByRecursion (HasTightBounds d) items
   eq_tight true items k = subst (AllByRecursion (HasTightBounds d)) (sym k.are) (tt, (item_tight trait.Eq AreNone k.item k.impl_is, tt))
   eq_tight false items k = impl_tight trait.Eq AreNone items k
 
-  -- those of the block of a comparison
+  -- the items of the block of a comparison have tight bounds
   comparison_tight : (which : Comparison) (items : List Item) → IsComparisonBlock which d items → AllByRecursion (HasTightBounds d) items
   comparison_tight which items k = impl_tight (trait_of which) (IsFunction (function_name which) (IsBody which d)) items k
 
@@ -94,7 +94,7 @@ module _ (suffice : AlwaysSuffice) (minimal : AreAlwaysMinimal) (d : DeriveInput
       let Tight : Trait → Type 0 = λ which. bound_for which d ≡ Auto → AreTight which d (keys_of item.generics.predicates) in
       subst Tight (sym is.which_is) (header_tight trait.Default item.generics is.header_is)
 
-  -- and the one that holds `new`
+  -- the impl that holds `new` has tight bounds
   new_tight : (is_asked : Bool) (item : ImplItem) → IsDefaultImpl d item → (more : List Item) → AreNew is_asked d item.generics more → AllByRecursion (HasTightBounds d) more
   new_tight false item is more are = subst (AllByRecursion (HasTightBounds d)) (sym are) tt
   new_tight true item is more (own, are, new) =
@@ -108,19 +108,19 @@ module _ (suffice : AlwaysSuffice) (minimal : AreAlwaysMinimal) (d : DeriveInput
   markers_tight [] = tt
   markers_tight (m ∷ ms) = (tt, markers_tight ms)
 
-  -- those of the block of `Clone`
+  -- the items of the block of `Clone` have tight bounds
   clone_tight : (items : List Item) → IsCloneBlock d items → AllByRecursion (HasTightBounds d) items
   clone_tight items k =
       let own = item_tight trait.Clone (AreCloneFunctions (copies_whole d) d k.names) k.item k.impl_is in
       subst (AllByRecursion (HasTightBounds d)) (sym k.are) (own, markers_tight k.markers)
 
-  -- those of the block of `Debug`
+  -- the items of the block of `Debug` have tight bounds
   debug_tight : (items : List Item) → IsDebugBlock d items → AllByRecursion (HasTightBounds d) items
   debug_tight items k =
       let own = item_tight trait.Debug (IsFunction (codes "fmt") (IsDebugBody d k.names)) k.item k.impl_is in
       subst (AllByRecursion (HasTightBounds d)) (sym k.are) (own, markers_tight k.markers)
 
-  -- those of the block of any trait
+  -- the items of the block of any trait have tight bounds
   block_tight : (which : Trait) (items : List Item) → IsBlock which d items → AllByRecursion (HasTightBounds d) items
   block_tight trait.Clone items k = clone_tight items k
   block_tight trait.Copy items k = impl_tight trait.Copy AreNone items k

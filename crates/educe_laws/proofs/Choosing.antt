@@ -68,7 +68,7 @@ fitting_hold P shape (of_variant place v) fits each =
     let all : AllByRecursion P (flat_map fields_in fits.0) = subst (λ (s : Shape). AllByRecursion P (shape_fields s)) fits.1 each in
     In-all (λ v. AllByRecursion P (fields_in v)) fits.0 v (each_apart P fields_in fits.0 all) (In-found fits.0 place v fits.2)
 
--- so it does of the fields that `default` writes
+-- what holds of all fields holds of the fields that `default` writes
 pub written_hold : (d : DeriveInput) (P : Field → Type 0) → AllByRecursion P (all_fields d) → AllByRecursion P (written_fields (choice_of d))
 written_hold d P each = by_choice (choice_of d) refl
   where

@@ -58,7 +58,7 @@ outcome_left names (Gives env thing) = thing_left env (take (length names) env.n
 outcome_left names (Returns env thing) = thing_left env (take (length names) env.names) thing
 outcome_left names Stuck = refl
 
--- and so with what `self` becomes
+-- what `self` becomes in a block is what it becomes outside
 pub own_left : (names : List Binding) (flow : Flow) → own_of (leave names flow) ≡ own_of flow
 own_left names (Gives env thing) = refl
 own_left names (Returns env thing) = refl

@@ -60,7 +60,7 @@ same_test true false first second = absurd (false≢true (second.1 (first.0 refl
 same_test false true first second = absurd (false≢true (first.1 (second.0 refl)))
 same_test false false first second = refl
 
--- those of an enum are not
+-- the fields of an enum are not read by copies
 enum_not_copied : (d : DeriveInput) (copied : Bool) → is_struct d.shape ≡ false → AreCopied d copied → copied ≡ false
 enum_not_copied d true other are = absurd (false≢true (sym other ∙ (are.is.0 refl).0))
 enum_not_copied d false other are = refl
@@ -141,7 +141,7 @@ module _ (d : DeriveInput) (is : IsDefinition d.tokens d) (small : length d.toke
         (function_means (Evaluates trait.Clone d) (codes "clone_from") (IsFromBody d names)
         (λ f named right. ((λ other. absurd (names_apart (sym other ∙ named))), (λ _. body_clones_from f.body right))) k.second k.clone_from_is))
 
-  -- those of the block
+  -- the functions of the block evaluate to what their traits mean
   block_evaluates : (items : List Item) → IsCloneBlock d items → AllByRecursion (EachEvaluates d) items
   block_evaluates items k =
       let EachOf : Trait → Type 0 = λ which. AllByRecursion (Evaluates which d) k.item.functions in

@@ -29,7 +29,7 @@ use Rattle.educe_laws.proofs.Variables.{kept_key, variable, by_place, by_value, 
 names_plain : ArePlain plain_clone_names
 names_plain = record { raw = (refl, (refl, (refl, tt))); others = (refl, (refl, (refl, tt))) }
 
--- that of the source alone
+-- the plain name of the source alone
 abbrev plain_source : List (List ℕ)
 plain_source = codes "source" ∷ []
 

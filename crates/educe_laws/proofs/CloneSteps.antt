@@ -83,12 +83,12 @@ module _ (scene : Scene) (env : Env) (path : ExprPath) (function : Callee) (is :
   one_call x w made =
       ap (λ (o : Option Callee). call_named scene.answers o env (Part x ∷ [])) is ∙ made_flow env (answer_of scene.answers function (Some x) None) w made
 
-  -- so does one of two
+  -- a call of two arguments gives what is made of them
   two_call : (x y w : FieldValue) → value_made (answer_of scene.answers function (Some x) (Some y)) ≡ Some w → call_value scene env.names path env (Part x ∷ Part y ∷ []) ≡ Gives env (Made w)
   two_call x y w made =
       ap (λ (o : Option Callee). call_named scene.answers o env (Part x ∷ Part y ∷ [])) is ∙ made_flow env (answer_of scene.answers function (Some x) (Some y)) w made
 
-  -- and so does the form of the first
+  -- a call of the form of one argument gives what is made of it
   form_call : (held : Form) (x w : FieldValue) → form_value scene env held ≡ Gives env (Part x) → value_made (answer_of scene.answers function (Some x) None) ≡ Some w
       → form_value scene env (Call path (held ∷ [])) ≡ Gives env (Made w)
   form_call held x w reads made =
@@ -123,7 +123,7 @@ module _ (scene : Scene) (env : Env) (input : List Token) (apart : AllByRecursio
       ∙ inits_give kept inits parts.more (λ env xs. next env (parts.first ∷ xs)) are.1 own.1 reads.1 parts.more_are
       ∙ ap (next env) (sym parts.are)
 
-  -- so the form gives the value of its case
+  -- the form that builds a case gives the value of the case
   pub cloned_gives : (name : Option (List ℕ)) (shape : FieldShape) (x : Form) (place : ℕ) (found : Outcome) (is : IsCloneConstruct scene.definition reading name shape x)
       → AreKept trait.Clone scene.definition shape.fields → case_named scene.definition is.variant ≡ Some (place, shape.fields)
       → AllByRecursion (λ (k : Kept). HasOwnPath input k.how) (kept_fields trait.Clone scene.definition shape.fields) → AllByRecursion ReadsField (kept_fields trait.Clone scene.definition shape.fields)
@@ -193,7 +193,7 @@ module _ (scene : Scene) (copied : Bool) where
         ∙ ap (λ (n : ℕ). with_own env (option_map (λ xs. OwnValue (record a { fields = xs })) (set_at n w (done ++ x ∷ rest)))) here
         ∙ ap (λ (o : Option (List FieldValue)). with_own env (option_map (λ xs. OwnValue (record a { fields = xs })) o)) (put_at done x w rest)
 
-    -- so do several, in their order
+    -- the steps of several fields, in their order, leave `self` with what is made of them in their places
     pub steps_value : (done : List FieldValue) (kept : List Kept) (steps : List Form) (values : List FieldValue) → InPlace (length done) kept → AllZip Assigns kept steps
         → AllByRecursion (λ (k : Kept). HasOwnPath input k.how) kept → fields_cloned_from scene.answers copied (map (seen look_a look_b) kept) ≡ Some values
         → list_value scene (now (done ++ map (value_in look_a) kept)) Nothing steps ≡ Gives (now (done ++ values)) Nothing

@@ -109,7 +109,7 @@ module _ (d : DeriveInput) (names : CloneNames) (are : AreCloneNames d names) (t
       let assigns = zip_weaker Known (IsAssignment copied names.source) (Assigns scene copied outer d.tokens (outer_hides_none d names are) a (look_of d a) (look_of d b)) is_assigning (k ∷ kept) block known is in
       steps_value scene copied outer d.tokens (outer_hides_none d names are) a (look_of d a) (look_of d b) [] (k ∷ kept) block values places assigns own made
 
-  -- so it means
+  -- the block leaves `self` as `clone_from` means it
   pub struct_clones_from : (shape : FieldShape) (block : List Form) → d.shape ≡ Struct shape → AreDifferent (keys_of d) → HaveOwnMethods trait.Clone d shape.fields → AreKept trait.Clone d shape.fields
       → AreAssignments copied names.source (kept_fields trait.Clone d shape.fields) block → (found : Outcome) → HasShape d a → HasShape d b → clone_from_of table copied d a b ≡ Some found
       → own_of (list_value scene (env_of a outer) Nothing block) ≡ found

@@ -35,7 +35,7 @@ module _ (d : DeriveInput) where
   type_refused e (inl in_lists) = inl (record { attributes = d.attrs; stand = type_stands d; cause = in_lists })
   type_refused e (inr said) = inr (IsDefaultCause.by_type said.1)
 
-  -- so is one of the attributes of a variant
+  -- a cause of the attributes of a variant is one of the handler
   pub variant_refused : (own : Values) → AreTypeSettings d own → (variant : Variant) → IsAmong variant (variants_of d) → (e : EduceError)
       → OfPlace Default (mark_row (is_none own.expression)) (listed d) variant.attrs e → Refuses e
   variant_refused own settings variant among e (inl in_lists) = inl (record { attributes = variant.attrs; stand = variant_stands d variant among; cause = in_lists })
@@ -47,7 +47,7 @@ module _ (d : DeriveInput) where
   case_within fields written (IsCase.of_variant own mark variants variant settings is stands marks) field among =
       subst (IsAmong field) (sym (ap shape_fields is)) (among_flat fields_in variant variants field stands among)
 
-  -- and so is one of the attributes of a field of a case
+  -- a cause of the attributes of a field of a case is one of the handler
   pub field_refused : (fields : List Field) (written : Bool) → IsCase d fields written → (field : Field) → IsAmong field fields → (e : EduceError)
       → OfField Default (value_row written) (listed d) field.attrs e → Refuses e
   field_refused fields written case field among e (inl in_lists) =

@@ -27,7 +27,7 @@ pub record IsEnumOf (d : DeriveInput) (variants : List Variant) : Type 0 where
   pub fields : AllByRecursion (λ v. AreApart (field_names (fields_in v))) variants
   pub few : AllByRecursion (λ v. length (fields_in v) ≤ 2 ^ 64) variants
 
--- so it is, and the identifiers in methods and discriminants are words of the definition
+-- the definition is an enum of these variants, and the identifiers in methods and discriminants are words of it
 pub record AreFit (which : Trait) (d : DeriveInput) (variants : List Variant) : Type 0 where
   pub enum : IsEnumOf d variants
   pub methods : AllByRecursion (λ v. HaveOwnMethods which d (fields_in v)) variants
@@ -48,7 +48,7 @@ pub record ArePlain (names : List (List ℕ)) : Type 0 where
   pub raw : AllByRecursion (λ text. unraw text ≡ text) names
   pub others : AllByRecursion (λ text. bytes_eq text (codes "self") ≡ false) names
 
--- those of an enum's comparison are such
+-- the plain names of an enum's comparison have no `r#`, and none of them is `self`
 pub are_plain : ArePlain plain_names
 are_plain = record { raw = (refl, (refl, (refl, (refl, tt)))); others = (refl, (refl, (refl, (refl, tt)))) }
 

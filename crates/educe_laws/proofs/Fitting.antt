@@ -106,7 +106,7 @@ item_evaluates which d name IsRight each item k =
 pub none_evaluate : (which : Trait) (d : DeriveInput) (item : ImplItem) → IsImpl which d AreNone item → EachEvaluates d (Impl item)
 none_evaluate which d item is = subst (AllByRecursion (Evaluates item.which d)) (sym is.functions_are) tt
 
--- and so do those of a block that is this impl
+-- where functions that are right evaluate to what the trait means, so do the functions of a block that is this impl
 pub impl_evaluates : (which : Trait) (d : DeriveInput) (name : List ℕ) (IsRight : Body → Type 0) → ((f : Function) → f.name.text ≡ name → IsRight f.body → Evaluates which d f) → (items : List Item)
     → IsImplBlock which d (IsFunction name IsRight) items → AllByRecursion (EachEvaluates d) items
 impl_evaluates which d name IsRight each items k = subst (AllByRecursion (EachEvaluates d)) (sym k.are) (item_evaluates which d name IsRight each k.item k.impl_is, tt)

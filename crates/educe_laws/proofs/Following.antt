@@ -99,7 +99,7 @@ module _ (table : Answers) where
   known_followed None known = known
   known_followed (Some k) known = refl
 
-  -- so each says something to `PartialOrd`
+  -- each field says something to `PartialOrd`
   pub each_known : (cs : List Compared) → AllByRecursion Follows cs → AllByRecursion (λ c. IsSome (says PartialOrd table c)) (map followed cs)
   each_known [] each = tt
   each_known (c ∷ cs) each = (rw each.0.says_is (known_followed (says Ord table c) each.0.known), each_known cs each.1)

@@ -182,7 +182,7 @@ module _ (d : DeriveInput) (variants : List Variant) (fit : AreFit trait.Clone d
         (fits_no_other d b of_b.variant of_b.found v is.inner is.inner_is.variant_is (apart_at variants a.variant b.variant v of_b.variant fit.enum.names of_a.at of_b.at differs))
         ∙ arm_other made.0 made.1 ∙ made.2
 
-  -- so the match leaves `self` as it is meant
+  -- the match leaves `self` as `clone_from` means it
   pub enum_clones_from : (block : List Form) → IsMatchOnSelf (IsFromArm d names) variants block → (found : Outcome) → clone_from_of table false d a b ≡ Some found
       → own_of (list_value scene env Nothing block) ≡ found
   enum_clones_from block m found means =

@@ -100,7 +100,7 @@ module _ (d : DeriveInput) (variants : List Variant) (fit : AreFit trait.Hash d 
       ∙ ap (λ (flow : Flow). go_on flow (λ env thing. list_value scene env thing steps)) (place_value scene (at inner [] self) d.tokens apart names.state inert place first first_is)
       ∙ steps_value scene inner self (bound names.prefix) look d.tokens apart names.state inert kept steps (pos place ∷ []) steps_are own each (subst (AllFeed table) paired covers.each)
 
-  -- so does the match
+  -- the match feeds the place of the variant, and then what its fields feed
   match_value : (block : List Form) → IsHashMatch d names variants block → parts_of (list_value scene (at (outer names) [] self) Nothing block) ≡ Parts (pos a.variant ∷ parts)
   match_value block m =
       let env = at (outer names) [] self in

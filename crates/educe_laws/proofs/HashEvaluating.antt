@@ -36,7 +36,7 @@ module _ (d : DeriveInput) (is : IsDefinition d.tokens d) (small : length d.toke
       struct_hashes d shape names are block same fits.differ fits.methods k
   forms_hash names are block (Enum variants) same k = enum_hashes d variants names are block (are_fit trait.Hash d is small uncaused variants same) k
 
-  -- so does its body
+  -- the body of `hash` feeds what its value does
   body_hashes : (body : Body) → IsHashBody d body → Hashes d body
   body_hashes body k table a other covers =
       begins (scene_with d a other table) k.names body k.params_are ∙ forms_hash k.names k.names_are body.block d.shape refl k.block_is table a other covers

@@ -57,13 +57,13 @@ module _ (scene : Scene) (env : Env) (input : List Token) (apart : AllByRecursio
       (lawful_forms.call_two scene env step.path fed (Local step.hasher) thing Inert gives (hasher_value step.hasher step.hasher_is.is)
       ∙ ap (λ (callee : Option Callee). call_named scene.answers callee env (thing ∷ Inert ∷ [])) (called Hash how input env.names step.path apart own step.path_is))
 
-  -- that on a field feeds the part of the field
+  -- the step on a field feeds the part of the field
   pub field_value : (v : Valued) (fed x : Form) (n : ℤ) → Feeds state v.kept.how fed x → HasOwnPath input v.kept.how → form_value scene env fed ≡ Gives env (Part v.value)
       → feeds scene.answers v ≡ Some n → form_value scene env x ≡ Gives (grown env (n ∷ [])) Nothing
   field_value v fed x n step own gives is =
       call_value v.kept.how fed x (Part v.value) step own gives ∙ part_case env (answer_of scene.answers (asked Hash v.kept.how) (Some v.value) None) n is
 
-  -- that on the place of a variant feeds the place
+  -- the step on the place of a variant feeds the place
   pub place_value : (place : ℕ) (x : Form) → IsPlaceStep state place x → form_value scene env x ≡ Gives (grown env (pos place ∷ [])) Nothing
   place_value place x step =
       call_value plainly (form.Position step.position) x (Position step.position.place) step.is tt refl

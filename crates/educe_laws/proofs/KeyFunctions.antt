@@ -69,7 +69,7 @@ wrapped_same true w n fits = int_wrap_fits w n fits
 wrapped_same false w (pos n) fits = ap pos (mod-eq_of_lt fits)
 wrapped_same false w (negsuc n) fits = absurd fits
 
--- so is a number of a type
+-- a number of a type is left as it is by wrapping to that type
 lawful_ranges : RangeLaws
 lawful_ranges = record { kept = λ ty. wrapped_same (is_signed ty) (width ty) }
 
@@ -105,7 +105,7 @@ module _ (table : Answers) (names : List Binding) where
   sum_is ty base (suc steps) None n is fits = absurd is
   sum_is ty base (suc steps) (Some distance) n is fits = (λ i. wrapped (is.1 i) (n +ℤ pos (is.0 i))) ∙ lawful_ranges.kept ty (n +ℤ pos (suc steps)) fits
 
-  -- nor does one where there is a number to count from
+  -- a sum does not wrap where there is a number to count from and the sum is a number of the type
   sums_are : (ty : DiscriminantType) (base : List ℕ) (steps : ℕ) (distance : Option Distance) (found : Option ℤ) (n : ℤ) → IsDistance ty base steps distance
       → option_map (λ m. m +ℤ pos steps) found ≡ Some n → IsInRange ty n → option_map (behind distance) found ≡ option_map (λ m. m +ℤ pos steps) found
   sums_are ty base steps distance None n is sum fits = refl
@@ -115,7 +115,7 @@ module _ (table : Answers) (names : List Binding) where
   abbrev pub IsNumbered : DiscriminantType → List ℕ → Counted → Type 0
   IsNumbered ty base c = (constant : Constant) → IsConstant ty base c constant → constant_number table names constant ≡ discriminant table c
 
-  -- so it is where that is a number of the type
+  -- a constant for what is counted has its discriminant as its number, where that is a number of the type
   numbered : (ty : DiscriminantType) (base : List ℕ) (c : Counted) (n : ℤ) → ReadsBase c.written → discriminant table c ≡ Some n → IsInRange ty n → IsNumbered ty base c
   numbered ty base c n reads is fits constant k =
       ap (option_map (behind constant.distance)) (base_is c.written constant.value reads k.value_is)
@@ -144,7 +144,7 @@ none_bound : (tokens : List Token) → names_bound [] tokens ≡ false
 none_bound [] = refl
 none_bound (t ∷ tokens) = or_from (is_bound [] t) (names_bound [] tokens) (and_right (is_ident t.kind) false refl) (none_bound tokens)
 
--- so each expression has its number there
+-- each expression has its number where no name is in scope
 plain_base : (table : Answers) (written : Option Expr) → ReadsBase table [] written
 plain_base table None = tt
 plain_base table (Some value) = ap (λ (b : Bool). if b then None else number_of table value) (none_bound value.written.tokens)
@@ -233,7 +233,7 @@ number_at d table variants is numbers have value v at =
 
 module _ (which : Trait) (d : DeriveInput) (table : Answers) (variants : List Variant) (fit : AreFit which d variants) (numbers : List ℤ) (have : HaveNumbers table d numbers) where
   module _ (value : Value) (is_of : IsOf d variants value) where
-    -- that of the value is at its place
+    -- the variant of the value is at its place among what is counted
     counted_at : slice_get (map (λ (c : Counted). c.variant) (counted d)) value.variant ≡ Some is_of.variant
     counted_at = ap (λ vs. slice_get vs value.variant) (counted_variants d variants fit.enum.is) ∙ is_of.at
 
@@ -283,7 +283,7 @@ module _ (d : DeriveInput) (names : Names) (are : AreNames d names) where
     known = (inl refl, (inr (inl refl), tt));
   }
 
-  -- so is that behind a key function
+  -- the scope behind a key function is one around a match
   pub outer_keyed : (m n : ℤ) → IsOuter names (keyed names m n)
   outer_keyed m n = record {
     own = λ i. of_three m n true (other_self i) (function_self i);

@@ -121,7 +121,7 @@ field_calls d f text tokens is =
     let words : spellings text.tokens ≡ spelled tokens = sym (written_spellings text) ∙ ap spelled is in
     λ i. if pointwise bytes_eq (words i) (default_call (type_spellings f)) then type_called d f else text_called (is i)
 
--- those of a field call what is called for it
+-- the tokens of a field's initializer call what is called for the field
 init_calls : (d : DeriveInput) (f : Field) (said : Option Expr) (text : Written) → written_lexemes text ≡ field_tokens f said → text_callee d (Some f) text ≡ called_for d f said
 init_calls d f None text is =
     field_calls d f text (default_tokens f.ty) is

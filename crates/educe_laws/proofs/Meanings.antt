@@ -42,7 +42,7 @@ each_ordered : (by_rank : Bool) (P : Kept → Type 0) (kept ordered : List Kept)
 each_ordered true P kept ordered in_order each = each_moved P kept ordered in_order.same each
 each_ordered false P kept ordered in_order each = subst (AllByRecursion P) (sym in_order) each
 
--- so it does in the order of the trait
+-- what holds of each field that takes part holds of each in the order of the trait
 pub each_in_order : (which : Trait) (P : Kept → Type 0) (kept ordered : List Kept) → IsInOrder which kept ordered → AllByRecursion P kept → AllByRecursion P ordered
 each_in_order which = each_ordered (is_order which)
 
@@ -64,14 +64,14 @@ module _ (table : Answers) where
       ap (λ (o : Option Known). answered PartialEq table (if is_apart (unwrap_or o (Truth true)) then Some c else later)) is ∙ ap (λ o. unwrap_or o (Truth true)) is
       ∙ ap (λ o. Truth (says_true o && rest)) (sym is)
 
-  -- the first field that tells two values apart says whether all are equal
+  -- the first field in which two values differ says whether all are equal
   equal_first : (cs : List Compared) → AllByRecursion (λ c. IsSome (says PartialEq table c)) cs → answered PartialEq table (first_where (differs PartialEq table) cs) ≡ Truth (equal table cs)
   equal_first [] known = refl
   equal_first (c ∷ cs) known =
       let truth = truth_said c.kept.how _ known.0 in
       equal_step c (first_where (differs PartialEq table) cs) (equal table cs) truth.0 truth.1 (equal_first cs known.1)
 
--- of the fields that tell two values apart the one of least rank is the first in the order of ranks
+-- of the fields in which two values differ the one of least rank is the first in the order of ranks
 by_least : (which : Comparison) (table : Answers) (look_a look_b : Look) (kept ordered : List Kept) (cs : List Compared) → IsByRank kept ordered → cs ≡ map (seen look_a look_b) kept
     → outcome (answered which table (first_where (differs which table) (map (seen look_a look_b) ordered))) ≡ outcome (order which table cs)
 by_least which table look_a look_b kept ordered cs in_order same =
@@ -86,7 +86,7 @@ fields_meaning PartialEq table cs = OutcomeTruth (equal table cs)
 fields_meaning PartialOrd table cs = outcome (order PartialOrd table cs)
 fields_meaning Ord table cs = outcome (order Ord table cs)
 
--- in the order of the trait the first field that tells the two values apart says what the fields mean
+-- in the order of the trait the first field in which the two values differ says what the fields mean
 pub means_in_order : (which : Comparison) (table : Answers) (look_a look_b : Look) (kept ordered : List Kept) (cs : List Compared) → IsInOrder (trait_of which) kept ordered
     → cs ≡ map (seen look_a look_b) kept → AllByRecursion (λ c. IsSome (says which table c)) cs
     → outcome (answered which table (first_where (differs which table) (map (seen look_a look_b) ordered))) ≡ fields_meaning which table cs
@@ -112,7 +112,7 @@ outcome_known env (Order o) = refl
 outcome_known env (PartialOrder p) = refl
 
 module _ (scene : Scene) (env : Env) (input : List Token) (apart : AllByRecursion (IsApart input) env.names) (which : Comparison) where
-  -- behind the steps stands what is answered where no field tells the two apart
+  -- behind the steps stands what is answered where the two values differ in no field
   pub steps_ended : (o : Option Compared)
       → outcome_of (go_on (decided scene env input apart which o) (λ env thing. list_value scene env thing (form.Known (neutral which) ∷ []))) ≡ outcome (answered which scene.answers o)
   steps_ended None = outcome_known env (neutral which)

@@ -43,7 +43,7 @@ module _ (P : Token → Type 0) where
   unfolding Parses
   type_within = record { inherits = λ budget tokens x each is. subst (Each P) (sym (type_tokens budget tokens x (parts_unroll budget types tokens x is))) each }
 
-  -- so it is of the type of the field
+  -- P holds of each token of the type of the field
   abbrev FieldTyped : Field → Type 0
   FieldTyped f = TypeWithin f.ty
 

@@ -98,7 +98,7 @@ placed_step : (look : Look) (all : List FieldValue) (k : Kept) (kept : List Kept
 placed_step look all k kept true at placed = (at, placed)
 placed_step look all k kept false at placed = placed
 
--- so has each field that takes part, where the values that are given stand among these from this place on
+-- each field that takes part has its value at its place, where the given values stand among these from this place on
 placed_from : (look : Look) (all : List FieldValue) (settings : Field → FieldSettings) (place : ℕ) (fs : List Field) (xs : List FieldValue) → FieldsGive look place fs xs
     → ((k : ℕ) → slice_get all (place + k) ≡ slice_get xs k) → AllByRecursion (IsPlaced look all) (kept_by place fs (map settings fs))
 placed_from look all settings place [] xs give within = tt

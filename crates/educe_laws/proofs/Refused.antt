@@ -78,7 +78,7 @@ module _ (which : Trait) (fieldwise : IsTrue (is_fieldwise which)) (d : DeriveIn
       inl (record { attributes = d.attrs; stand = type_stands d; cause = in_lists })
   type_refused e (inr said) = own_cause e (IsFieldwiseCause.by_type said.1)
 
-  -- so is one of the attributes of a variant
+  -- a cause of the attributes of a variant is one of the handler
   pub variant_refused : (variant : Variant) → IsAmong variant (variants_of d) → (e : EduceError) → OfPlace which (variant_row which) (listed d) variant.attrs e → Refuses e
   variant_refused variant among e (inl in_lists) =
       inl (record { attributes = variant.attrs; stand = variant_stands d variant among; cause = in_lists })

@@ -30,7 +30,7 @@ module _ (d : DeriveInput) where
   pub struct_is : (shape : FieldShape) → d.shape ≡ Struct shape → AreTypeSettings d (type_settings Debug d) → IsStructCase d (struct_shown d shape)
   struct_is shape is settings = record { own = type_settings Debug d; shape = shape; settings = settings; is = is; case_is = refl }
 
-  -- that of a variant, where its own have none either
+  -- the case of a variant, where neither the attributes of the type nor its own have a cause
   pub variant_is : (variants : List Variant) → d.shape ≡ Enum variants → (variant : Variant) → IsAmong variant variants → AreTypeSettings d (type_settings Debug d)
       → AreNamingSettings d variant (naming_values d variant) → IsVariantCase d variant (variant_shown d variant)
   variant_is variants is variant among settings naming = record {
@@ -63,12 +63,12 @@ module _ (d : DeriveInput) where
   type_refused e (inl in_lists) = inl (record { attributes = d.attrs; stand = type_stands d; cause = in_lists })
   type_refused e (inr said) = inr (IsShownCause.by_type said.1)
 
-  -- so is one of the attributes of a variant
+  -- a cause of the attributes of a variant is one of the handler
   pub variant_refused : (variant : Variant) → IsAmong variant (variants_of d) → (e : EduceError) → OfPlace Debug (naming_row variant) (listed d) variant.attrs e → Refuses e
   variant_refused variant among e (inl in_lists) = inl (record { attributes = variant.attrs; stand = variant_stands d variant among; cause = in_lists })
   variant_refused variant among e (inr said) = inr (IsShownCause.by_variant variant among said.1)
 
-  -- and so is one of the attributes of a field of a case
+  -- a cause of the attributes of a field of a case is one of the handler
   pub field_refused : (case : ShownCase) → IsCase d case → (field : Field) → IsAmong field case.fields → (e : EduceError)
       → OfField Debug (entry_row case.named) (listed d) field.attrs e → Refuses e
   field_refused case is field among e (inl in_lists) =

@@ -126,7 +126,7 @@ module _ (d : DeriveInput) (variants : List Variant) (fit : IsEnumOf d variants)
       (λ mapped. found_inside names.helper (inr (inr (inr (inr (inl refl))))) ∙ helper_found d names are maps (maps_used d maps used case inside mapped))
       (bound names.prefix) look block k texts each a.fields (each_placed look settings (fields_in v) a.fields of_a.give)
 
-  -- so does the match
+  -- the match shows what `fmt` shows of the value
   match_shows : (block : List Form) → IsMatchOnSelf (IsDebugArm d names) variants block
       → outcome_of (list_value scene (env_of a (outer maps names)) Nothing block) ≡ OutcomeShape (shape_of d a)
   match_shows block m =

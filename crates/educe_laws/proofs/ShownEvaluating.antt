@@ -70,7 +70,7 @@ module _ (d : DeriveInput) where
   cases_own [] within read typed = tt
   cases_own (case ∷ cases) within read typed = (case_own case within.0 read.0 typed.0, cases_own cases within.1 read.1 typed.1)
 
-  -- so it is in all cases
+  -- each field that is shown has texts of the definition alone, in all cases
   texts_own : IsDefinition d.tokens d → AreCasesRead d → AllByRecursion HasOwnFields (shown_cases d)
   texts_own is read =
       cases_own (shown_cases d) (cases_within d.shape (lawful_parts.definition d.tokens d is.whole)) read (each_case_holds (HasOwnType d.tokens) d (own_types d is.whole))
@@ -88,7 +88,7 @@ module _ (d : DeriveInput) (is : IsDefinition d.tokens d) (small : length d.toke
       let own = subst (λ (s : Shape). AllByRecursion (HasOwnFields d) (cases_for d s)) same (texts_own d is read) in
       enum_shows d variants names are maps forms (enum_of d is small variants same) (each_map (HasOwnFields d) (variant_shown d) variants own) used k
 
-  -- so does the block
+  -- the block shows what `fmt` shows
   block_shows : (maps : Bool) (block forms : List Form) → uses_map d ≡ maps → HasHelper maps names forms block → IsDebugBlockFor d names d.shape forms → (table : Answers) (a : Value)
       (other : Option Value) → HasShape d a → outcome_of (list_value (scene_with d a other table) (env_of a (names_for names.formatter)) Nothing block) ≡ OutcomeShape (shape_of d a)
   block_shows false block forms used helper k table a other has =

@@ -33,7 +33,7 @@ module _ (P : Field → Type 0) where
   by_settings_hold place (f ∷ fs) (s ∷ all) each = step (kept_with s place f) (kept_by (place + 1) fs all) (keeps s) each.0 (by_settings_hold (place + 1) fs all each.1)
 
   module _ (d : DeriveInput) where
-    -- so it does of those that are shown of cases
+    -- what holds of each field of cases holds of those of them that are shown
     cases_hold : (cases : List ShownCase) → AllByRecursion HoldsIn cases → AllByRecursion Holds (flat_map (shown_fields d) cases)
     cases_hold [] each = tt
     cases_hold (case ∷ cases) each =

@@ -23,14 +23,14 @@ fmt_plain = record {
   others = (refl, (refl, (refl, (refl, (refl, (refl, (refl, (refl, (refl, tt)))))))));
 }
 
--- so it is of these and of those that a marker declares besides
+-- the names that `fmt` and a marker declare, where nothing is in their way, have no `r#`, and none of them is `self`
 all_plain : ArePlain (plain_fmt_names ++ plain_marker_names)
 all_plain = record {
   raw = (refl, (refl, (refl, (refl, (refl, (refl, (refl, (refl, (refl, (refl, (refl, tt)))))))))));
   others = (refl, (refl, (refl, (refl, (refl, (refl, (refl, (refl, (refl, (refl, (refl, tt)))))))))));
 }
 
--- texts that are told apart are so the other way round
+-- texts that differ do so the other way round
 told_apart : (a b : List ℕ) → bytes_eq a b ≡ false → bytes_eq b a ≡ false
 told_apart a b apart = bytes_eq-differ b a (λ same. false≢true (sym apart ∙ (bytes_eq-Decides a b).1 (sym same)))
 
@@ -52,7 +52,8 @@ module _ (d : DeriveInput) (names : DebugNames) (are : AreDebugNames d names) wh
   pub fmt_scope : AreScoped d (chosen_fmt_names names)
   fmt_scope = chosen_scoped d plain_fmt_names (chosen_fmt_names names) fmt_are fmt_plain
 
-  -- so it is of these and of the variables of the fields of a case that are shown
+  -- no two of the names that `fmt` declares and of the variables of shown fields are the same, and none is a word of the
+  -- definition
   pub fmt_arm_scope : (case : ShownCase) → AreNamesApart (field_names case.fields) → length case.fields ≤ 2 ^ 64
       → AreScoped d (chosen_fmt_names names ++ variables_for names.prefix (shown_fields d case))
   fmt_arm_scope case distinct few =
@@ -68,7 +69,7 @@ module _ (d : DeriveInput) (names : DebugNames) (are : AreDebugNames d names) wh
   abbrev all : List (List ℕ)
   all = chosen_fmt_names names ++ chosen_marker_names names
 
-  -- those of a marker are among them
+  -- the names of a marker are among all names that are chosen
   function_in : In names.function all
   function_in = In-behind (chosen_fmt_names names) (chosen_marker_names names) names.function (inl refl)
 

@@ -23,11 +23,11 @@ use Rattle.educe_laws.proofs.Variables.{before_last, at_last, each_differs, name
 abbrev pub builder_binding : DebugNames → Binding
 builder_binding names = record { name = names.builder; referent = BuilderName }
 
--- that of the type of the keys of a map
+-- the binding of the type of the keys of a map
 abbrev pub helper_binding : DebugNames → Binding
 helper_binding names = record { name = names.helper; referent = Helper }
 
--- with true that type, which stands in front
+-- with true the binding of the type of the keys of a map, which stands in front
 abbrev pub helper_bindings : Bool → DebugNames → List Binding
 helper_bindings false names = []
 helper_bindings true names = helper_binding names ∷ []
@@ -44,7 +44,7 @@ helped_by names form.Tuple bs found = tt
 helped_by names form.Map bs found = found refl
 
 module _ (d : DeriveInput) (names : DebugNames) (are : AreDebugNames d names) where
-  -- those behind the argument, behind the builder, and behind the formatter
+  -- the names that are chosen behind the argument, behind the builder, and behind the formatter
   abbrev behind_argument : List (List ℕ)
   behind_argument = names.wrapper ∷ names.helper ∷ names.value_type ∷ names.function_type ∷ names.value ∷ names.value_formatter ∷ []
 

@@ -53,7 +53,7 @@ pub record Stands (input : List Token) (argument : List ℕ) (before names : Lis
   pub apart : AllByRecursion (IsApart input) names
   pub found : (name : List ℕ) → argument ≢ name → look_up names name ≡ look_up before name
 
--- so it is where none was made
+-- where no argument was made, the names in scope are those before
 pub stands_first : (input : List Token) (argument : List ℕ) (before : List Binding) → AllByRecursion (IsApart input) before → Stands input argument before before
 stands_first input argument before each = record { apart = each; found = λ name differs. refl }
 

@@ -44,7 +44,7 @@ among_flat f x xs y outer inner = record {
 pub type_stands : (d : DeriveInput) → IsAmong d.attrs (places d)
 type_stands d = record { front = []; back = variant_attributes d ++ field_attributes d; is = refl }
 
--- so are those of a variant
+-- the attributes of a variant are those of a place
 pub variant_stands : (d : DeriveInput) (variant : Variant) → IsAmong variant (variants_of d) → IsAmong variant.attrs (places d)
 variant_stands d variant among =
     among_more variant.attrs (d.attrs ∷ []) (variant_attributes d) (field_attributes d) (among_mapped (λ (v : Variant). v.attrs) variant (variants_of d) among)

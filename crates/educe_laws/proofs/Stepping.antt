@@ -180,7 +180,7 @@ module _ (scene : Scene) (env : Env) (input : List Token) (apart : AllByRecursio
         ap (λ (b : Bool). go_on (if b then Returns env (known_thing k) else Gives env Nothing) (λ env thing. list_value scene env thing more)) h
         ∙ go ∙ ap (λ (b : Bool). then_rest (decided (if b then Some c else later))) (sym (ap is_apart is ∙ h))
 
-    -- the steps go on, or return what the first field says that tells the two apart; then comes what stands behind them
+    -- the steps go on, or return the answer of the first field in which the two values differ; then comes what stands behind them
     pub steps-value : (cs : List Compared) (steps : List Form) → AllZip IsReadStep cs steps → AllByRecursion (λ c. IsSome (says which table c)) cs
         → list_value scene env Nothing (steps ++ rest) ≡ then_rest (decided (first_where (differs which table) cs))
     steps-value [] [] are known = refl

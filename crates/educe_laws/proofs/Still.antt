@@ -72,7 +72,7 @@ still_reference : (copied : Bool) (base : Ident) (key : Word) → assigns (refer
 still_reference false base key = refl
 still_reference true base key = refl
 
--- what reads a field does not
+-- what reads a field does not assign
 still_read : (reading : Reading) (kept : Kept) (x : Form) → IsRead reading kept x → assigns x ≡ false
 still_read (of_base copied base) kept x is = ap assigns is.is ∙ still_reference copied is.base_name is.key
 still_read (bound prefix) kept x is = ap assigns is.is
@@ -91,7 +91,7 @@ still_step PartialEq x still = assigns-IfReturn x ∙ still
 still_step PartialOrd x still = assigns-MatchOrdering x true None Greater Less ∙ none_of (assigns x) false still refl
 still_step Ord x still = assigns-MatchOrdering x false None Greater Less ∙ none_of (assigns x) false still refl
 
--- steps do not
+-- no step assigns
 still_steps : (which : Comparison) (own others : Reading) (ordered : List Kept) (steps : List Form) → AreSteps which own others ordered steps → any_assigns steps ≡ false
 still_steps which own others ordered steps are = still_zip (IsStep which own others) assigns one ordered steps are
   where
@@ -103,7 +103,7 @@ still_steps which own others ordered steps are = still_zip (IsStep which own oth
         ∙ none_of (assigns c.first) (assigns c.second || false) (still_read own k c.first c.first_is) (none_of (assigns c.second) false (still_read others k c.second c.second_is) refl) in
         ap assigns is.is ∙ still_step which (tested which k.how is.compares) (still_tested which k.how is.compares call)
 
--- the block of a struct does not
+-- the block of a struct does not assign
 pub still_struct : (which : Comparison) (own others : Reading) (ordered : List Kept) (block : List Form) → HasSteps which own others ordered block → any_assigns block ≡ false
 still_struct which own others ordered block k =
     ap any_assigns k.block_is ∙ still_joined k.steps (form.Known (neutral which) ∷ []) (still_steps which own others ordered k.steps k.steps_are) refl
@@ -113,7 +113,7 @@ still_otherwise PartialEq others is = ap others_assign is ∙ none_of (assigns (
 still_otherwise PartialOrd others is = ap others_assign is
 still_otherwise Ord others is = ap others_assign is
 
--- nor do the forms in the arms of an enum
+-- the forms in the arms of an enum do not assign
 still_arms : (which : Comparison) (d : DeriveInput) (names : Names) (variants : List Variant) (block : List Form) → IsMatch which d names variants block → any_assigns block ≡ false
 still_arms which d names variants block m =
     ap any_assigns m.block_is
@@ -146,7 +146,7 @@ still_keyed which d names variants block k =
     ∙ none_of (assigns k.keys) (assigns k.decision || false) (ap assigns k.keys_are.is)
     (none_of (assigns k.decision) false (still_decision which d names variants k.compares (are_units variants) k.decision compares k.decision_is) refl)
 
--- the block of an enum does not
+-- the block of an enum does not assign
 pub still_enum : (which : Comparison) (d : DeriveInput) (names : Names) (variants : List Variant) (block : List Form) → IsEnumBlock which d names variants block → any_assigns block ≡ false
 still_enum which d names [] block is = ap any_assigns is
 still_enum PartialEq d names (v ∷ vs) block is = still_arms PartialEq d names (v ∷ vs) block is
@@ -155,7 +155,7 @@ still_enum Ord d names (v ∷ vs) block is = still_keyed Ord d names (v ∷ vs) 
 
 -- ---- what is built
 
--- tokens that are pasted do not
+-- tokens that are pasted do not assign
 pub still_pasted : (tokens : List Lexeme) (x : Form) → IsPasted tokens x → assigns x ≡ false
 still_pasted tokens x is = ap assigns is.is
 
@@ -164,13 +164,13 @@ still_construct d name shape x is =
     ap assigns is.is ∙ assigns-Construct is.variant shape.form is.inits
     ∙ still_zip (IsInit d) (λ init. assigns init.value) (λ f init of. ap assigns of.value_is.is) shape.fields is.inits is.inits_are
 
--- the form that makes a default value does not
+-- the form that makes a default value does not assign
 pub still_making : (d : DeriveInput) (choice : Choice) (x : Form) → IsMaking d choice x → assigns x ≡ false
 still_making d (by_value said) x is = ap assigns is.is
 still_making d (of_struct shape) x is = still_construct d None shape x is
 still_making d (of_variant place v) x is = still_construct d (Some v.ident.text) v.fields x is
 
--- nor does a clone
+-- the form that clones does not assign
 pub still_clone : (d : DeriveInput) (reading : Reading) (name : Option (List ℕ)) (shape : FieldShape) (x : Form) → IsCloneConstruct d reading name shape x → assigns x ≡ false
 still_clone d reading name shape x is =
     ap assigns is.is ∙ assigns-Construct is.variant shape.form is.inits
@@ -179,7 +179,7 @@ still_clone d reading name shape x is =
     one : (k : Kept) (init : Init) → IsCloneInit reading k init → assigns init.value ≡ false
     one k init of = ap assigns of.is ∙ assigns-Call of.path (of.own ∷ []) ∙ none_of (assigns of.own) false (still_read reading k of.own of.own_is) refl
 
--- nor does a match each arm of which is one
+-- a match each arm of which clones does not assign
 pub still_clones : (d : DeriveInput) (names : CloneNames) (variants : List Variant) (block : List Form) (m : IsMatchOnSelf (IsCloneArm d names) variants block) → assigns (MatchValue m.value m.arms) ≡ false
 still_clones d names variants block m = still_match (IsCloneArm d names) one variants block m
   where
@@ -226,7 +226,7 @@ module _ (d : DeriveInput) (names : DebugNames) where
   still_shown (Enum (v ∷ vs)) forms k =
       still_one (MatchValue k.value k.arms) forms k.block_is (still_match (IsDebugArm d names) (λ v arm is. still_arm (variant_shown d v).unit (variant_shown d v) arm.block is.block_is) (v ∷ vs) forms k)
 
-  -- the block of `fmt` does not
+  -- the block of `fmt` does not assign
   pub still_helper : (maps : Bool) (shape : Shape) (forms block : List Form) → IsDebugBlockFor d names shape forms → HasHelper maps names forms block → any_assigns block ≡ false
   still_helper false shape forms block k helper = ap any_assigns helper ∙ still_shown shape forms k
   still_helper true shape forms block k helper = ap any_assigns helper.4 ∙ still_shown shape forms k

@@ -63,12 +63,12 @@ pub unraw_behind : (count : ℕ) (text : List ℕ) → unraw text ≡ text → u
 unraw_behind zero text plain = plain
 unraw_behind (suc count) text plain = unraw_mark (underscored count text)
 
--- behind `_` a name is told apart from `self` if it is without
+-- a name that differs from `self` does so behind any number of `_`
 pub behind_not_self : (count : ℕ) (text : List ℕ) → bytes_eq text (codes "self") ≡ false → bytes_eq (underscored count text) (codes "self") ≡ false
 behind_not_self zero text differs = differs
 behind_not_self (suc count) text differs = refl
 
--- what is told apart from `self` is another text
+-- what differs from `self` is another text
 pub not_self : (text : List ℕ) → bytes_eq text (codes "self") ≡ false → text ≢ codes "self"
 not_self text differs same = true≢false (sym ((bytes_eq-Decides text (codes "self")).1 same) ∙ differs)
 

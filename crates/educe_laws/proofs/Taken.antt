@@ -35,7 +35,7 @@ pub record AreTaken (partial total : FieldSettings) : Type 0 where
   pub partial_is : partial ≡ taken PartialOrd total.values
   pub total_is : total ≡ own_settings total.values
 
--- so they are of a field of a definition
+-- the settings of `Ord` are a field's own in a definition, and those of `PartialOrd` are taken from them
 abbrev pub IsTaken : DeriveInput → Field → Type 0
 IsTaken d field = AreTaken (settings_of PartialOrd d field) (settings_of Ord d field)
 

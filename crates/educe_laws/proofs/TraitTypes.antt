@@ -88,18 +88,18 @@ module _ (P : Ty → Type 0) where
     abbrev each_case : AllByRecursion (AllByRecursion OfField) (cases_of d)
     each_case = cases_hold OfField d.shape types
 
-    -- of those that are kept of each case
+    -- it holds of the types of the fields that are kept of each case
     each_kept : (which : Trait) (cases : List (List Field)) → AllByRecursion (AllByRecursion OfField) cases → AllByRecursion (λ k. OfField k.field) (flat_map (kept_fields which d) cases)
     each_kept which [] each = tt
     each_kept which (fields ∷ cases) each =
         each_joined (λ k. OfField k.field) (kept_fields which d fields) (flat_map (kept_fields which d) cases) (kept_hold which d OfField 0 fields each.0) (each_kept which cases each.1)
 
-    -- and of those that are checked
+    -- it holds of the types that are checked
     pub checked_hold : (by_equality : Bool) → AllByRecursion P (checked_with by_equality d)
     checked_hold true = touched_hold (flat_map (kept_fields trait.PartialEq d) (cases_of d)) (each_kept trait.PartialEq (cases_of d) each_case)
     checked_hold false = each_mapped P (λ (f : Field). f.ty) (all_fields d) types
 
-    -- so of those of fields that are visited
+    -- it holds of the types of the fields that are visited
     fields_hold : (which : Trait) (read touched : List Ty) → AreOfFields which d read touched → Hold read touched
     fields_hold which read touched are =
         these_hold are.visited read touched (visited_hold which d OfField (cases_of d) are.visited each_case are.visited_are) are.read_are are.touched_are

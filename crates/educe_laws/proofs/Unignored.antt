@@ -59,7 +59,7 @@ module _ (row : Row) (unignored : row.ignore ≡ false) where
     says_none _ _ (Says.equals path x place b v is holds) = absurd (none-some b (sym nothing ∙ is))
     says_none _ _ (Says.params path group place found values whole given span_is) = none_given found values.ignore (given.gives Ignore)
 
-    -- so the field takes part
+    -- a field whose settings its attributes say takes part
     said_keeps : (which : Trait) (listed : List Trait) (attributes : List Attribute) → fallback which listed ≡ None → (settings : FieldSettings) → IsFieldSaid which row listed attributes settings
         → keeps settings ≡ true
     said_keeps which listed attributes alone _ (IsFieldSaid.own_said values there) = ap (λ (o : Option Bool). not (unwrap_or o false)) (says_none there.meta values there.says)

@@ -124,7 +124,7 @@ kept_different place (f ∷ fs) (s ∷ all) differ =
 pub different_by : (fs : List Field) (all : List FieldSettings) → AreNamesApart (field_names fs) → length fs ≤ 2 ^ 64 → AreDifferent (map kept_key (kept_by 0 fs all))
 different_by fs all names few = kept_different 0 fs all (lawful_keys.apart fs names few)
 
--- so do those that take part in what a trait does
+-- the fields of a case that take part in what a trait does have keys that differ
 pub fields_different : (which : Trait) (d : DeriveInput) (fs : List Field) → AreNamesApart (field_names fs) → length fs ≤ 2 ^ 64 → AreDifferent (map kept_key (kept_fields which d fs))
 fields_different which d fs names few = different_by fs (map (settings_of which d) fs) names few
 
@@ -189,7 +189,7 @@ last_if b same = innermost (if same then Some b.referent else None) None
 pub before_last : (names : List Binding) (b : Binding) (name : List ℕ) → b.name ≢ name → look_up (names ++ b ∷ []) name ≡ look_up names name
 before_last names b name differs = look_up-outer names (b ∷ []) name (ap (last_if b) (bytes_eq-differ b.name name differs))
 
--- that of the last binding stands for what is bound there
+-- the name of the last binding stands for what is bound there
 pub at_last : (names : List Binding) (b : Binding) → look_up (names ++ b ∷ []) b.name ≡ Some b.referent
 at_last names b = look_up-inner names (b ∷ []) b.name b.referent (ap (last_if b) (bytes_eq-same b.name))
 
@@ -211,7 +211,7 @@ module _ (prefix : List ℕ) (refer : Refer) where
       ap (innermost (here_if k (bytes_eq (variable prefix k) (variable prefix k)))) (unbound ks (variable prefix k) (each_flipped (variable prefix k) (map (variable prefix) ks) differ))
       ∙ ap (here_if k) (bytes_eq-same (variable prefix k))
 
-  -- so does each
+  -- each variable stands for what its field does
   bound_at : (ks : List Kept) (k : Kept) → AreDifferent (map (variable prefix) ks) → In k ks → look_up (map (own_binding prefix refer) ks) (variable prefix k) ≡ Some (refer k.place k.field)
   bound_at [] k differ found = absurd found
   bound_at (j ∷ ks) k differ found =
@@ -270,7 +270,7 @@ module _ (d : DeriveInput) (plain names : List (List ℕ)) (are : AreChosenFor d
             apart (λ has. no_word (subst (HasWord d.tokens) raw has))
       ]
 
-  -- so does none of those around a match
+  -- no binding around a match hides a word of the definition
   pub outer_apart : (outer : List Binding) → AllByRecursion (IsOwnName names) outer → AllByRecursion (IsApart d.tokens) outer
   outer_apart outer known = each_weaker (IsOwnName names) (IsApart d.tokens) own_apart outer known
 
@@ -445,6 +445,6 @@ pub arm_scope : (which : Comparison) (d : DeriveInput) (names : Names) (fields :
     → AreScoped d (names.other ∷ names.discriminant ∷ variables names.own (trait_of which) d fields ++ variables names.others (trait_of which) d fields)
 arm_scope which d names fields are distinct few = names_scoped d names are (kept_fields (trait_of which) d fields) (fields_different (trait_of which) d fields distinct few)
 
--- so are those in the scope of a key function
+-- the names in the scope of a key function are apart, and none but `self` is a word of the definition
 pub key_scope : (d : DeriveInput) (names : Names) → AreNames d names → AreScoped d (chosen_names names)
 key_scope d names are = chosen_scoped d plain_names (chosen_names names) are.are are_plain

@@ -64,8 +64,8 @@ plain_names = codes "other" ∷ codes "discriminant" ∷ codes "this" ∷ codes 
 abbrev pub chosen_names : Names → List (List ℕ)
 chosen_names names = names.other ∷ names.discriminant ∷ names.this ∷ names.base ∷ []
 
--- Each of these names is chosen for one of the plain ones, in this order, apart from the words of the definition and from the names
--- before it.
+-- The names are chosen for the plain ones, one for each in order: each differs from the words of the definition and from the
+-- names before it.
 pub record AreChosenFor (definition : DeriveInput) (plain names : List (List ℕ)) : Type 0 where
   pub words : List (List ℕ)
   pub words_are : AreWordsOf definition.tokens words
@@ -86,7 +86,7 @@ pub record IsName (text : List ℕ) (name : Ident) : Type 0 where
 abbrev pub variables_for : List ℕ → List Kept → List (List ℕ)
 variables_for prefix kept = map (λ (k : Kept). prefix ++ binding_key k.place k.field) kept
 
--- Those for the fields that take part.
+-- The names of the variables behind a prefix for the fields that take part.
 abbrev pub variables : List ℕ → Trait → DeriveInput → List Field → List (List ℕ)
 variables prefix which definition fields = variables_for prefix (kept_fields which definition fields)
 
@@ -116,7 +116,7 @@ pub record IsPatternField (prefix : List ℕ) (place : ℕ) (field : Field) (set
   pub key_is : IsKey field.ident x.key
   pub name_is : IsBound (keeps settings) (prefix ++ binding_key place field) x.name
 
--- Those of a pattern, for fields with these settings, of which the first has this place.
+-- The fields of a pattern, for fields with these settings, of which the first has this place.
 abbrev pub ArePatternFields : List ℕ → ℕ → List Field → List FieldSettings → List PatternField → Type 0
 ArePatternFields prefix place [] all [] = Unit {0}
 ArePatternFields prefix place [] all (x ∷ xs) = ⊥
@@ -131,7 +131,8 @@ pub record IsPatternBy (prefix : List ℕ) (variant : Variant) (all : List Field
   pub whole : pattern.rest ≡ false
   pub fields_are : ArePatternFields prefix 0 (fields_in variant) all pattern.fields
 
--- The same by the settings of the fields.
+-- The pattern of a variant that binds the fields that take part, by the settings that their attributes give, to variables behind
+-- this prefix.
 abbrev pub IsPattern : Trait → DeriveInput → List ℕ → Variant → Pattern → Type 0
 IsPattern which definition prefix variant pattern = IsPatternBy prefix variant (map (settings_of which definition) (fields_in variant)) pattern
 

@@ -55,7 +55,7 @@ use Rattle.educe_laws.specs.Steps.{Reading, of_base, AreSteps, IsInOrder}
 use Rattle.educe_laws.specs.Types.{checked_types}
 use Rattle.educe_laws.specs.Comparing.{neutral, HasShape, Covers, meaning}
 
--- The name is the one that is chosen for this one: it, behind the fewest `_` that make it no word of the input.
+-- The name is chosen for the plain one: it is the plain name behind the fewest `_` that make it no word of the input.
 pub record IsParameter (definition : DeriveInput) (plain name : List ℕ) : Type 0 where
   pub count : ℕ
   pub is : name ≡ underscored count plain
@@ -89,12 +89,12 @@ pub record IsEnumBody (which : Comparison) (definition : DeriveInput) (variants 
   pub param_is : param.text ≡ names.other
   pub block_is : IsEnumBlock which definition names variants body.block
 
--- The body of a comparison.
+-- The body of a comparison, for this shape of the definition.
 abbrev pub IsBodyFor : Comparison → DeriveInput → Shape → Body → Type 0
 IsBodyFor which definition (Struct shape) body = IsStructBody which definition shape.fields body
 IsBodyFor which definition (Enum variants) body = IsEnumBody which definition variants body
 
--- The same of the whole definition.
+-- The body of a comparison, for the definition's own shape.
 abbrev pub IsBody : Comparison → DeriveInput → Body → Type 0
 IsBody which definition body = IsBodyFor which definition definition.shape body
 
@@ -138,7 +138,7 @@ pub record IsNew (definition : DeriveInput) (generics : Generics) (item : ImplIt
   pub ident_is : item.ident ≡ definition.ident
   pub functions_are : IsFunction (codes "new") IsNewBody item.functions
 
--- With true that impl, and else nothing.
+-- With true the items are the impl that holds `new`, and else there are none.
 abbrev pub AreNew : Bool → DeriveInput → Generics → List Item → Type 0
 AreNew false definition generics items = items ≡ []
 AreNew true definition generics items = (item : ImplItem) × (items ≡ New item ∷ []) × IsNew definition generics item
@@ -159,7 +159,7 @@ pub record IsDefaultBlock (definition : DeriveInput) (items : List Item) : Type 
 abbrev pub IsHashBlock : DeriveInput → List Item → Type 0
 IsHashBlock definition items = IsImplBlock trait.Hash definition (IsFunction (codes "hash") (IsHashBody definition)) items
 
--- No functions.
+-- There are no functions.
 abbrev pub AreNone : List Function → Type 0
 AreNone functions = functions ≡ []
 
@@ -192,11 +192,11 @@ IsEqBlock definition items = IsEqBlockWith (has_check (bound_for trait.Eq defini
 abbrev pub IsCopyBlock : DeriveInput → List Item → Type 0
 IsCopyBlock definition items = IsImplBlock trait.Copy definition AreNone items
 
--- `clone` alone, which copies the value as a whole: `* self`.
+-- The one function is `clone`, which copies the value as a whole: `* self`.
 abbrev pub AreCopying : List Function → Type 0
 AreCopying functions = IsFunction (codes "clone") (HasOneForm (λ x. x ≡ form.WholeCopy)) functions
 
--- `clone`, and `clone_from`.
+-- The functions are `clone` and `clone_from`.
 pub record AreCloning (definition : DeriveInput) (names : CloneNames) (functions : List Function) : Type 0 where
   pub first : List Function
   pub second : List Function
@@ -276,7 +276,8 @@ Clones definition body =
     (table : Answers) (a : Value) (other : Option Value) (outcome : Outcome) → HasShape definition a → clone_of table definition a ≡ Some outcome
     → value body (scene_with definition a other table) ≡ outcome
 
--- So it does to what `clone_from` means of two such values, where fields are read by copies or not.
+-- Over each table by which each of its calls makes a value, the function evaluates to what `clone_from` means of two values of
+-- the definition's shape, where fields are read by copies or not.
 abbrev pub ClonesFrom : DeriveInput → Body → Type 0
 ClonesFrom definition body =
     (table : Answers) (a b : Value) (copied : Bool) (outcome : Outcome) → AreCopied definition copied → HasShape definition a → HasShape definition b

@@ -9,12 +9,12 @@ use Rattle.educe_syntax.specs.Shape.TheVariants.{Struct, Enum}
 use Rattle.educe_syntax.specs.Variant.{Variant}
 use Rattle.educe_body_values.specs.declared.value.Value.{Value}
 
--- A struct, of any form.
+-- The shape is a struct, of any form.
 abbrev pub is_struct : Shape → Bool
 is_struct (Struct shape) = true
 is_struct (Enum variants) = false
 
--- An enum.
+-- The shape is an enum.
 abbrev pub is_enum : Shape → Bool
 is_enum (Struct shape) = false
 is_enum (Enum variants) = true

@@ -21,8 +21,8 @@ pub record CloneLaws : Type 0 where
   -- Where no field of a definition says something wrong of `Clone`, each takes part.
   pub kept : (definition : DeriveInput) → HaveNoCauses Clone (field_row Clone) (listed definition) (all_fields definition)
       → AllByRecursion (λ field. is_kept Clone definition field ≡ true) (all_fields definition)
-  -- Of the names in the scope of an arm of an enum's `clone_from` no two are the same, and none but `self` is a word of the input:
-  -- `self`, the source, and the variables of the variant's fields; so it is of those in the scope of a struct's function.
+  -- No two names in the scope of an arm of an enum's `clone_from` are the same, and none but `self` is a word of the input:
+  -- `self`, the source, and the variables of the variant's fields. The same holds for a struct's function.
   pub arm_scope : (definition : DeriveInput) (names : CloneNames) (fields : List Field) → AreCloneNames definition names → AreApart (field_names fields)
       → length fields ≤ 2 ^ 64
       → AreScoped definition (names.source ∷ variables names.own Clone definition fields ++ variables names.sources Clone definition fields)

@@ -24,7 +24,7 @@ use Rattle.educe_laws.specs.Settings.{How, plainly, by_method, by_order}
 abbrev pub cloned : Answers → Valued → Option FieldValue
 cloned table v = value_made (answer_of table (asked Clone v.kept.how) (Some v.value) None)
 
--- What it makes of several fields, in their order, where it makes something of each.
+-- What `clone` makes of several fields, in their order, where it makes something of each.
 abbrev pub fields_cloned : Answers → List Valued → Option (List FieldValue)
 fields_cloned table [] = Some []
 fields_cloned table (v ∷ vs) = made_with (cloned table v) (fields_cloned table vs)
@@ -46,7 +46,7 @@ cloned_from table true plainly x y = value_made (answer_of table callee.Clone (S
 cloned_from table copied (by_method path) x y = value_made (answer_of table (callee_of path) (Some y) None)
 cloned_from table copied (by_order path) x y = value_made (answer_of table (callee_of path) (Some y) None)
 
--- What it makes of several fields, in their order, where it makes something of each.
+-- What `clone_from` makes of several fields, in their order, where it makes something of each.
 abbrev pub fields_cloned_from : Answers → Bool → List Compared → Option (List FieldValue)
 fields_cloned_from table copied [] = Some []
 fields_cloned_from table copied (c ∷ cs) = made_with (cloned_from table copied c.kept.how c.first c.second) (fields_cloned_from table copied cs)

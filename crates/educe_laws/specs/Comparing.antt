@@ -34,7 +34,7 @@ use Rattle.educe_laws.specs.Settings.{Kept, How, plainly, by_method, by_order, i
 
 -- ---- values that have the shape of a definition
 
--- One value for each of these fields, of its type's place among all fields.
+-- Each field has one value, whose type is given by the type's place among all fields.
 abbrev pub HaveTypes : List Field → List Field → List FieldValue → Type 0
 HaveTypes all [] [] = Unit {0}
 HaveTypes all [] (x ∷ xs) = ⊥
@@ -55,7 +55,7 @@ pub record Compared : Type 0 where
   pub first : FieldValue
   pub second : FieldValue
 
--- Those that take part among fields of which the first has this place, with their values, in written order.
+-- The fields that take part, with their values in two values, in written order; the first field has this place.
 abbrev pub paired_from : Trait → DeriveInput → ℕ → List Field → List FieldValue → List FieldValue → List Compared
 paired_from which definition place [] xs ys = []
 paired_from which definition place (f ∷ fs) [] ys = []
@@ -68,7 +68,7 @@ paired_from which definition place (f ∷ fs) (x ∷ xs) (y ∷ ys) =
 abbrev pub paired : Trait → DeriveInput → Value → Value → List Compared
 paired which definition a b = paired_from which definition 0 (case_of definition a) a.fields b.fields
 
--- Those that take part in a comparison.
+-- The fields that take part in a comparison, with their values in both values.
 abbrev pub compared : Comparison → DeriveInput → Value → Value → List Compared
 compared which definition a b = paired (trait_of which) definition a b
 
@@ -78,7 +78,7 @@ comparison PartialEq = Ne
 comparison PartialOrd = PartialCmp
 comparison Ord = Cmp
 
--- What is called on a field: this function of the core library, or the method.
+-- What a trait calls on a field: this function of the core library, or the field's method.
 abbrev pub asked : BuiltIn → How → Callee
 asked function plainly = as_callee function
 asked function (by_method path) = callee_of path
@@ -154,7 +154,7 @@ is_apart (PartialOrder (Some Greater)) = true
 abbrev pub differs : Comparison → Answers → Compared → Bool
 differs which table c = is_apart (word_of which table c)
 
--- Whether it is said that two values are equal.
+-- Whether the answer is that two values are equal.
 abbrev pub says_true : Option Known → Bool
 says_true None = false
 says_true (Some (Truth b)) = b

@@ -15,7 +15,8 @@ pub record DebugLaws : Type 0 where
   -- Of the names in the scope of a struct's function no two are the same, and none but `self` is a word of the input: `self`, and
   -- those that `fmt` declares.
   pub scope : (definition : DeriveInput) (names : DebugNames) → AreDebugNames definition names → AreScoped definition (chosen_fmt_names names)
-  -- So it is of those in the scope of an arm of an enum's function: these, and the variables of the variant's fields that are shown.
+  -- No two names in the scope of an arm of an enum's function are the same, and none but `self` is a word of the input: `self`,
+  -- the names that `fmt` declares, and the variables of the variant's fields that are shown.
   pub arm_scope : (definition : DeriveInput) (names : DebugNames) (case : ShownCase) → AreDebugNames definition names → AreApart (field_names case.fields)
       → length case.fields ≤ 2 ^ 64 → AreScoped definition (chosen_fmt_names names ++ variables_for names.prefix (shown_fields definition case))
   -- The function of a marker and its two parameters have three names, and none is a word of the input.

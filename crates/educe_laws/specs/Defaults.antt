@@ -54,7 +54,7 @@ mark_values definition variant = place_settings Default (mark_row (is_open defin
 abbrev pub is_marked : DeriveInput → Variant → Bool
 is_marked definition variant = (mark_values definition variant).flag
 
--- There is one, and only one.
+-- The list has exactly one element.
 abbrev pub is_one : {X : Type 0} → List X → Bool
 is_one [] = false
 is_one (x ∷ []) = true
@@ -73,7 +73,7 @@ abbrev pub AreFieldsSaid : Bool → DeriveInput → List Field → Type 0
 AreFieldsSaid written definition fields =
     AllByRecursion (λ (field : Field). IsFieldSaid Default (value_row written) (listed definition) field.attrs (settings_at Default (value_row written) (listed definition) field)) fields
 
--- So it is of the fields of a struct, or of each variant.
+-- Each field of a struct, or of each variant of an enum, has the settings that its attributes say.
 abbrev pub AreShapeSaid : DeriveInput → Shape → Type 0
 AreShapeSaid definition (Struct shape) = AreFieldsSaid (is_open definition) definition shape.fields
 AreShapeSaid definition (Enum variants) = AllByRecursion (λ variant. AreFieldsSaid (is_written definition variants variant) definition (fields_in variant)) variants
@@ -147,7 +147,7 @@ default_types definition = filter_map (λ field. type_without field (field_value
 abbrev pub AreTypeSettings : DeriveInput → Values → Type 0
 AreTypeSettings definition values = AreSettings Default (type_row Default definition) definition definition.attrs values
 
--- So it is of those of a variant of a type with these settings.
+-- The attributes of a variant of a type with these settings have no cause of a rejection, and they say this.
 abbrev pub AreMarkSettings : DeriveInput → Values → Variant → Values → Type 0
 AreMarkSettings definition own variant values = AreSettings Default (mark_row (is_none own.expression)) definition variant.attrs values
 

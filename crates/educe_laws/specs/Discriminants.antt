@@ -21,7 +21,8 @@ pub record Counted : Type 0 where
   pub written : Option Expr
   pub distance : ℕ
 
--- Those of variants, where the nearest expression before them and the distance of the first of them to it are these.
+-- What the discriminants of variants are counted from, where the nearest expression before them and the distance of the first
+-- variant to it are these.
 abbrev pub counted_from : Option Expr → ℕ → List Variant → List Counted
 counted_from near distance [] = []
 counted_from near distance (v ∷ vs) =
@@ -30,7 +31,7 @@ counted_from near distance (v ∷ vs) =
       | Some value ↦ record { variant = v; written = Some value; distance = 0 } ∷ counted_from (Some value) 1 vs
     ]
 
--- Those of the variants of a definition.
+-- What the discriminants of a definition's variants are counted from.
 abbrev pub counted : DeriveInput → List Counted
 counted definition = counted_from None 0 (variants_of definition)
 
@@ -61,7 +62,7 @@ pub record HaveNumbers (table : Answers) (definition : DeriveInput) (numbers : L
   pub are : discriminants table definition ≡ map Some numbers
   pub in_range : (ty : DiscriminantType) → IsDiscriminantType definition.attrs ty → AllByRecursion (IsInRange ty) numbers
 
--- And no two of them are the same.
+-- By the table each variant has a discriminant that is a number of the discriminants' type, and no two of them are the same.
 pub record HaveDiscriminants (table : Answers) (definition : DeriveInput) : Type 0 where
   pub numbers : List ℤ
   pub have : HaveNumbers table definition numbers

@@ -93,7 +93,7 @@ IsTraitCause definition trait.Hash = IsFieldwiseCause trait.Hash definition
 IsTraitCause definition trait.Debug = IsShownCause definition
 IsTraitCause definition trait.Default = IsDefaultCause definition
 
--- What is asked of the handlers.
+-- The causes for which the handlers reject a definition: those in `educe` lists, and those of each trait.
 abbrev pub handling : DeriveInput → Handling
 handling definition = record { InLists = IsListsCause definition; Own = IsTraitCause definition }
 

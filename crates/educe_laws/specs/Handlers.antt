@@ -19,11 +19,11 @@ use Rattle.educe_laws.specs.Listed.{listed}
 abbrev pub traits_before : Trait → List Trait
 traits_before which = before_first (same_trait which) variants
 
--- Those, and this one.
+-- The traits that are handled before this one, and this one.
 abbrev pub traits_through : Trait → List Trait
 traits_through which = traits_before which ++ which ∷ []
 
--- Of the traits that are done those that are listed, where the first list has the listed ones.
+-- The handled traits that the first list contains.
 abbrev pub handled_of : List Trait → List Trait → List Trait
 handled_of traits done = filter (is_listed traits) done
 
@@ -32,7 +32,7 @@ pub record Noted : Type 0 where
   pub which : Trait
   pub added : List WherePredicate
 
--- What is noted of a trait.
+-- What the handler of a trait notes for later ones.
 pub record IsNoted (definition : DeriveInput) (which : Trait) (noted : Noted) : Type 0 where
   pub which_is : noted.which ≡ which
   pub adds : ImplAdds definition which noted.added
@@ -50,7 +50,7 @@ abbrev pub noted_of : Trait → List Noted → List Key
 noted_of which [] = []
 noted_of which (n ∷ ns) = if same_trait n.which which then keys_of n.added else noted_of which ns
 
--- Those that are noted of these traits, one behind the other.
+-- The predicates that are noted of these traits, one trait behind the other.
 abbrev pub inherited_from : List Noted → List Trait → List Key
 inherited_from noted traits = flat_map (λ which. noted_of which noted) traits
 

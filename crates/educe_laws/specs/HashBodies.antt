@@ -68,7 +68,7 @@ pub record IsHashStep (state : List ℕ) (reading : Reading) (kept : Kept) (x : 
   pub fed_is : IsRead reading kept fed
   pub is : Feeds state kept.how fed x
 
--- One step for each of these fields, in their order.
+-- One step of `Hash` for each of these fields, in their order.
 abbrev pub AreHashSteps : List ℕ → Reading → List Kept → List Form → Type 0
 AreHashSteps state reading kept steps = AllZip (IsHashStep state reading) kept steps
 

@@ -20,7 +20,8 @@ pub record HashLaws : Type 0 where
   -- Of the names in the scope of a struct's function no two are the same, and none but `self` is a word of the input: `self`, the
   -- hasher, and the type of that.
   pub scope : (definition : DeriveInput) (names : HashNames) → AreHashNames definition names → AreScoped definition (chosen_params names)
-  -- So it is of those in the scope of an arm of an enum's function: these, and the variables of the variant's fields that take part.
+  -- No two names in the scope of an arm of an enum's function are the same, and none but `self` is a word of the input: `self`,
+  -- the hasher and its type, and the variables of the variant's fields that take part.
   pub arm_scope : (definition : DeriveInput) (names : HashNames) (fields : List Field) → AreHashNames definition names → AreApart (field_names fields)
       → length fields ≤ 2 ^ 64 → AreScoped definition (chosen_params names ++ variables names.prefix Hash definition fields)
   -- Where no field of a definition says something wrong of `Hash`, the function of its block feeds what a value feeds to a hasher.

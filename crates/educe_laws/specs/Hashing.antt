@@ -25,7 +25,7 @@ pub record Valued : Type 0 where
   pub kept : Kept
   pub value : FieldValue
 
--- Those that take part among fields of which the first has this place, with their values, in written order.
+-- The fields that take part, with their values, in written order; the first field has this place.
 abbrev pub valued_from : Trait → DeriveInput → ℕ → List Field → List FieldValue → List Valued
 valued_from which definition place [] xs = []
 valued_from which definition place (f ∷ fs) [] = []
@@ -48,11 +48,11 @@ part_said answer = None
 abbrev pub feeds : Answers → Valued → Option ℤ
 feeds table v = part_said (answer_of table (asked Hash v.kept.how) (Some v.value) None)
 
--- By the table each of these fields feeds something.
+-- By the table each of these fields feeds something to the hasher.
 abbrev pub AllFeed : Answers → List Valued → Type 0
 AllFeed table vs = AllByRecursion (λ v. IsSome (feeds table v)) vs
 
--- What they feed, in their order.
+-- What these fields feed to the hasher, in their order.
 abbrev pub fed_by : Answers → List Valued → List ℤ
 fed_by table vs = map (λ v. unwrap_or (feeds table v) (pos 0)) vs
 

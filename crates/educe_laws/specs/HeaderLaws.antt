@@ -15,6 +15,7 @@ use Rattle.educe_laws.specs.Settings.{bound_said}
 pub record HeaderLaws : Type 0 where
   -- The parameters and predicates of a header are readings of their tokens, where those of the definition are.
   pub generics : (which : Trait) (definition : DeriveInput) (header : Generics) → HasReadParts definition → IsHeader which definition header → AreReadGenerics header
-  -- So are the predicates that a bound lists, where the attributes of its place have no cause of a rejection.
+  -- The predicates that a bound lists are readings of their tokens, where the attributes of its place have no cause of a
+  -- rejection.
   pub bounds : (which : Trait) (row : Row) (listed : List Trait) (attributes : List Attribute) → NoCause (OfPlace which row listed attributes)
       → IsReadBound (bound_said (place_settings which row listed attributes).bound)

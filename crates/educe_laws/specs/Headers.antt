@@ -68,7 +68,8 @@ mutual
     added : (which : Trait) (inherited own : List Key) {all : List Key} → AreInherited definition (prerequisites which) inherited
         → AreAdded which definition inherited own all → AreOf definition which all
 
-  -- Those that it inherits of these traits: of those that are listed, one behind the other.
+  -- The predicates that an impl inherits of these traits: those that the impls of the listed ones add, one trait behind the
+  -- other.
   pub data AreInherited (definition : DeriveInput) : List Trait → List Key → Type 0 where
     from_none : AreInherited definition [] []
     unlisted : (which : Trait) {traits : List Trait} {more : List Key} → is_listed (listed definition) which ≡ false → AreInherited definition traits more

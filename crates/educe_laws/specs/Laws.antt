@@ -37,14 +37,14 @@ pub record TraitLaws : Type 0 where
   -- Where the handler of a listed trait has no cause, the settings of the trait are what the attributes say.
   pub said : (which : Trait) (definition : DeriveInput) → is_listed (listed definition) which ≡ true → NoCause (OfHandler (handling definition) which)
       → AreSaidOf which definition
-  -- And no other settings of fields are, where the attributes are read field by field.
+  -- The settings that the attributes of fields say are unique, where the attributes are read field by field.
   pub only : (which : Trait) (definition : DeriveInput) → IsTrue (is_fieldwise which) → NoCause (OfHandler (handling definition) which) → (settings : Field → FieldSettings)
       → AllByRecursion (λ field. IsFieldSaid which (field_row which) (listed definition) field.attrs (settings field)) (all_fields definition)
       → AllByRecursion (λ field. settings field ≡ settings_of which definition field) (all_fields definition)
   -- What the context notes of a trait's prerequisites is what its impl inherits.
   pub inherits : (which : Trait) (definition : DeriveInput) (noted : List Noted) → AreNoted definition (traits_before which) noted
       → AreInherited definition (prerequisites which) (inherited_from noted (prerequisites which))
-  -- And where the bound of a trait is the automatic one, the own predicates of its impl suffice, and none can be dropped.
+  -- Where the bound of a trait is the automatic one, the own predicates of its impl suffice, and none can be dropped.
   pub bounded : (definition : DeriveInput) (items : List Item) → IsDefinition definition.tokens definition → OneEach definition items
       → AllByRecursion (HasTightBounds definition) items
 
@@ -57,8 +57,8 @@ pub record ComparisonLaws : Type 0 where
   pub arm_scope : (which : Comparison) (definition : DeriveInput) (names : Names) (fields : List Field) → AreNames definition names → AreApart (field_names fields)
       → length fields ≤ 2 ^ 64
       → AreScoped definition (names.other ∷ names.discriminant ∷ variables names.own (trait_of which) definition fields ++ variables names.others (trait_of which) definition fields)
-  -- So it is with the names in the scope of a key function: the second value, the function itself, its parameter, and what a distance is
-  -- added to.
+  -- No two names in the scope of a key function are the same, and none but `self` is a word of the input: the second value, the key
+  -- function itself, its parameter, and what a distance is added to.
   pub key_scope : (definition : DeriveInput) (names : Names) → AreNames definition names → AreScoped definition (chosen_names names)
   -- Where the discriminants are numbers of the type, they are the numbers of the constants.
   pub constants : (table : Answers) (definition : DeriveInput) (ty : DiscriminantType) (numbers : List ℤ) (constants : List Constant)

@@ -89,11 +89,11 @@ abbrev pub value_of : ℕ → Option (List FieldValue) → Option Outcome
 value_of place None = None
 value_of place (Some values) = Some (Made (record { variant = place; fields = values }))
 
--- The same where the place is below 2^32, as that of each value is.
+-- The value of the variant at a place and these fields, where the place is below 2^32, as that of each value is.
 abbrev pub placed_value : ℕ → Option (List FieldValue) → Option Outcome
 placed_value place values = if nat_lt place (2 ^ 32) then value_of place values else None
 
--- The same of a case with its place.
+-- The value of a case at its place, where each call for its fields makes one.
 abbrev pub case_made : Answers → DeriveInput → Option (ℕ × List Field) → Option Outcome
 case_made table definition None = None
 case_made table definition (Some case) = value_of case.0 (fields_made table definition case.1)

@@ -25,7 +25,7 @@ marked_by plainly ty = None
 marked_by (by_method path) ty = Some (record { ty = ty; method = path })
 marked_by (by_order path) ty = Some (record { ty = ty; method = path })
 
--- Those of these fields that have a method, in their order.
+-- The types and methods of those of these fields that have a method, in their order.
 abbrev pub marked_fields : List Kept → List Marked
 marked_fields kept = filter_map (λ (k : Kept). marked_by k.how k.field.ty) kept
 

@@ -53,6 +53,7 @@ pub record OrderLaws : Type 0 where
   -- Where `PartialOrd` takes what fields say of `Ord`, each table that covers two values for `Ord` and answers alike covers them for
   -- `PartialOrd`.
   pub covers : (table : Answers) (definition : DeriveInput) (a b : Value) → TakesFromOrd definition → CoversAlike table definition a b → Covers PartialOrd table definition a b
-  -- And then `partial_cmp` means in `Some` what `cmp` means.
+  -- Where `PartialOrd` takes what fields say of `Ord`, and a table covers two values for `Ord` and answers alike, `partial_cmp`
+  -- means in `Some` what `cmp` means.
   pub agree : (table : Answers) (definition : DeriveInput) (a b : Value) → TakesFromOrd definition → CoversAlike table definition a b
       → meaning PartialOrd table definition a b ≡ in_some (meaning Ord table definition a b)

@@ -3,7 +3,7 @@ use Rattle.std.specs.Prelude.{ℕ, ℤ, ◌≡◌, ◌≢◌, ◌+◌, ◌<◌, 
 use Rattle.std.specs.List.{AllByRecursion, IsDistinct}
 use Rattle.std.specs.Ordering.{int_eq}
 
--- Of an element and another one, if there is one, that of lower rank.
+-- The one of lower rank of an element and another, if there is another.
 abbrev pub lesser : {X : Type 0} → (X → ℤ) → X → Option X → Option X
 lesser rank x None = Some x
 lesser rank x (Some y) = if int_lt (rank y) (rank x) then Some y else Some x
@@ -13,7 +13,7 @@ abbrev pub least_by : {X : Type 0} → (X → ℤ) → List X → Option X
 least_by rank [] = None
 least_by rank (x ∷ xs) = lesser rank x (least_by rank xs)
 
--- Each rank is below those of all later elements.
+-- The ranks rise: each is below those of all later elements.
 abbrev pub Rises : {X : Type 0} → (X → ℤ) → List X → Type 0
 Rises rank [] = Unit {0}
 Rises rank (x ∷ xs) = AllByRecursion (λ y. rank x <ℤ rank y) xs × Rises rank xs

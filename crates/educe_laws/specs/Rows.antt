@@ -16,7 +16,7 @@ use Rattle.educe_attrs.specs.declared.debug.TypeName.{TypeName}
 use Rattle.educe_attrs.specs.declared.debug.TypeName.TheVariants as type_name
 use Rattle.educe_attrs.specs.Default as default
 
--- One of the two orders.
+-- The trait is one of the two orders.
 abbrev pub is_order : Trait → Bool
 is_order trait.PartialOrd = true
 is_order trait.Ord = true
@@ -46,7 +46,7 @@ struct_names Named = true
 struct_names Unnamed = false
 struct_names NoFields = true
 
--- So it is of a variant: where its fields have names.
+-- Whether the names of the fields of a variant are shown, where nothing is said of that: where its fields have names.
 abbrev pub variant_names : FieldForm → Bool
 variant_names Named = true
 variant_names Unnamed = false

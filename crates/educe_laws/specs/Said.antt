@@ -21,6 +21,6 @@ AreSaidOf trait.Hash definition = AreSaid trait.Hash definition
 AreSaidOf trait.Debug definition = AreShownSaid definition
 AreSaidOf trait.Default definition = AreDefaultsSaid definition
 
--- So it is for each listed trait.
+-- The settings of each listed trait are what the attributes say of it.
 abbrev pub AreAllSaid : DeriveInput → Type 0
 AreAllSaid definition = (which : Trait) → is_listed (listed definition) which ≡ true → AreSaidOf which definition

@@ -28,15 +28,15 @@ use Rattle.educe_laws.specs.Rows.{type_row, variant_row, field_row}
 
 -- ---- settings
 
--- The settings of the type.
+-- The settings that the attributes of the type give for the trait.
 abbrev pub type_settings : Trait → DeriveInput → Values
 type_settings which definition = place_settings which (type_row which definition) (listed definition) definition.attrs
 
--- Those of a variant.
+-- The settings that the attributes of a variant give for the trait.
 abbrev pub variant_settings : Trait → DeriveInput → Variant → Values
 variant_settings which definition variant = place_settings which (variant_row which) (listed definition) variant.attrs
 
--- Those of a field.
+-- The settings that the attributes of a field give for the trait.
 abbrev pub settings_of : Trait → DeriveInput → Field → FieldSettings
 settings_of which definition = settings_at which (field_row which) (listed definition)
 
@@ -66,7 +66,7 @@ pub record AreSettings (which : Trait) (row : Row) (definition : DeriveInput) (a
   pub read : NoCause (OfPlace which row (listed definition) attributes)
   pub said : IsSaid which row attributes values
 
--- So it is of those of a field.
+-- The attributes of a field have no cause of a rejection by the forms of this row, and they say this.
 pub record AreFieldSettings (which : Trait) (row : Row) (definition : DeriveInput) (field : Field) (settings : FieldSettings) : Type 0 where
   pub read : NoCause (OfField which row (listed definition) field.attrs)
   pub said : IsFieldSaid which row (listed definition) field.attrs settings
@@ -132,7 +132,7 @@ kept_with settings place field = record {
   how = how_by settings;
 }
 
--- Those that take part among fields with these settings, of which the first has this place.
+-- The fields that take part, among fields with these settings; the first field has this place.
 abbrev pub kept_by : ℕ → List Field → List FieldSettings → List Kept
 kept_by place [] all = []
 kept_by place (f ∷ fs) [] = []
@@ -142,15 +142,15 @@ kept_by place (f ∷ fs) (s ∷ all) = if keeps s then kept_with s place f ∷ k
 abbrev pub kept_at : Trait → DeriveInput → ℕ → Field → Kept
 kept_at which definition place field = kept_with (settings_of which definition field) place field
 
--- Those that take part among fields of which the first has this place.
+-- The fields that take part, among fields of which the first has this place.
 abbrev pub kept_from : Trait → DeriveInput → ℕ → List Field → List Kept
 kept_from which definition place fields = kept_by place fields (map (settings_of which definition) fields)
 
--- Those that take part among the fields of one case, in written order.
+-- The fields of one case that take part, in written order.
 abbrev pub kept_fields : Trait → DeriveInput → List Field → List Kept
 kept_fields which definition fields = kept_from which definition 0 fields
 
--- Those of all cases.
+-- The fields of all cases that take part, case by case.
 abbrev pub all_kept : Trait → DeriveInput → List Kept
 all_kept which definition = flat_map (kept_fields which definition) (cases_of definition)
 

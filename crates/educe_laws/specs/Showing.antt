@@ -29,7 +29,7 @@ method_text (by_order path) = Some (text_of_path path)
 abbrev pub entry_with : Bool → DeriveInput → Kept → FieldValue → Entry
 entry_with named definition kept x = record { key = shown_key named definition kept; method = method_text kept.how; value = x }
 
--- The same of the one of these values that stands at its place.
+-- The entry of a field that is shown, with the one of these values that stands at its place.
 abbrev pub entry_among : Bool → DeriveInput → List FieldValue → Kept → Option Entry
 entry_among named definition values kept = option_map (entry_with named definition kept) (slice_get values kept.place)
 

@@ -90,7 +90,7 @@ pub record ShownCase : Type 0 where
   pub named : Bool
   pub fields : List Field
 
--- Those of a struct, where the type says this.
+-- How the values of a struct are shown, where the attributes of the type say this.
 abbrev pub struct_case : DeriveInput → Values → FieldShape → ShownCase
 struct_case definition own shape = record {
   unit = false;
@@ -99,7 +99,7 @@ struct_case definition own shape = record {
   fields = shape.fields;
 }
 
--- Those of a variant, where the type and the variant say this.
+-- How the values of a variant are shown, where the attributes of the type and of the variant say this.
 abbrev pub variant_case : DeriveInput → Values → Variant → Values → ShownCase
 variant_case definition own variant values = record {
   unit = is_unit variant;
@@ -112,16 +112,16 @@ variant_case definition own variant values = record {
 abbrev pub struct_shown : DeriveInput → FieldShape → ShownCase
 struct_shown definition shape = struct_case definition (type_settings Debug definition) shape
 
--- The case of a variant.
+-- How the values of a variant are shown.
 abbrev pub variant_shown : DeriveInput → Variant → ShownCase
 variant_shown definition variant = variant_case definition (type_settings Debug definition) variant (naming_values definition variant)
 
--- The case of a struct, or that of each variant of an enum.
+-- How the values of the struct, or of each variant of the enum, are shown.
 abbrev pub cases_for : DeriveInput → Shape → List ShownCase
 cases_for definition (Struct shape) = struct_shown definition shape ∷ []
 cases_for definition (Enum variants) = map (variant_shown definition) variants
 
--- Those of a definition, in written order.
+-- How the values of each case of a definition are shown, in written order.
 abbrev pub shown_cases : DeriveInput → List ShownCase
 shown_cases definition = cases_for definition definition.shape
 
@@ -133,7 +133,7 @@ form_by false false name = form.Tuple
 form_by false true [] = form.Map
 form_by false true (c ∷ name) = form.Struct
 
--- That of a case.
+-- The form in which the values of a case are shown.
 abbrev pub form_of : ShownCase → ShapeForm
 form_of case = form_by case.unit case.named case.name
 
@@ -143,7 +143,7 @@ form_of case = form_by case.unit case.named case.name
 abbrev pub shown_fields : DeriveInput → ShownCase → List Kept
 shown_fields definition case = kept_by 0 case.fields (map (entry_settings case.named definition) case.fields)
 
--- Those of all cases.
+-- The fields of all cases that are shown, case by case.
 abbrev pub all_shown : DeriveInput → List Kept
 all_shown definition = flat_map (shown_fields definition) (shown_cases definition)
 
@@ -176,7 +176,7 @@ pub record AreShownSaid (definition : DeriveInput) : Type 0 where
 abbrev pub IsCaseRead : DeriveInput → ShownCase → Type 0
 IsCaseRead definition case = HaveNoCauses Debug (entry_row case.named) (listed definition) case.fields
 
--- So it is of all cases.
+-- No field of any case says something wrong.
 abbrev pub AreCasesRead : DeriveInput → Type 0
 AreCasesRead definition = AllByRecursion (IsCaseRead definition) (shown_cases definition)
 
@@ -186,15 +186,15 @@ AreCasesRead definition = AllByRecursion (IsCaseRead definition) (shown_cases de
 abbrev pub AreTypeSettings : DeriveInput → Values → Type 0
 AreTypeSettings definition own = AreSettings Debug (type_row Debug definition) definition definition.attrs own
 
--- So it is of those of a variant.
+-- The attributes of a variant have no cause of a rejection, and they say this.
 abbrev pub AreNamingSettings : DeriveInput → Variant → Values → Type 0
 AreNamingSettings definition variant values = AreSettings Debug (naming_row variant) definition variant.attrs values
 
--- And of those of a field, where the names of fields are shown or not.
+-- The attributes of a field have no cause of a rejection, where the names of fields are shown or not, and they say this.
 abbrev pub AreEntrySettings : DeriveInput → Bool → Field → FieldSettings → Type 0
 AreEntrySettings definition named field settings = AreFieldSettings Debug (entry_row named) definition field settings
 
--- This is the case of a struct.
+-- The case is that of a struct.
 pub record IsStructCase (definition : DeriveInput) (case : ShownCase) : Type 0 where
   pub own : Values
   pub shape : FieldShape
@@ -202,7 +202,7 @@ pub record IsStructCase (definition : DeriveInput) (case : ShownCase) : Type 0 w
   pub is : definition.shape ≡ Struct shape
   pub case_is : case ≡ struct_case definition own shape
 
--- This is the case of a variant of an enum.
+-- The case is that of a variant of an enum.
 pub record IsVariantCase (definition : DeriveInput) (variant : Variant) (case : ShownCase) : Type 0 where
   pub own : Values
   pub values : Values

@@ -49,7 +49,7 @@ pub record DebugNames : Type 0 where
   pub marker_formatter : List ℕ
   pub prefix : List ℕ
 
--- Those among them that `fmt` declares, as they are written where nothing is in their way.
+-- The names that `fmt` declares, as they are written where nothing is in their way.
 abbrev pub plain_fmt_names : List (List ℕ)
 plain_fmt_names =
     codes "f" ∷ codes "builder" ∷ codes "arg" ∷ codes "Educe__DebugField" ∷ codes "Educe__RawString" ∷ codes "V" ∷ codes "F" ∷ codes "educe__value"
@@ -61,7 +61,7 @@ chosen_fmt_names names =
     names.formatter ∷ names.builder ∷ names.argument ∷ names.wrapper ∷ names.helper ∷ names.value_type ∷ names.function_type ∷ names.value
     ∷ names.value_formatter ∷ []
 
--- Those that a marker declares besides.
+-- The names that a marker declares beyond those of `fmt`, as they are written where nothing is in their way.
 abbrev pub plain_marker_names : List (List ℕ)
 plain_marker_names = codes "__educe_debug_method_used" ∷ codes "educe__f" ∷ []
 
@@ -128,7 +128,7 @@ pub record ArePlain (names : DebugNames) (form : ShapeForm) (text : List ℕ) (r
   pub entry_is : IsEntry names form text (is_lent reading) read entry
   pub are : forms ≡ entry ∷ []
 
--- Those on a field with this method: the argument on what is read, and the entry of the argument.
+-- The forms on a field with this method: the argument on what is read, and the entry of the argument.
 pub record AreByMethod (names : DebugNames) (form : ShapeForm) (text : List ℕ) (reading : Reading) (kept : Kept) (path : ExprPath) (forms : List Form) : Type 0 where
   pub read : Form
   pub read_is : IsRead reading kept read
@@ -213,7 +213,7 @@ IsDebugBlockFor definition names (Enum variants) block = IsDebugEnum definition 
 
 -- ---- the body
 
--- It is a map.
+-- The form is that of a map.
 abbrev pub is_map : ShapeForm → Bool
 is_map form.Word = false
 is_map form.Struct = false
@@ -224,7 +224,7 @@ is_map form.Map = true
 abbrev pub uses_map : DeriveInput → Bool
 uses_map definition = list_any (λ case. is_map (form_of case)) (shown_cases definition)
 
--- With true the type of the keys of a map, and behind it these forms; else these alone.
+-- With true the block is the type of the keys of a map and then these forms, and else these forms alone.
 abbrev pub HasHelper : Bool → DebugNames → List Form → List Form → Type 0
 HasHelper false names forms block = block ≡ forms
 HasHelper true names forms block =

@@ -93,16 +93,16 @@ pub record IsStep (which : Comparison) (own others : Reading) (kept : Kept) (x :
   pub is : x ≡ step_of which (tested which kept.how compares)
   pub comparison_is : IsComparison which own others kept compares
 
--- One step for each of these fields, in their order.
+-- One step of a comparison for each of these fields, in their order.
 abbrev pub AreSteps : Comparison → Reading → Reading → List Kept → List Form → Type 0
 AreSteps which own others ordered steps = AllZip (λ k step. IsStep which own others k step) ordered steps
 
--- The same fields, in the order of their ranks.
+-- The sorted fields are the kept ones, in the order of their ranks.
 pub record IsByRank (kept sorted : List Kept) : Type 0 where
   pub same : IsPermutation kept sorted
   pub rises : Rises (λ (k : Kept). k.rank) sorted
 
--- With true by rank, and else as they are written.
+-- The ordered fields are the kept ones: with true by rank, and else as they are written.
 abbrev pub IsOrdered : Bool → List Kept → List Kept → Type 0
 IsOrdered true kept ordered = IsByRank kept ordered
 IsOrdered false kept ordered = ordered ≡ kept

@@ -51,7 +51,8 @@ pub record AreOfFields (which : Trait) (definition : DeriveInput) (read touched 
 
 -- ---- the types that are checked
 
--- With true those of the fields that `PartialEq` compares by its own function, as they are written; and else those of all fields.
+-- The types that `Eq` is checked of: with true those of the fields that `PartialEq` compares by its own function, as they are
+-- written, and else those of all fields.
 abbrev pub checked_with : Bool → DeriveInput → List Ty
 checked_with true definition = touched_types (flat_map (kept_fields trait.PartialEq definition) (cases_of definition))
 checked_with false definition = map (λ (f : Field). f.ty) (all_fields definition)
@@ -67,7 +68,8 @@ pub record AreUnread (types read touched : List Ty) : Type 0 where
   pub none_read : read ≡ []
   pub touched_are : touched ≡ types
 
--- With true, where values are copied as a whole, none are read; and else those of all fields that take part.
+-- The types for `Clone`: with true, where values are copied as a whole, none are read, and else those of all fields that take
+-- part.
 abbrev pub AreCloneTypes : Bool → DeriveInput → List Ty → List Ty → Type 0
 AreCloneTypes true definition read touched = AreUnread [] read touched
 AreCloneTypes false definition read touched = AreOfFields trait.Clone definition read touched

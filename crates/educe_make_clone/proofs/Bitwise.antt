@@ -30,7 +30,7 @@ exchanged false true n d = refl
 exchanged false false true d = refl
 exchanged false false false d = refl
 
--- the first of them is told as its opposite
+-- the first test is given as its opposite
 told : (none c : Bool) → (none && c) ≡ (not (not none) && c)
 told true c = refl
 told false c = refl
@@ -44,7 +44,7 @@ module _ (d : DeriveInput) where
       (λ j. told (is_none (settings_of Clone d f).values.method) (is_closed d.generics.params f) j && case_bitwise fs j)
       ∙ exchanged (has_method (settings_of Clone d f)) (is_closed d.generics.params f) (list_any has_method (map (settings_of Clone d) fs)) (list_all (is_closed d.generics.params) fs)
 
-  -- those of variants
+  -- the fields of variants
   variants_bitwise : (variants : List Variant)
       → list_all (is_bitwise d) (flat_map fields_in variants)
       ≡ (not (list_any (list_any has_method) (settings_in Clone d (map fields_in variants))) && list_all (is_closed d.generics.params) (flat_map fields_in variants))

@@ -21,14 +21,14 @@ module _ (d : DeriveInput) (names : CloneNames) where
   clone_matched [] (arm ∷ arms) block some are is = absurd are
   clone_matched (v ∷ vs) arms block some are is = match_of (IsCloneArm d names) (v ∷ vs) arms block are is
 
-  -- and where there are none
+  -- the block of `clone` where there are no arms
   pub clone_unmatched : (variants : List Variant) (arms : List Arm) (block : List Form) → length arms ≡ 0 → AllZip (IsCloneArm d names) variants arms → block ≡ Unreachable ∷ []
       → IsCloneEnum d names variants block
   clone_unmatched [] arms block none are is = is
   clone_unmatched (v ∷ vs) [] block none are is = absurd are
   clone_unmatched (v ∷ vs) (arm ∷ arms) block none are is = absurd (omega arith)
 
-  -- so it is with that of `clone_from`
+  -- the block of `clone_from` where there are arms
   pub from_matched : (variants : List Variant) (arms : List Arm) (block : List Form) → length arms ≢ 0 → AllZip (IsFromArm d names) variants arms → IsMatchOf arms block
       → IsFromEnum d names variants block
   from_matched [] [] block some are is = absurd (some refl)

@@ -23,7 +23,7 @@ use Rattle.educe_laws.specs.Settings.{bound_for}
 abbrev pub is_closed : List GenericParam → Field → Bool
 is_closed params field = not (uses_params params field.ty)
 
--- So it is with the types of all fields.
+-- The types of all fields name none of the type and const parameters.
 abbrev pub is_closed_shape : List GenericParam → Shape → Bool
 is_closed_shape params (Struct shape) = list_all (is_closed params) shape.fields
 is_closed_shape params (Enum variants) = list_all (λ v. list_all (is_closed params) (fields_in v)) variants
@@ -43,6 +43,6 @@ abbrev pub IsCopyUncaused : DeriveInput → Type 0
 IsCopyUncaused definition =
     is_listed (listed definition) trait.Copy ≡ true → NoCause (OfPlace trait.Copy (type_row trait.Copy definition) (listed definition) definition.attrs)
 
--- It is listed, and something is.
+-- A cause of a rejection in what the type says of `Copy`, where `Copy` is listed.
 abbrev pub OfCopy : DeriveInput → EduceError → Type 0
 OfCopy definition e = (is_listed (listed definition) trait.Copy ≡ true) × OfPlace trait.Copy (type_row trait.Copy definition) (listed definition) definition.attrs e

@@ -40,8 +40,8 @@ impl TraitHandler for CloneHandler {
     }
 }
 
-/// Its part that takes structs.
+/// The part of the handler of `Clone` that takes structs.
 pub type CloneStructHandler = StructPart<CloneHandler>;
 
-/// Its part that takes enums.
+/// The part of the handler of `Clone` that takes enums.
 pub type CloneEnumHandler = EnumPart<CloneHandler>;

@@ -23,21 +23,21 @@ fn are_closed(fields: &[Field], params: &Params) -> bool
         .all(|field| !type_uses_generic_params(&field.ty, params))
 }
 
-/// The same of the fields of a variant.
+/// Whether none of the types of a variant's fields names a type or const parameter.
 fn is_closed(variant: &Variant, params: &Params) -> bool
     ensures { result ≡ list_all (bitwise.is_closed params.now) (fields_in variant.now) }
 {
     are_closed(variant.fields.fields.as_slice(), params)
 }
 
-/// The same of the fields of variants.
+/// Whether none of the types of the fields of these variants names a type or const parameter.
 fn are_closed_variants(variants: &[Variant], params: &Params) -> bool
     ensures { result ≡ list_all (λ v. list_all (bitwise.is_closed params.now) (fields_in v)) variants.now }
 {
     variants.iter().all(|variant| is_closed(variant, params))
 }
 
-/// The same of all fields of a definition.
+/// Whether none of the types of all fields of a definition names a type or const parameter.
 fn is_closed_shape(ast: &DeriveInput) -> bool
     ensures { result ≡ bitwise.is_closed_shape ast.now.generics.params ast.now.shape }
 {

@@ -14,7 +14,7 @@ use educe_syntax::{Field, Shape, Variant};
 use educe_tokens::Seq;
 use std::alloc::{AllocError, Global};
 
-/// Adds those of a case, whose fields have these settings.
+/// Adds the fields of a case that take part, where the fields have these settings.
 fn add_kept<'d, 's>(
     alloc: Global,
     task: Task<'_, '_>,
@@ -28,7 +28,7 @@ fn add_kept<'d, 's>(
     add_case(alloc, fields, settings, all)
 }
 
-/// Adds those of variants, whose fields have these settings.
+/// Adds the fields of variants that take part, where the fields have these settings.
 fn add_variants<'d, 's>(
     alloc: Global,
     task: Task<'_, '_>,
@@ -46,7 +46,7 @@ fn add_variants<'d, 's>(
     Ok(())
 }
 
-/// Adds those of all cases, one case behind the other.
+/// Adds the fields of all cases that take part, one case behind the other.
 fn add_all<'d, 's>(
     alloc: Global,
     task: Task<'d, '_>,
@@ -65,7 +65,7 @@ fn add_all<'d, 's>(
     }
 }
 
-/// Those of all cases, where the fields of each have these settings.
+/// The fields of all cases that take part, where the fields of each case have these settings.
 pub fn all_kept<'d, 's>(
     alloc: Global,
     task: Task<'d, '_>,

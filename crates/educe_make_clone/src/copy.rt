@@ -52,8 +52,8 @@ impl TraitHandler for CopyHandler {
     }
 }
 
-/// Its part that takes structs.
+/// The part of the handler of `Copy` that takes structs.
 pub type CopyStructHandler = StructPart<CopyHandler>;
 
-/// Its part that takes enums.
+/// The part of the handler of `Copy` that takes enums.
 pub type CopyEnumHandler = EnumPart<CopyHandler>;

@@ -32,8 +32,8 @@ impl TraitHandler for DebugHandler {
     }
 }
 
-/// Its part that takes structs.
+/// The part of the handler of `Debug` that takes structs.
 pub type DebugStructHandler = StructPart<DebugHandler>;
 
-/// Its part that takes enums.
+/// The part of the handler of `Debug` that takes enums.
 pub type DebugEnumHandler = EnumPart<DebugHandler>;

@@ -105,7 +105,7 @@ key_is true d own k is = ap (λ (s : FieldSettings). key_text s.values.name k.pl
 -- ---- the forms on all fields
 
 module _ (d : DeriveInput) (names : DebugNames) (case : ShownCase) (reading : Reading) where
-  -- those on one field more
+  -- the forms on all fields and one field more
   entries_push : (kept : List Kept) (forms : List Form) (k : Kept) (own : List Form) → AreEntries d names case reading kept forms
       → AreFormsBy names (form_of case) (shown_key case.named d k) reading k k.how own → AreEntries d names case reading (kept ++ k ∷ []) (forms ++ own)
   entries_push [] forms k own none here = (own, [], ap (λ (front : List Form). front ++ own) none ∙ sym (append-nil own), here, refl)

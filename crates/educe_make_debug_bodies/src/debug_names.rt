@@ -22,7 +22,7 @@ pub struct DebugNames {
     pub builder: Ident,
     /// The type of the keys of a map.
     pub helper: Ident,
-    /// Those of the argument of a method.
+    /// The names of the argument of a method.
     pub argument: Shared<ArgumentNames>,
     /// The function of a marker.
     pub function: Ident,

@@ -45,7 +45,7 @@ module _ (d : DeriveInput) where
     pub struct_stands : (shape : FieldShape) → d.shape ≡ Struct shape → IsCase d (struct_shown d shape)
     struct_stands shape is = IsCase.of_struct (struct_is d shape is typed.own)
 
-    -- that of a variant
+    -- the case of a variant
     pub variant_stands : (variant : Variant) → IsOneOf d variant → IsNamingRead d variant → IsCase d (variant_shown d variant)
     variant_stands variant one read = IsCase.of_variant variant (variant_is d one.variants one.is variant one.among typed.own (naming_said variant read))
 
@@ -63,7 +63,7 @@ each_more P xs i d x less item before here =
 -- ---- the cases of an enum
 
 module _ (d : DeriveInput) (variants : List Variant) (is : d.shape ≡ Enum variants) where
-  -- those of its variants
+  -- the cases of the variants of an enum
   pub enum_cases : (cases : List Case) → AreVariantCases d variants cases → AreCases d cases
   enum_cases cases are =
       subst (λ (shape : Shape). AllZip (IsCaseOf d) (cases_for d shape) cases) (sym is) (zip_mapped (IsCaseOf d) (variant_shown d) variants cases are)

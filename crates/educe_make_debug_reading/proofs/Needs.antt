@@ -112,14 +112,14 @@ module _ (d : DeriveInput) where
         by_unit true unit = IsShownCause.by_unit_variant v (variant_shown d v) own unit none.nameless
         by_unit false unit = IsShownCause.by_bracketed_variant v (variant_shown d v) own unit none
 
-    -- so is one of those of a definition
+    -- a case of a definition of which nothing is shown is rejected
     pub case_refused : AreRead d → (cases : List Case) → AreCases d cases → (i : ℕ) (case : Case) → i < length cases → case ≡ get_or cases i case → shows case ≡ false
         → IsShownCause d (name_needed case.need case.place)
     case_refused read cases are i case less item none =
         let (shown, among, is) = zip_at (IsCaseOf d) (shown_cases d) cases i case case less item are in
         own_refused read.namings shown case.need case.place is.own (nameless shown case is (In-all (IsCaseRead d) (shown_cases d) shown read.cases among) none)
 
-    -- and an enum without variants, of which no name is shown
+    -- an enum without variants is rejected where no name is shown
     pub enum_refused : (cases : List Case) → AreCases d cases → cases ≡ [] → (name : List ℕ) → name ≡ type_text d (type_settings Debug d) → is_shown name ≡ false
         → IsShownCause d (name_needed UnitEnumNeedName d.ident.span)
     enum_refused cases are none name is unshown =
@@ -130,7 +130,7 @@ module _ (d : DeriveInput) where
       → IsNeeded shows (name_needed kind place) e → OfHandler (handling d) Debug e
   needed_of shows kind place cause e needed = inr (subst (IsShownCause d) (sym needed.is) (cause needed.nothing))
 
-  -- so is a stop for one
+  -- a stop for a need of a name is one for the handler
   pub need_stopped : (shows : Bool) (kind : Kind) (place : Span) → (shows ≡ false → IsShownCause d (name_needed kind place)) → (s : Stop)
       → OfStop (IsNeeded shows (name_needed kind place)) s → OfStop (OfHandler (handling d) Debug) s
   need_stopped shows kind place cause s stopped =

@@ -83,7 +83,7 @@ module _ (d : DeriveInput) (lists : is_listed (listed d) Debug ≡ true) (own_re
       let own : IsCaseRead d case = In-all (IsCaseRead d) (shown_cases d) case read.cases found in
       In-all (λ (f : Field). NoCause (OfField Debug (entry_row case.named) (listed d) f.attrs)) case.fields f own inner
 
-  -- nor has a list of a field
+  -- no list of a field has a cause
   field_lists : (e : EduceError) (f : Field) → In f (all_fields d) → IsPlaceCause (listed d) f.attrs e → ⊥
   field_lists e f found cause = let (case, outer, inner) = in_cases d d.shape f found in (field_clear case outer f inner).none_stands e (inl cause)
 

@@ -19,7 +19,7 @@ pub record IsTyped (definition : DeriveInput) (traits : List Trait) : Type 0 whe
   pub traits_are : traits ≡ listed definition
   pub own : AreTypeSettings definition (type_settings Debug definition)
 
--- This is a variant of the definition.
+-- The variant is one of the definition.
 pub record IsOneOf (definition : DeriveInput) (variant : Variant) : Type 0 where
   pub variants : List Variant
   pub is : definition.shape ≡ Enum variants
@@ -29,12 +29,12 @@ pub record IsOneOf (definition : DeriveInput) (variant : Variant) : Type 0 where
 abbrev pub IsNamingRead : DeriveInput → Variant → Type 0
 IsNamingRead definition variant = NoCause (OfPlace Debug (naming_row variant) (listed definition) variant.attrs)
 
--- Nor have those of its fields.
+-- Neither the attributes of a variant nor those of its fields have a cause.
 pub record IsVariantRead (definition : DeriveInput) (variant : Variant) : Type 0 where
   pub naming : IsNamingRead definition variant
   pub fields : IsCaseRead definition (variant_shown definition variant)
 
--- So it is of each variant.
+-- Neither the attributes of any variant nor those of its fields have a cause.
 abbrev pub AreVariantsRead : DeriveInput → List Variant → Type 0
 AreVariantsRead definition variants = AllByRecursion (IsVariantRead definition) variants
 

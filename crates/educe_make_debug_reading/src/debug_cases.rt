@@ -116,7 +116,8 @@ fn variant_case<'d>(
     })
 }
 
-/// That of each variant.
+/// The case of each variant of a type of which this name is shown. It is rejected exactly where an attribute
+/// of a variant or of a field is wrong, or memory fails.
 fn variant_cases<'d>(
     alloc: Global,
     task: Task<'d, '_>,

@@ -20,17 +20,17 @@ shown_of case = record { unit = case.unit; name = case.name.text; named = case.n
 abbrev pub AreSettled : DeriveInput → Case → Type 0
 AreSettled definition case = case.settings ≡ map (entry_settings case.named definition) case.fields.now
 
--- This is the case that is shown so.
+-- The case is the one that is shown so.
 pub record IsCaseOf (definition : DeriveInput) (shown : ShownCase) (case : Case) : Type 0 where
   pub is : shown_of case ≡ shown
   pub settled : AreSettled definition case
   pub own : IsOwnCase definition shown case.need case.place
 
--- Those of the variants.
+-- These are the cases of the variants, in written order.
 abbrev pub AreVariantCases : DeriveInput → List Variant → List Case → Type 0
 AreVariantCases definition variants cases = AllZip (λ variant case. IsCaseOf definition (variant_shown definition variant) case) variants cases
 
--- Those of a definition.
+-- These are the cases of the definition, in written order.
 abbrev pub AreCases : DeriveInput → List Case → Type 0
 AreCases definition cases = AllZip (IsCaseOf definition) (shown_cases definition) cases
 

@@ -16,7 +16,7 @@ abbrev pub variant_kind : Bool → Kind
 variant_kind true = UnitVariantNeedName
 variant_kind false = UnitStructNeedName
 
--- And at which place.
+-- The place at which a variant is rejected, with true a unit.
 abbrev pub variant_place : Bool → Variant → Span
 variant_place true variant = variant.span
 variant_place false variant = variant.ident.span

@@ -42,7 +42,7 @@ pub fn type_name<'a>(ast: &'a DeriveInput, own: &'a Values) -> Option<&'a Ident>
     said_name(&ast.ident, shows_name(&ast.shape), &own.name)
 }
 
-/// That of a variant, where its attributes say this.
+/// The name of a variant that is shown, if one is, where its attributes say this.
 pub fn variant_name<'a>(variant: &'a Variant, values: &'a Values) -> Option<&'a Ident>
     ensures { optional_text (option_copied result) ≡ spec.variant_text variant.now values.now }
 {

@@ -64,7 +64,7 @@ module _ (d : DeriveInput) where
   none_of_two (a ∷ []) (b ∷ ys) x y first second first_mark second_mark = several_marked (a ∷ []) (b ∷ ys) x y first second first_mark second_mark
   none_of_two (a ∷ b ∷ xs) ys x y first second first_mark second_mark = several_marked (a ∷ b ∷ xs) ys x y first second first_mark second_mark
 
-  -- nor where none is marked, and there is not only one
+  -- where no variant is marked, and there is not only one, none is chosen
   pub none_of_none : (vs : List Variant) → is_one vs ≡ false → AllByRecursion (λ v. is_marked d v ≡ false) vs → chosen_variant d vs ≡ None
   none_of_none [] many none = refl
   none_of_none (v ∷ []) many none = absurd (true≢false many)

@@ -61,7 +61,7 @@ module _ (d : DeriveInput) (lists : is_listed (listed d) Default ≡ true) (own 
       by_value_said None none = by_choice (of_struct shape) (struct_chosen d shape is none)
       by_value_said (Some said) some = by_choice (by_value said) (value_chosen d said some)
 
-  -- nor is an enum whose variants and fields have none, where something is chosen
+  -- an enum whose variants and fields have no cause is not rejected, where something is chosen
   pub enum_uncaused : (variants : List Variant) → d.shape ≡ Enum variants → AreMarksRead d variants → AreRead d (Enum variants) → (choice : Choice) → choice_of d ≡ Some choice
       → NoCause (OfHandler (handling d) Default)
   enum_uncaused variants is marks read choice chosen =

@@ -23,7 +23,7 @@ many_of_length [] many = refl
 many_of_length (x ∷ []) many = absurd (many refl)
 many_of_length (x ∷ y ∷ xs) many = refl
 
--- so it is with what is made of each
+-- a list has exactly one element where what is made of each has
 pub one_mapped : {X Y : Type 0} (f : X → Y) (xs : List X) → is_one (map f xs) ≡ is_one xs
 one_mapped f [] = refl
 one_mapped f (x ∷ []) = refl
@@ -31,7 +31,7 @@ one_mapped f (x ∷ y ∷ xs) = refl
 
 -- ---- the places of marks
 
--- those of two lists, one behind the other
+-- the places of marks in two lists, one behind the other
 places_joined : (n : ℕ) (xs ys : List Values) → places_from n (xs ++ ys) ≡ places_from n xs ++ places_from (n + length xs) ys
 places_joined n [] ys = let here : n ≡ n + 0 = omega arith in ap (λ k. places_from k ys) here
 places_joined n (x ∷ xs) ys =
@@ -43,7 +43,7 @@ places_joined n (x ∷ xs) ys =
     by_flag front back rest true same = ap (λ more. n ∷ more) same
     by_flag front back rest false same = same
 
--- those of one more
+-- the places of marks in a list and one more
 places_more : (marks : List Values) (i : ℕ) (d m : Values) → i < length marks → m ≡ get_or marks i d → places_from 0 (take (i + 1) marks) ≡ places_from 0 (take i marks) ++ (if m.flag then i ∷ [] else [])
 places_more marks i d m less item =
     let long : 0 + length (take i marks) ≡ i = omega (arith, length-take i marks) in

@@ -71,7 +71,7 @@ module _ (d : DeriveInput) (lists : is_listed (listed d) Default ≡ true) (own_
       let row : is_written d variants v ≡ (is_none own.expression && (is_one variants || mark.flag)) = sym (λ i. is_none (own_same i).expression && (is_one variants || (mark_same i).flag)) in
       subst (λ written. NoCause (OfField Default (value_row written) (listed d) field.attrs)) row here
 
-  -- nor has a list of a field
+  -- no list of a field has a cause
   field_lists : (shape : Shape) → AreRead d shape → (e : EduceError) (field : Field) → In field (shape_fields shape) → IsPlaceCause (listed d) field.attrs e → ⊥
   field_lists (Struct shape) each e field found cause =
       (In-all (λ (f : Field). NoCause (OfField Default (value_row (is_open d)) (listed d) f.attrs)) shape.fields field each found).none_stands e (inl cause)

@@ -41,16 +41,16 @@ settings_by written definition field = settings_at Default (value_row written) (
 abbrev pub AreFieldsRead : Bool → DeriveInput → List Field → Type 0
 AreFieldsRead written definition fields = HaveNoCauses Default (value_row written) (listed definition) fields
 
--- Those of the fields of a struct, or of each variant, have none.
+-- The attributes of the fields of the struct, or of each variant of the enum, have no cause.
 abbrev pub AreRead : DeriveInput → Shape → Type 0
 AreRead definition (Struct shape) = AreFieldsRead (is_open definition) definition shape.fields
 AreRead definition (Enum variants) = AllByRecursion (λ variant. AreFieldsRead (is_written definition variants variant) definition (fields_in variant)) variants
 
--- Nor have those of a variant.
+-- The attributes of a variant have no cause.
 abbrev pub IsMarkRead : DeriveInput → Variant → Type 0
 IsMarkRead definition variant = NoCause (OfPlace Default (mark_row (is_open definition)) (listed definition) variant.attrs)
 
--- Nor have those of each.
+-- The attributes of each of these variants have no cause.
 abbrev pub AreMarksRead : DeriveInput → List Variant → Type 0
 AreMarksRead definition variants = AllByRecursion (IsMarkRead definition) variants
 

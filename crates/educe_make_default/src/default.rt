@@ -40,8 +40,8 @@ impl TraitHandler for DefaultHandler {
     }
 }
 
-/// Its part that takes structs.
+/// The part of the handler of `Default` that takes structs.
 pub type DefaultStructHandler = StructPart<DefaultHandler>;
 
-/// Its part that takes enums.
+/// The part of the handler of `Default` that takes enums.
 pub type DefaultEnumHandler = EnumPart<DefaultHandler>;

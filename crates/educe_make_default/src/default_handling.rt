@@ -37,7 +37,7 @@ pub struct Own {
     pub span: Span,
 }
 
-/// The same, of these settings.
+/// What the attributes of the type say, by these settings.
 pub fn own_of(values: Values) -> Own
     ensures bound { result.bound ≡ settings.bound_said values.bound }
     ensures new { result.has_new ≡ unwrap_or values.new false }
@@ -113,7 +113,7 @@ fn new_item(alloc: Global, ast: &DeriveInput, generics: Generics) -> Result<Impl
     })
 }
 
-/// The same, where the type asks for it.
+/// The impl that holds `new`, where the type asks for it.
 fn new_if(
     alloc: Global,
     ast: &DeriveInput,

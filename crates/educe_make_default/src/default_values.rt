@@ -48,7 +48,8 @@ fn is_written(bare: bool, count: usize, mark: &Values) -> bool
     bare && (count == 1 || mark.flag)
 }
 
-/// The same of the fields of each variant, by what the attributes of the variants say.
+/// What the attributes of the fields of each variant say of `Default`, by what the attributes of the variants
+/// say. It is rejected exactly where the attributes of a field have a cause, or memory fails.
 pub fn values_of_variants(
     alloc: Global,
     task: Task<'_, '_>,

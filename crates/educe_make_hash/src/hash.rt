@@ -40,8 +40,8 @@ impl TraitHandler for HashHandler {
     }
 }
 
-/// Its part that takes structs.
+/// The part of the handler of `Hash` that takes structs.
 pub type HashStructHandler = StructPart<HashHandler>;
 
-/// Its part that takes enums.
+/// The part of the handler of `Hash` that takes enums.
 pub type HashEnumHandler = EnumPart<HashHandler>;

@@ -49,7 +49,7 @@ module _ (said : Field → FieldSettings) where
 -- ---- the fields of cases
 
 module _ {X : Type 0} (said : X → Field → FieldSettings) (fields_of : X → List Field) where
-  -- those of a case that take part
+  -- the fields of a case that take part
   abbrev pub kept_in : X → List Kept
   kept_in x = kept_by 0 (fields_of x) (map (said x) (fields_of x))
 

@@ -19,11 +19,11 @@ zip_joined R (x ∷ xs) more [] others front back = absurd front
 zip_joined R (x ∷ xs) more (y ∷ ys) others front back = (front.0, zip_joined R xs more ys others front.1 back)
 
 module _ (marking : MethodMarker) where
-  -- for no field there is none
+  -- no marker is added for no field
   pub none_added : (items : List Item) → AddsMarkers marking [] items items
   none_added items = record { markers = []; is = sym (append-nil items); are = tt }
 
-  -- nor for one that has no method
+  -- no marker is added for a field that has no method
   pub without_method : (k : Kept) (items : List Item) → k.how ≡ plainly → AddsMarkers marking (k ∷ []) items items
   without_method k items is =
       let unmarked : marked_by k.how k.field.ty ≡ None = ap (λ (how : How). marked_by how k.field.ty) is in

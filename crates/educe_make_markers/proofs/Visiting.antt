@@ -52,7 +52,7 @@ module _ (which : Trait) (row : Row) (d : DeriveInput) (f : Field) (own : IsRead
   both path method =
       (own, method_own which row (listed d) f.attrs said path (lawful_settings.field_said which row (listed d) f.attrs none) method)
 
-  -- so is what stands in the marker, if there is one
+  -- what stands in the marker is read, if there is a marker
   with_method : (ordering : Bool) (method : Option ExprPath) → said.values.method ≡ method → IsReadMarked (marked_by (how_with ordering method) f.ty)
   with_method ordering None is = tt
   with_method false (Some path) is = both path is

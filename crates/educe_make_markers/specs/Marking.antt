@@ -22,7 +22,7 @@ abbrev pub IsReadMarked : Option Marked → Type 0
 IsReadMarked None = Unit {0}
 IsReadMarked (Some marked) = IsReadType marked.ty × IsReadPath marked.method
 
--- So it is where the field takes part and has a method.
+-- Where the field takes part and has a method, what stands in its marker is the reading of its tokens.
 abbrev pub MayMark : Kept → Type 0
 MayMark kept = IsReadMarked (marked_by kept.how kept.field.ty)
 

@@ -28,11 +28,11 @@ pub struct MarkerNames {
 /// What the markers of a definition have in common.
 #[derive(Clone, Copy)]
 pub struct MethodMarker<'a> {
-    /// The trait whose methods they call.
+    /// The trait whose methods the markers call.
     pub which: Trait,
     pub ast: &'a DeriveInput,
     pub replace: &'a ReplaceSelf,
-    /// Those of the impl.
+    /// The generics of the impl.
     pub generics: &'a Generics,
     pub names: &'a MarkerNames,
 }
@@ -81,7 +81,7 @@ fn marker_item(
     })
 }
 
-/// The same, behind these items.
+/// Adds the marker of a field with this method behind these items.
 fn push_item(
     alloc: Global,
     marking: &MethodMarker<'_>,
@@ -98,7 +98,7 @@ fn push_item(
     items.push(Item::Marker(item))
 }
 
-/// The marker of a field, where it has a method, behind these items.
+/// Adds the marker of a field behind these items, where the field has a method.
 fn push_marker(
     alloc: Global,
     marking: &MethodMarker<'_>,
@@ -116,7 +116,7 @@ fn push_marker(
     }
 }
 
-/// Those of fields, in their order.
+/// Adds the markers of fields, in their order, behind these items.
 fn push_each(
     alloc: Global,
     marking: &MethodMarker<'_>,

@@ -12,7 +12,7 @@ pub(crate) fn ident(alloc: Global, text: &str) -> Result<Ident, Fail> {
     found(parse_ident(alloc, &lexed_slice(alloc, text)?))
 }
 
-/// Of a struct whose fields have names or not.
+/// The builder for a struct whose fields have names or not.
 pub(crate) fn debug_struct(named_field: bool) -> debug::TypeAttributeBuilder {
     debug::TypeAttributeBuilder {
         enable_flag: true,
@@ -24,7 +24,7 @@ pub(crate) fn debug_struct(named_field: bool) -> debug::TypeAttributeBuilder {
     }
 }
 
-/// Of an enum.
+/// The builder for an enum.
 pub(crate) fn debug_enum() -> debug::TypeAttributeBuilder {
     debug::TypeAttributeBuilder {
         enable_flag: true,
@@ -36,7 +36,7 @@ pub(crate) fn debug_enum() -> debug::TypeAttributeBuilder {
     }
 }
 
-/// Of a variant whose fields have names or not.
+/// The builder for a variant whose fields have names or not.
 pub(crate) fn debug_variant(named_field: bool) -> debug::TypeAttributeBuilder {
     debug::TypeAttributeBuilder {
         enable_flag: false,
@@ -48,7 +48,7 @@ pub(crate) fn debug_variant(named_field: bool) -> debug::TypeAttributeBuilder {
     }
 }
 
-/// Of a field that is shown with a name or without.
+/// The builder for a field that is shown with a name or without.
 pub(crate) fn debug_field(enable_name: bool) -> debug::FieldAttributeBuilder {
     debug::FieldAttributeBuilder {
         enable_name,
@@ -58,7 +58,7 @@ pub(crate) fn debug_field(enable_name: bool) -> debug::FieldAttributeBuilder {
     }
 }
 
-/// Of a type whose name is another where none is given; no name is allowed in its attribute.
+/// The builder for a type whose name is another where none is given; no name is allowed in its attribute.
 pub(crate) fn debug_named(alloc: Global, name: &str) -> Result<debug::TypeAttributeBuilder, Fail> {
     let name = ident(alloc, name)?;
     Ok(debug::TypeAttributeBuilder {
@@ -71,7 +71,7 @@ pub(crate) fn debug_named(alloc: Global, name: &str) -> Result<debug::TypeAttrib
     })
 }
 
-/// Of a field whose name is another where none is given.
+/// The builder for a field whose name is another where none is given.
 pub(crate) fn debug_field_named(
     alloc: Global,
     name: &str,
@@ -85,7 +85,7 @@ pub(crate) fn debug_field_named(
     })
 }
 
-/// Of a field of the rank 7.
+/// The builder for a field of the rank 7.
 pub(crate) fn ord_field(
     enable_ignore: bool,
     enable_method: bool,
@@ -99,7 +99,7 @@ pub(crate) fn ord_field(
     }
 }
 
-/// Of a field of the rank -3.
+/// The builder for a field of the rank -3.
 pub(crate) fn partial_ord_field(
     enable_ignore: bool,
     enable_method: bool,

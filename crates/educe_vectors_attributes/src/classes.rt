@@ -33,7 +33,7 @@ fn handed_on(
     Ok(words)
 }
 
-/// Those of the type parameters that are in the set.
+/// The names of the type parameters that are in the set.
 fn names_in(alloc: Global, params: &Params, set: &IdentSet<'_>) -> Result<String, AllocError> {
     let mut words = String::from_str(alloc, "names")?;
     for param in params.as_slice() {
@@ -47,7 +47,7 @@ fn names_in(alloc: Global, params: &Params, set: &IdentSet<'_>) -> Result<String
     Ok(words)
 }
 
-/// Those of the type parameters that are found in the type.
+/// The names of the type parameters that are found in the type.
 fn found_names(
     alloc: Global,
     exceptions: &BoundExceptions,

@@ -118,7 +118,7 @@ fn written_for(alloc: Global, ty: &Ty, value: &str) -> Result<String, Fail> {
     Ok(printed(alloc, written)?)
 }
 
-/// The same for the type of a field and its default value, as in `u8 = 1`.
+/// The default value for a type, as it is written for a field, of a text such as `u8 = 1`.
 pub(crate) fn written(alloc: Global, text: &str) -> Result<String, Fail> {
     let (ty, value) = text.split_once(" = ").ok_or(text)?;
     let ty = type_of(alloc, ty)?;

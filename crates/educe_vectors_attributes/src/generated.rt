@@ -69,7 +69,7 @@ fn packed(alloc: Global, source: &str) -> Result<bool, Fail> {
     Ok(packed?)
 }
 
-/// The same in words.
+/// Whether a type with these attributes is packed, in words.
 pub(crate) fn packed_words(alloc: Global, source: &str) -> Result<String, Fail> {
     let words = if packed(alloc, source)? {
         "packed"

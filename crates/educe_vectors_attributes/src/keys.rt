@@ -59,7 +59,7 @@ fn shown_alike(alloc: Global, name: &str, index: u32, value: &str) -> Result<Str
     Ok(found)
 }
 
-/// The same for the name of a field, if it has one, its place and a value, as in `a 3 = x` and `0 = x`.
+/// The key for the name of a field, if it has one, its place and a value, as in `a 3 = x` and `0 = x`.
 pub(crate) fn shown_key(alloc: Global, text: &str) -> Result<String, Fail> {
     let (field, value) = text.split_once(" = ").ok_or(text)?;
     let (name, index) = field.split_once(' ').unwrap_or(("", field));

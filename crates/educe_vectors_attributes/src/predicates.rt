@@ -53,7 +53,7 @@ fn bound(alloc: Global, source: &str) -> Result<Bound, Fail> {
     bound
 }
 
-/// The same for a bound and a struct, as in `bound(*) in struct S<T>(T);`.
+/// The words of the predicates that a bound asks for in a struct, as in `bound(*) in struct S<T>(T);`.
 pub(crate) fn asked_words(alloc: Global, text: &str) -> Result<String, Fail> {
     let (meta, source) = text.split_once(" in ").ok_or(text)?;
     let bound = bound(alloc, meta)?;
@@ -100,7 +100,8 @@ fn predicates(alloc: Global, source: &str) -> Result<Predicates, Fail> {
     found(parse_predicates(alloc, &lexed_slice(alloc, source)?))
 }
 
-/// The same for a struct and predicates, as in `struct S<T> where T: A; and T: B`.
+/// The parameters of a struct, and its predicates with more of them, as in `struct S<T> where T: A; and T:
+/// B`.
 pub(crate) fn generics_words(alloc: Global, text: &str) -> Result<String, Fail> {
     let (source, more) = text.split_once(" and ").ok_or(text)?;
     let more = predicates(alloc, more)?;

@@ -109,8 +109,8 @@ fn called(
     }
 }
 
-/// Each line of a row that tells nothing is a call, and what this evaluates to in the items that the source is expanded
-/// to.
+/// Each line of a row that states no answer is a call, and what this evaluates to in the items that the
+/// source is expanded to.
 pub fn check_calls(
     alloc: Global,
     ast: &DeriveInput,

@@ -1,6 +1,7 @@
-//! Worked examples as texts, as far as they go without the program: the rows of a table, the calls that lines of a row
-//! name, what lines tell of what other calls answer, and what is found, as a text to compare. Like
-//! `educe_vectors_checks` it has no tests. `educe_vectors_runs` goes over tables, and says what they look like.
+//! Worked examples as texts, as far as they go without the program: the rows of a table, the calls that lines
+//! of a row name, what lines state of what other calls answer, and what is found, as a text to compare. Like
+//! `educe_vectors_checks` it has no tests. `educe_vectors_runs` goes over tables, and says what they look
+//! like.
 #![tactic(auto)]
 
 mod calls;

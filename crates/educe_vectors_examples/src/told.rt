@@ -1,4 +1,4 @@
-//! What lines of a row tell of what calls answer, as rows of the table that bodies are evaluated by.
+//! What lines of a row state that calls answer, as rows of the table that bodies are evaluated by.
 
 use crate::rows::word_of;
 use crate::values::number;
@@ -9,7 +9,7 @@ use std::alloc::Global;
 use std::cmp::Ordering;
 use std::test::Fail;
 
-/// The words of lines that tell what is answered.
+/// The words of lines that state what is answered.
 const WORDS: [&str; 8] = [
     "method",
     "const",
@@ -104,7 +104,7 @@ fn answer(word: &str, ty: u32, text: &str) -> Result<Answer, Fail> {
     }
 }
 
-/// Whether a line begins with a word of those that tell something.
+/// Whether a line begins with one of the words that state what is answered.
 pub fn is_told(line: &str) -> bool {
     let word = word_of(line);
     for told in &WORDS {
@@ -115,7 +115,7 @@ pub fn is_told(line: &str) -> bool {
     false
 }
 
-/// What a line tells.
+/// What a line states.
 fn row(alloc: Global, line: &str) -> Result<Row, Fail> {
     let (word, rest) = line.split_once(' ').ok_or(line)?;
     let (call, answered) = rest.rsplit_once(" -> ").ok_or(line)?;
@@ -131,8 +131,8 @@ fn row(alloc: Global, line: &str) -> Result<Row, Fail> {
     })
 }
 
-/// The table of what the lines of a row tell. It compares and hashes fields by their numbers, unless a line tells what
-/// `Ne` answers.
+/// The table of what the lines of a row state. It compares and hashes fields by their numbers, unless a line
+/// states what `Ne` answers.
 pub fn answers(alloc: Global, lines: &str) -> Result<Answers, Fail> {
     let mut rows = Seq::new(alloc);
     let mut by_number = true;

@@ -135,7 +135,7 @@ fn check_run(alloc: Global, example: &Example, is_refused: bool) -> Result<(), F
     }
 }
 
-/// The first word of a row that tells nothing: what the lines of the row speak of.
+/// The first word of a row that states no answer: what the lines of the row speak of.
 fn topic<'a>(example: &Example<'a>) -> Result<&'a str, Fail> {
     for line in example.lines.split(LINE) {
         if !is_told(line) {

@@ -35,7 +35,7 @@ fn clone_refused(alloc: Global, attributes: &Attributes) -> Option<EduceError> {
     }
 }
 
-/// The same of the first variant of the enum that a text is.
+/// Why what the attributes of the first variant of the enum that a text is say of `Clone` is rejected.
 fn refusal(alloc: Global, source: &str) -> Result<EduceError, Fail> {
     let ast = definition(alloc, source)?;
     let refused = match first_attributes(&ast) {

@@ -34,7 +34,7 @@ fn discriminant_text(alloc: Global, ast: &DeriveInput) -> Result<String, AllocEr
     format!(in alloc; "{name}:{texts}")
 }
 
-/// The same of the definition that a text is.
+/// The name of the type of the discriminants, and the constants, of the definition that a text is.
 fn answer(alloc: Global, source: &str) -> Result<String, Fail> {
     let ast = definition(alloc, source)?;
     let text = discriminant_text(alloc, &ast);

@@ -51,7 +51,8 @@ fn copies_by_fields(alloc: Global, task: Task<'_, '_>) -> Result<bool, Fail>
     unstopped(alloc, can_use_bitwise_copy(alloc, task, has_method))
 }
 
-/// The same of the definition that a text is, in words.
+/// Whether `clone` copies values as a whole, by what the fields of the definition that a text is say, in
+/// words.
 fn copies(alloc: Global, source: &str) -> Result<String, Fail> {
     let ast = read_definition(alloc, source)?;
     let traits = listed_traits(alloc, &ast)?;
@@ -141,7 +142,8 @@ fn check_part<H: TraitHandler>(
     check_equal(part.as_str(), whole.as_str())
 }
 
-/// The same for the definition that a text is, which lists the trait of the handler alone.
+/// Compares what a handler and its part add for the definition that a text is, which lists the trait of the
+/// handler alone.
 fn check_source<H: TraitHandler>(alloc: Global, source: &str) -> Result<(), Fail>
     requires { (shape : Shape) → IsTrue (H.takes shape) }
 {
@@ -158,7 +160,7 @@ fn check_source<H: TraitHandler>(alloc: Global, source: &str) -> Result<(), Fail
     checked
 }
 
-/// The same for a struct and for an enum.
+/// Compares what a handler and its parts add for a struct and for an enum.
 fn check_parts<H: TraitHandler>(alloc: Global) -> Result<(), Fail>
     requires { (shape : Shape) → IsTrue (H.takes shape) }
 {

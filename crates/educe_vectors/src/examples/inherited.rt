@@ -53,7 +53,8 @@ fn inherited(
     texts
 }
 
-/// The same of own predicates, those of `Clone` and those of `Ord`, as in `T: A; T: B; T: C`.
+/// The predicates with those that are inherited, by own predicates, those of `Clone` and those of `Ord`, as
+/// in `T: A; T: B; T: C`.
 fn answer(alloc: Global, text: &str) -> Result<String, Fail> {
     let (own, noted_texts) = text.split_once("; ").ok_or(text)?;
     let (of_clone, of_ord) = noted_texts.split_once("; ").ok_or(text)?;

@@ -132,7 +132,7 @@ fn generics_text(alloc: Global, generics: &Generics) -> Result<String, AllocErro
     format!(in alloc; "<{params} > where{predicates}")
 }
 
-/// The same of the struct `S` whose generics a text is.
+/// The texts of the parameters and of the predicates of the struct `S` whose generics a text is.
 fn visited_generics(alloc: Global, text: &str) -> Result<String, Fail> {
     let source = format!(in alloc; "struct S {text};")?;
     let ast = read_definition(alloc, &source)?;
@@ -197,7 +197,7 @@ fn markers(
     Ok(spelled(alloc, items?)?)
 }
 
-/// The same of the struct that a text is, by the methods that texts are.
+/// The markers of the first two fields of the struct that a text is, by the methods that texts are.
 fn read_markers(alloc: Global, source: &str, first: &str, second: &str) -> Result<String, Fail> {
     let ast = read_definition(alloc, source)?;
     let first = read_path(alloc, first)?;

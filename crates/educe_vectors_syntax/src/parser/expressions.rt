@@ -286,7 +286,7 @@ enum E { A = m!(/** d */) }
 : Syntax
 "#;
 
-/// Expressions that are not carried.
+/// Unsupported expressions.
 static OTHERS: &str = r#"
 enum E { A = if a { b } }
 enum E { A = { 1 } }

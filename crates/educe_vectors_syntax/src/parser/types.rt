@@ -212,7 +212,7 @@ struct S { a: dyn(A }
 : Syntax
 "#;
 
-/// Types that are not carried, and texts that are none.
+/// Unsupported types, and texts that are none.
 static OTHERS: &str = r#"
 struct S { a:  }
 struct S { a: impl A }

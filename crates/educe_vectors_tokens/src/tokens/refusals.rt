@@ -13,7 +13,7 @@ fn reason(alloc: Global, error: &EduceError) -> Result<String, AllocError> {
     format!(in alloc; "{:?} {start}..{end}", error.kind)
 }
 
-/// The same, and the words that are cited.
+/// The kind and the place of a rejection, and the words that are cited.
 fn reason_with_words(alloc: Global, error: &EduceError) -> Result<String, AllocError> {
     let mut reason = reason(alloc, error)?;
     for word in error.words.as_slice() {
@@ -85,7 +85,7 @@ fn line_column(start: u32) -> Option<(u32, u32)> {
     }
 }
 
-/// The same, as texts.
+/// The line and the column of a place in the text of three lines, as texts.
 pub(crate) fn place(alloc: Global, start: &str) -> Result<String, Fail> {
     let place = start.parse::<u32>().ok().ok_or(start)?;
     let (line, column) = line_column(place).ok_or(start)?;

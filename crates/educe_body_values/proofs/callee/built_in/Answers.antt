@@ -11,7 +11,7 @@ spellings_aside : (tokens : List Token) → map (λ (x : Lexeme). x.spelling) (l
 spellings_aside [] = refl
 spellings_aside (t ∷ ts) = ap (λ (more : List (List ℕ)). t.spelling ∷ more) (spellings_aside ts)
 
--- the same tokens are spelled the same
+-- lists of the same tokens have the same spellings
 same_spelled : (ts us : List Token) → AreSameTokens ts us → spellings ts ≡ spellings us
 same_spelled ts us same = sym (spellings_aside ts) ∙ ap (map (λ (x : Lexeme). x.spelling)) same ∙ spellings_aside us
 

@@ -21,7 +21,7 @@ word_copied : (is_ident : Bool) (text : List ℕ) → IsTrue (may_be_copied (rec
 word_copied true text = refl
 word_copied false text = refl
 
--- so may a list that is the token of a word
+-- a list that is the token of a word may be copied
 list_copied : (tokens : List Token) (text : List ℕ) → lexemes tokens ≡ word_lexeme text ∷ [] → IsTrue (may_be_copied (lexemes tokens))
 list_copied tokens text is = subst (λ found. IsTrue (may_be_copied found)) (sym is) (word_copied (spells Ident text) text)
 

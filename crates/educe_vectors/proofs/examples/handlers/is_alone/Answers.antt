@@ -40,7 +40,7 @@ module _ (which : Trait) (d : DeriveInput) (only : listed d ≡ which ∷ []) wh
   unlisted : (w : Trait) → is_listed (which ∷ []) w ≡ false → is_listed (listed d) w ≡ false
   unlisted w apart = ap (λ (all : List Trait). is_listed all w) only ∙ apart
 
-  -- so none of them has a cause
+  -- no trait that is handled before it has a cause
   none_caused : AreUncaused d (traits_before which)
   none_caused =
       each_weaker (λ (w : Trait). is_listed (which ∷ []) w ≡ false) (λ (w : Trait). is_listed (listed d) w ≡ true → NoCause (OfHandler (handling d) w))
