@@ -52,6 +52,7 @@ checked_list (said.NameValue path value place) = checked_other path
 checked_list (said.Doc t) = Ok tt
 checked_list (said.Unread path tokens place) = checked_other path
 
+-- each `educe` attribute among these is a list, as a program
 abbrev pub checked_lists : List Attribute → Result (Unit {0}) Stop
 checked_lists [] = Ok tt
 checked_lists (a ∷ more) = and_then (λ _. checked_lists more) (checked_list a.meta)

@@ -61,6 +61,7 @@ Given Method = ExprPath
 Given Rank = Ranked
 Given Bound = WherePredicatesOrBool
 
+-- the setting of a parameter, if it is given
 abbrev pub given : (p : Param) → Values → Option (Given p)
 given Name values = values.name
 given NamedField values = values.named_field
@@ -166,6 +167,7 @@ with_rank path meta values = map_ok (λ rank. record values { rank = Some rank }
 abbrev pub with_bound : MetaPath → Meta → Values → Result Values Stop
 with_bound path meta values = map_ok (λ x. record values { bound = Some x }) (value_of value.Bound path meta)
 
+-- the settings with what this meta gives of the parameter
 abbrev pub with_param : Row → Param → MetaPath → Meta → Values → Result Values Stop
 with_param row Name path meta values = with_name row.name path meta values
 with_param row NamedField path meta values = with_named_field path meta values

@@ -39,6 +39,9 @@ pub record Meets (text : List ℕ) (before : List Token) (token : Token) (behind
   pub opened : open_behind [] (kinds (lexemes before)) ≡ Some outer
   pub shallow : IsShallow (lexemes before)
 
+-- Why a text has no tokens whose brackets match, at most 128 deep, with place and words: an unsupported literal; a place where no
+-- piece fits; a bracket that closes another than the innermost; brackets that are open at the end; a bracket that opens where 128
+-- are open; or out of memory.
 pub data IsLexicalCause (text : List ℕ) : EduceError → Type 0 where
   -- pieces that are carried, and then an unsupported literal
   not_carried : (before : List Piece) (literal : Piece) (kind : UncarriedKind) (rest : List ℕ) → Reads text (before ++ literal ∷ []) rest
@@ -61,7 +64,7 @@ pub data IsLexicalCause (text : List ℕ) : EduceError → Type 0 where
   -- out of memory
   memory : IsLexicalCause text (placeless Alloc)
 
--- one of these causes stands, other than out of memory
+-- of a predicate on errors: it holds of some error that is not out of memory
 pub record HasCause (IsCause : EduceError → Type 0) : Type 0 where
   pub error : EduceError
   pub is_told : error.kind ≢ Alloc
