@@ -102,6 +102,7 @@ abbrev pub name_or : Option Bool → Tokens → Result IdentOrBool Fault
 name_or (Some b) tokens = Ok (choice.Bool b)
 name_or None tokens = if is_empty_text (only_text tokens) then Ok (choice.Bool false) else named tokens
 
+-- what tokens are as a name or a truth value
 abbrev pub name_in : Tokens → Result IdentOrBool Fault
 name_in tokens = name_or (truth_in tokens) tokens
 
@@ -126,6 +127,7 @@ bound_or None s =
     if s.enclosed && is_star s.tokens then Ok bound.All else
     if may_be_predicates s then bounded s.tokens else Err fault.Wrong
 
+-- what tokens are as a bound
 abbrev pub bound_in : Source → Result WherePredicatesOrBool Fault
 bound_in s = bound_or (truth_in s.tokens) s
 

@@ -61,6 +61,7 @@ written_group = made (λ p. group_tail p.1) (written group)
 unfoldable pub unread_value : Rule (Unit {0})
 unread_value = skipping (sign 61) (skipping (part trees) some_trees)
 
+-- an unread value, with its tokens
 unfoldable pub unread : Rule MetaTail
 unread = made (λ p. unread_tail p.1) (written unread_value)
 

@@ -76,14 +76,17 @@ tuple_shape found = record { form = Unnamed; fields = found }
 abbrev pub unit_shape : FieldShape
 unit_shape = record { form = UnitForm; fields = [] }
 
+-- fields in curly brackets
 unfoldable pub named_fields : Rule FieldShape
 named_fields = made named_shape (in_curly named_field)
 
+-- fields in round brackets
 unfoldable pub tuple_fields : Rule FieldShape
 tuple_fields = made tuple_shape (in_round tuple_field)
 
 -- ---- enums
 
+-- the fields of a variant, in brackets of either form, or none
 unfoldable pub variant_fields : Rule FieldShape
 variant_fields = either (at (start Curly)) named_fields (either (at (start Round)) tuple_fields (empty unit_shape))
 
@@ -127,9 +130,11 @@ enum_body = made enum_body_of (both where_clause (in_curly variant))
 abbrev pub Item : Type 0
 Item = Ident × (List GenericParam × Body)
 
+-- a struct: its name, its parameters and its body
 unfoldable pub struct_item : Rule Item
 struct_item = skipping (word keyword.Struct) (both name (both generic_params struct_body))
 
+-- an enum: its name, its parameters and its body
 unfoldable pub enum_item : Rule Item
 enum_item = skipping (word keyword.Enum) (both name (both generic_params enum_body))
 

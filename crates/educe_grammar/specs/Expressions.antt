@@ -39,6 +39,7 @@ use Rattle.educe_grammar.specs.Types.{path_of, segment_of, angle_args, has_no_ar
 abbrev pub at_tree : Look
 at_tree = (one terminal.Leaf ∷ []) ∷ (start Round ∷ []) ∷ (start Square ∷ []) ∷ (start Curly ∷ []) ∷ []
 
+-- any number of token trees
 unfoldable pub some_trees : Rule (Unit {0})
 some_trees = unit (many at_tree (part trees))
 

@@ -167,6 +167,7 @@ last_ending [] = Closed
 last_ending (s ∷ []) = s.1
 last_ending (s ∷ t ∷ more) = last_ending (t ∷ more)
 
+-- the segments of a path in a type, where another may follow each but the last
 unfoldable pub type_segments : Rule (List SegmentRead)
 type_segments = checked may_follow (rule.path type_segment)
 
