@@ -71,7 +71,8 @@ into value = quoted (codes ":: core :: convert :: Into :: into (") ++ (value ++ 
 abbrev pub adjusted : Written → Option Ty → List Lexeme
 adjusted value ty = if is_converted value.tokens ty then into (written_lexemes value) else written_lexemes value
 
--- The value as it is written for a field of the type: converted by a call, or as it was, its places included.
+-- The value as it is written for a field of the type: one literal or truth value that does not fit the type, or has none, stands
+-- inside of `::core::convert::Into::into( )`; any other value is as it was, its places included.
 pub record IsAdjusted (value : Expr) (ty : Option Ty) (answer : Expr) : Type 0 where
   pub tokens : written_lexemes answer.written ≡ adjusted value.written ty
   pub kept : is_converted value.written.tokens ty ≡ false → answer ≡ value

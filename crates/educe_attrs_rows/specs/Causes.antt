@@ -108,7 +108,8 @@ IsListCause (said.NameValue path value place) e = ⊥
 IsListCause (said.Doc t) e = ⊥
 IsListCause (said.Unread path tokens place) e = ⊥
 
--- Why a meta of the trait that is named so is rejected, by the row of its place.
+-- Why a meta of the trait that is named so is rejected, by the row of its place: the place allows no form; its form is not
+-- allowed; a parameter is there twice; a value is rejected; or its own list is no list of metas.
 pub data IsMetaCause (row : Row) (name : MetaPath) (meta : Meta) : EduceError → Type 0 where
   place : is_empty row ≡ true → IsMetaCause row name meta (incorrect_place name)
   format : is_empty row ≡ false → HasWrongForm row meta → IsMetaCause row name meta (incorrect_format row name)

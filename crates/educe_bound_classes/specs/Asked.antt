@@ -55,7 +55,8 @@ pub record AddsNames (names : List (List ℕ)) (old new : List Asked) : Type 0 w
   pub keys : (bound : List Lexeme) → keys_of bound new ≡ keys_of bound old ++ map (param_of bound) names
   pub read : (ex : Exceptions) (params : List GenericParam) (self : List ℕ) → AllByRecursion IsName names → AreAskedRead params ex self old → AreAskedRead params ex self new
 
--- The own predicates of the automatic mode, whatever the trait is; and they are read, where the types are.
+-- Of what predicates are asked: their tokens are the own predicates, whatever the trait is; and where the types are read, so is
+-- what is asked.
 pub record AreKept (ex : Exceptions) (params : List GenericParam) (self : List ℕ) (types : List Ty) (own : List Asked) : Type 0 where
   pub keys : (bound : List Lexeme) → AreOwn ex params self bound types (keys_of bound own)
   pub read : AreNames params → AllByRecursion IsReadType types → AreAskedRead params ex self own

@@ -1,7 +1,8 @@
 -- The types that a trait treats otherwise than others (documentation of `educe`, Bounds).
 use Rattle.std.specs.Prelude.{ℕ, Bool, true, false, List, [], ◌∷◌, ◌++◌, codes}
 
--- Names of types, as texts, and whether nothing is asked of shared references.
+-- The names of types that ask nothing, those of types that hand on what is asked to their arguments, and whether `&T` asks
+-- nothing.
 pub record Exceptions : Type 0 where
   -- Of these nothing is asked.
   pub unconditional : List (List ℕ)

@@ -30,7 +30,7 @@ IsStop NotUtf8 = ⊥
 abbrev pub IsUnlessStopped : Status → Status → Type 0
 IsUnlessStopped expected status = (status ≡ expected) ⊎ IsStop status
 
--- The text goes to the device, and with all of it there the answer is this one.
+-- A text goes to a device: all of it with this answer, or a prefix with the answer that the write failed or memory ran out.
 pub data Delivers (device : Change) (text : List ℕ) (status : Status) : Status → Type 0 where
   whole : Gains device text → Delivers device text status status
   fault : FailsWithin device text → Delivers device text status WriteFault

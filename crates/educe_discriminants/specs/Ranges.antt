@@ -19,11 +19,11 @@ abbrev pub wrapped_to : Bool → Width → ℤ → ℤ
 wrapped_to true w n = int_wrap w n
 wrapped_to false w n = int_rem_euclid n (pos (2 ^ bits w))
 
--- The number in the range of the type that is congruent to the given one modulo 2 ^ bits.
+-- the number of the type that differs from a number by a multiple of 2^bits, as `wrapping_add` returns it
 abbrev pub wrapped : DiscriminantType → ℤ → ℤ
 wrapped ty n = wrapped_to (is_signed ty) (width ty) n
 
--- Laws of ranges, independent of any call.
+-- What holds of ranges with no call: a number of the type is left as it is.
 pub record RangeLaws : Type 0 where
   -- A number in the range of the type is wrapped to itself.
   pub kept : (ty : DiscriminantType) (n : ℤ) → IsInRange ty n → wrapped ty n ≡ n

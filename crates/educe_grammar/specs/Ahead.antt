@@ -31,6 +31,7 @@ is_joint c (kind.Start b) = false
 is_joint c (kind.Stop b) = false
 is_joint c kind.Doc = false
 
+-- a kind opens a bracket pair of this form
 abbrev pub is_start : Bracket → TokenKind → Bool
 is_start b (kind.Start c) = same_bracket b c
 is_start b (kind.Stop c) = false
@@ -40,6 +41,7 @@ is_start b (kind.Literal l) = false
 is_start b (kind.Punct d joint) = false
 is_start b kind.Doc = false
 
+-- a kind closes a bracket pair of this form
 abbrev pub is_stop : Bracket → TokenKind → Bool
 is_stop b (kind.Stop c) = same_bracket b c
 is_stop b (kind.Start c) = false
@@ -49,6 +51,7 @@ is_stop b (kind.Literal l) = false
 is_stop b (kind.Punct d joint) = false
 is_stop b kind.Doc = false
 
+-- a kind is documentation
 abbrev pub is_doc : TokenKind → Bool
 is_doc kind.Doc = true
 is_doc (kind.Start c) = false
@@ -58,22 +61,25 @@ is_doc kind.Lifetime = false
 is_doc (kind.Literal l) = false
 is_doc (kind.Punct d joint) = false
 
+-- the token opens a bracket pair of this form
 abbrev pub opens : Bracket → Token → Bool
 opens b t = is_start b t.kind
 
+-- the token closes a bracket pair of this form
 abbrev pub closes : Bracket → Token → Bool
 closes b t = is_stop b t.kind
 
+-- the token is documentation
 abbrev pub documents : Token → Bool
 documents t = is_doc t.kind
 
--- The list begins with an operator of two puncts, such as `::`: the first is joint with the second.
+-- the tokens begin with two punctuation characters that are one operator, as `::`, the first joint with the second
 unfoldable pub begins_pair : ℕ → ℕ → Tokens → Bool
 begins_pair c d [] = false
 begins_pair c d (t ∷ []) = false
 begins_pair c d (t ∷ u ∷ ts) = is_joint c t.kind && is_sign d u.kind
 
--- The list begins with the punct `c`, which isn't the first half of the operator `cd`.
+-- the tokens begin with the first character, and not with the operator of both
 unfoldable pub begins_lone : ℕ → ℕ → Tokens → Bool
 begins_lone c d [] = false
 begins_lone c d (t ∷ ts) = is_sign c t.kind && not (begins_pair c d (t ∷ ts))
@@ -83,11 +89,13 @@ unfoldable pub sees : (Token → Bool) → Tokens → Bool
 sees test [] = false
 sees test (t ∷ ts) = test t
 
+-- there is no token
 unfoldable pub at_end : Tokens → Bool
 at_end [] = true
 at_end (t ∷ ts) = false
 
--- One test on the start of a list of tokens.
+-- one step of a lookahead: a token of a set, a bracket, documentation, an operator of two characters, a single character, or the
+-- end
 pub data Ahead : Type 0 where
   -- A token of this terminal.
   one : Terminal → Ahead
@@ -103,6 +111,7 @@ pub data Ahead : Type 0 where
   -- The end of the list.
   finish : Ahead
 
+-- the tokens begin with this step
 abbrev pub begins : Ahead → Tokens → Bool
 begins (one asked) ts = sees (accepts asked) ts
 begins (start b) ts = sees (opens b) ts
@@ -125,13 +134,14 @@ abbrev pub meets : List Ahead → Tokens → Bool
 meets [] ts = true
 meets (a ∷ more) ts = begins a ts && meets more (behind a ts)
 
--- A lookahead: alternatives, each a sequence of tests.
+-- a lookahead: rows of such steps, one of which is looked for
 abbrev pub Look : Type 0
 Look = List (List Ahead)
 
+-- the tokens begin with one of several rows
 unfoldable pub sees_any : Look → Tokens → Bool
 sees_any look ts = list_any (λ way. meets way ts) look
 
--- A function value that decides whether the tokens begin with one of the alternatives.
+-- A closure that says whether the tokens begin as the lookahead says.
 pub record Decides (look : Look) (post : Bor Tokens → Bool → Type 0) : Type 0 where
   pub decides : (ts : Bor Tokens) (r : Bool) → post ts r → r ≡ sees_any look ts.now

@@ -36,7 +36,8 @@ unfoldable pub closed : Tokens → ℕ
 closed [] = 0
 closed (t ∷ ts) = pending t.kind (closed ts)
 
--- The number of openers that count at the end of the list: those in no bracket pair that is closed there.
+-- How many openers count at the end of the list: those outside every bracket pair that is closed in it. The opening bracket of a
+-- pair is outside it.
 unfoldable pub counted : Tokens → ℕ
 counted [] = 0
 counted (t ∷ ts) = counted ts + (if is_opener t.kind t.spelling && (closed (t ∷ ts) == 0) then 1 else 0)

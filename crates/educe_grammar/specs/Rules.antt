@@ -15,13 +15,14 @@ use Rattle.educe_grammar.specs.Ahead.{Look, documents}
 abbrev pub Typed : Type 0
 Typed = Ty × Ending
 
--- The parts of the grammar, which nest in one another.
+-- the four parts, which are mutually recursive
 pub data Part : Type 0 where
   types : Part
   plains : Part
   exprs : Part
   trees : Part
 
+-- the value of each part
 abbrev pub TreeOf : Part → Type 0
 TreeOf types = Ty
 TreeOf plains = Typed

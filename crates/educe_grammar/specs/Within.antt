@@ -54,7 +54,9 @@ ShapeWithin P (Enum variants) = AllByRecursion (VariantWithin P) variants
 
 -- ---- laws of parts
 
--- The tokens of a part are tokens of the whole that it is parsed from.
+-- The tokens of a part are tokens of the whole: in what is read as a definition, those of attributes and discriminants are tokens
+-- of the definition; in metas that are read from a list, those of brackets and values are tokens of the list; and a definition
+-- and a path keep exactly the tokens that they are read from.
 pub record PartLaws : Type 0 where
   -- The tokens in the attributes of fields and variants, and in discriminants, are tokens of the definition.
   pub definition : (tokens : Tokens) (d : DeriveInput) → IsWhole definitions.definition tokens d → ShapeWithin (λ t. Contains tokens t) d.shape

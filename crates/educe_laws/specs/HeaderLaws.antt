@@ -12,6 +12,8 @@ use Rattle.educe_bound_traits.specs.declared.traits.Trait.{Trait}
 use Rattle.educe_laws.specs.Headers.{IsHeader}
 use Rattle.educe_laws.specs.Settings.{bound_said}
 
+-- What holds of the parameters and predicates of headers: they are readings of their tokens, if those of the definition are, and
+-- those that the bound of a place lists, if its attributes have no cause.
 pub record HeaderLaws : Type 0 where
   -- The parameters and predicates of a header are readings of their tokens, where those of the definition are.
   pub generics : (which : Trait) (definition : DeriveInput) (header : Generics) → HasReadParts definition → IsHeader which definition header → AreReadGenerics header

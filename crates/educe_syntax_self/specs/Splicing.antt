@@ -56,8 +56,9 @@ noted_in (Err e) = []
 unfoldable pub notes_of : {A : Type 0} → Rule A → Tokens → List SelfPath
 notes_of g tokens = noted_in (read depth_limit g (record { cursor = tokens; selves = [] }))
 
--- The tokens with the head in place of each `Self` that begins a path, without `::` before it, by the rule that parses
--- them. The arguments of that `Self` are dropped, and the path of a macro call is unchanged.
+-- The tokens with the head in place of each `Self` that a path begins with, without `::` before it, by the rule that reads them.
+-- The arguments of that `Self` fall away, and the path of a macro stays. Tokens that the rule does not read whole, within the
+-- limits, stay as they are.
 abbrev pub replaced_in : {A : Type 0} → Rule A → Tokens → Tokens → Tokens
 replaced_in g head tokens = spliced head tokens (notes_of g tokens)
 

@@ -38,6 +38,9 @@ pub record Meets (text : List ℕ) (before : List Token) (token : Token) (behind
   pub opened : open_behind [] (kinds (lexemes before)) ≡ Some outer
   pub shallow : IsShallow (lexemes before)
 
+-- Why a text has no tokens whose brackets match, at most 128 deep, with place and words: an unsupported literal; a place where no
+-- piece fits; a bracket that closes another than the innermost; brackets that are open at the end; a bracket that opens where 128
+-- are open; or out of memory.
 pub data IsLexicalCause (text : List ℕ) : EduceError → Type 0 where
   -- Supported pieces, followed by an unsupported literal.
   not_carried : (before : List Piece) (literal : Piece) (kind : UncarriedKind) (rest : List ℕ) → Reads text (before ++ literal ∷ []) rest
@@ -60,7 +63,7 @@ pub data IsLexicalCause (text : List ℕ) : EduceError → Type 0 where
   -- Out of memory may end any call.
   memory : IsLexicalCause text (placeless Alloc)
 
--- At least one cause other than out of memory applies.
+-- of a predicate on errors: it holds of some error that is not out of memory
 pub record HasCause (IsCause : EduceError → Type 0) : Type 0 where
   pub error : EduceError
   pub is_told : error.kind ≢ Alloc
