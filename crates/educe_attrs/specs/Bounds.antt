@@ -22,6 +22,6 @@ bound_of (Some said) = value.bound_of said
 abbrev pub bound_attribute : FieldSettings → TypeAttribute
 bound_attribute settings = record { bound = bound_of settings.values.bound }
 
--- the attribute is the one of these settings
+-- The attribute is the one of these settings.
 abbrev pub IsBound : FieldSettings → TypeAttribute → Type 0
 IsBound settings attribute = attribute ≡ bound_attribute settings

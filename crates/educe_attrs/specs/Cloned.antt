@@ -13,6 +13,6 @@ clone_row method = record EMPTY { method = method }
 abbrev pub clone_attribute : FieldSettings → FieldAttribute
 clone_attribute settings = record { method = settings.values.method }
 
--- the attribute is the one of these settings
+-- The attribute is the one of these settings.
 abbrev pub IsCloned : FieldSettings → FieldAttribute → Type 0
 IsCloned settings attribute = attribute ≡ clone_attribute settings

@@ -21,7 +21,7 @@ compared_row ignore method rank = record EMPTY {
 abbrev pub compared_attribute : FieldSettings → FieldAttribute
 compared_attribute settings = record { ignore = unwrap_or settings.values.ignore false; method = settings.values.method }
 
--- the attribute is the one of these settings
+-- The attribute is the one of these settings.
 abbrev pub IsCompared : FieldSettings → FieldAttribute → Type 0
 IsCompared settings attribute = attribute ≡ compared_attribute settings
 

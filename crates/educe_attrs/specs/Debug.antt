@@ -51,7 +51,7 @@ type_attribute builder settings = record {
   bound = bound_of settings.values.bound;
 }
 
--- the attribute of a type or a variant is the one of these settings
+-- The attribute of a type or a variant is the one of these settings.
 abbrev pub IsTyped : TypeAttributeBuilder → FieldSettings → TypeAttribute → Type 0
 IsTyped builder settings attribute = attribute ≡ type_attribute builder settings
 
@@ -87,6 +87,6 @@ field_attribute builder settings = record {
   method = settings.values.method;
 }
 
--- the attribute of a field is the one of these settings
+-- The attribute of a field is the one of these settings.
 abbrev pub IsField : FieldAttributeBuilder → FieldSettings → FieldAttribute → Type 0
 IsField builder settings attribute = attribute ≡ field_attribute builder settings

@@ -20,6 +20,6 @@ no_row = EMPTY
 abbrev pub IsOfNothing : FieldSettings → FieldAttribute → Type 0
 IsOfNothing settings attribute = Unit {0}
 
--- the error is that the meta is out of place, or out of memory
+-- The error is that the meta is out of place, or out of memory.
 abbrev pub IsOutOfPlace : Meta → EduceError → Type 0
 IsOutOfPlace meta e = (e ≡ placeless Alloc) ⊎ ((name : MetaPath) × (path_of meta ≡ Some name) × (e ≡ incorrect_place name))

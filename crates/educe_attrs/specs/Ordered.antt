@@ -13,6 +13,6 @@ ordered_attribute rank settings = record {
   rank_span = place_of settings.values.rank;
 }
 
--- the attribute is the one of these settings, with the rank of the builder if none is given
+-- The attribute is the one of these settings, with the rank of the builder if none is given.
 abbrev pub IsOrdered : ℤ → FieldSettings → FieldAttribute → Type 0
 IsOrdered rank settings attribute = attribute ≡ ordered_attribute rank settings

@@ -57,6 +57,6 @@ lint_of (said.Unread path behind place) = if sets_level path then attribute path
 abbrev pub lints : List Attribute → List Lexeme
 lints attributes = flat_map (λ (a : Attribute). lint_of a.meta) attributes
 
--- the attributes of an impl: `#[automatically_derived]`, and the lint attributes of the type
+-- The attributes of an impl: `#[automatically_derived]`, and the lint attributes of the type.
 abbrev pub impl_attributes : List Attribute → List Lexeme
 impl_attributes attributes = quoted (codes "# [ automatically_derived ]") ++ lints attributes

@@ -52,7 +52,7 @@ is_alone text [] = false
 is_alone text (t ∷ []) = bytes_eq text t.spelling
 is_alone text (t ∷ u ∷ ts) = false
 
--- the type is the primitive one of this name: by the one word, or as `core::primitive::X` or `std::primitive::X`
+-- The type is the primitive one of this name: by the one word, or as `core::primitive::X` or `std::primitive::X`.
 abbrev pub is_primitive : List ℕ → List Token → Bool
 is_primitive name ty = is_alone name (without_module ty)
 
@@ -65,7 +65,7 @@ is_integer ty =
 
 -- ---- references
 
--- a kind is that of a lifetime
+-- A kind is that of a lifetime.
 abbrev pub is_lifetime : TokenKind → Bool
 is_lifetime Lifetime = true
 is_lifetime Ident = false
@@ -88,7 +88,7 @@ without_mut tokens = or_all tokens (behind (codes "mut") tokens)
 abbrev pub referred : List Token → Option (List Token)
 referred ty = option_map (λ inner. without_mut (without_lifetime inner)) (behind (codes "&") ty)
 
--- the type is a reference to `str`, with or without lifetime and `mut`
+-- The type is a reference to `str`, with or without lifetime and `mut`.
 abbrev pub is_text : List Token → Bool
 is_text ty = elim (referred ty) [ None ↦ false | Some inner ↦ is_primitive (codes "str") inner ]
 

@@ -20,7 +20,7 @@ digits_printable index small =
     let P : TokenKind → Type 0 = λ kind. IsPrintable (record { kind = kind; spelling = decimal index } ∷ []) in
     subst P (lawful_kinds.index (decimal index) (decimal_begins index small)) (printable-word word)
 
--- the token of a key may stand beside others, and its text lexes as it
+-- The token of a key may stand beside others, and its text lexes as it.
 pub key_printable : (key : IdentOrIndex) → IsPrintable (key_lexemes key)
 key_printable (Ident name) = printable-ident name.text name.spelled
 key_printable (Index index) =

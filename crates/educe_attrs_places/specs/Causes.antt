@@ -3,7 +3,7 @@ use Rattle.educe_tokens.specs.declared.error.EduceError.{EduceError}
 use Rattle.educe_attrs_values.specs.declared.stop.Stop.{Stop}
 use Rattle.educe_attrs_values.specs.declared.stop.Stop.TheVariants.{Memory, Refused}
 
--- a predicate of errors: why something is rejected
+-- A predicate of errors: why something is rejected.
 abbrev pub Cause : Type 1
 Cause = EduceError → Type 0
 

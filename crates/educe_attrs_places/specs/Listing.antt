@@ -52,7 +52,7 @@ checked_list (said.NameValue path value place) = checked_other path
 checked_list (said.Doc t) = Ok tt
 checked_list (said.Unread path tokens place) = checked_other path
 
--- each `educe` attribute among these is a list, as a program
+-- Each `educe` attribute among these is a list, as a program.
 abbrev pub checked_lists : List Attribute → Result (Unit {0}) Stop
 checked_lists [] = Ok tt
 checked_lists (a ∷ more) = and_then (λ _. checked_lists more) (checked_list a.meta)
@@ -62,11 +62,11 @@ abbrev pub with_trait : List Trait → MetaPath → Option Trait → Result (Lis
 with_trait before path None = Err (Refused (at_name UnsupportedTrait path))
 with_trait before path (Some which) = if is_listed before which then Err (Refused (at_name ReuseATrait path)) else Ok (before ++ which ∷ [])
 
--- the traits with the one that a path names, if it is one and is not there yet
+-- The traits with the one that a path names, if it is one and is not there yet.
 abbrev pub with_named : List Trait → MetaPath → Result (List Trait) Stop
 with_named before path = with_trait before path (trait_named path)
 
--- the traits with the one that a meta is of
+-- The traits with the one that a meta is of.
 abbrev pub with_listed : List Trait → Meta → Result (List Trait) Stop
 with_listed before (said.Word path) = with_named before path
 with_listed before (said.List path tokens place) = with_named before path

@@ -25,7 +25,7 @@ abbrev pub is_trait : Trait → Option Trait → Bool
 is_trait which None = false
 is_trait which (Some other) = same_trait which other
 
--- the meta is of this trait
+-- The meta is of this trait.
 abbrev pub is_of : Trait → Meta → Bool
 is_of which m = is_trait which (trait_of m)
 
@@ -46,11 +46,11 @@ abbrev pub unless_listed : List Trait → MetaPath → Option Trait → Result (
 unless_listed listed path None = Err (Refused (at_name UnsupportedTrait path))
 unless_listed listed path (Some which) = if is_listed listed which then Ok tt else Err (Refused (at_name TraitNotUsed path))
 
--- the path names a listed trait, as a program
+-- The path names a listed trait, as a program.
 abbrev pub checked_path : List Trait → MetaPath → Result (Unit {0}) Stop
 checked_path listed path = unless_listed listed path (trait_named path)
 
--- the meta is of a listed trait, as a program
+-- The meta is of a listed trait, as a program.
 abbrev pub checked : List Trait → Meta → Result (Unit {0}) Stop
 checked listed (said.Word path) = checked_path listed path
 checked listed (said.List path tokens place) = checked_path listed path

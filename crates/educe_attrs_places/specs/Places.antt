@@ -18,7 +18,7 @@ use Rattle.educe_attrs_places.specs.Said.{listed_metas, read_one, IsUnsaid, Says
 
 -- ---- types and variants
 
--- what the metas of a place say, or settings of which none is given
+-- What the metas of a place say, or settings of which none is given.
 abbrev pub or_nothing : Option Values → Values
 or_nothing None = no_values
 or_nothing (Some values) = values
@@ -54,7 +54,7 @@ abbrev pub if_both : Trait → List Trait → Option Trait → Option Trait
 if_both which listed None = None
 if_both which listed (Some other) = if is_listed listed which && is_listed listed other then Some other else None
 
--- the order whose settings an order takes if it has none, if both are listed
+-- The order whose settings an order takes if it has none, if both are listed.
 abbrev pub fallback : Trait → List Trait → Option Trait
 fallback which listed = if_both which listed (other_order which)
 
@@ -67,7 +67,7 @@ abbrev pub taken : Trait → Values → FieldSettings
 taken PartialOrd values = record { values = values; method_returns_ordering = is_some values.method }
 taken _ values = own_settings (record values { method = None })
 
--- the settings of an own attribute, or what is taken from the other order
+-- The settings of an own attribute, or what is taken from the other order.
 abbrev pub or_taken : Trait → Option Values → FieldSettings
 or_taken which None = own_settings no_values
 or_taken which (Some values) = taken which values
@@ -82,7 +82,7 @@ abbrev pub or_other : Trait → Row → List Trait → List Meta → Option Valu
 or_other which row listed found (Some values) = Ok (own_settings values)
 or_other which row listed found None = read_other which row found (fallback which listed)
 
--- the settings of a trait at a field, by the metas of the field
+-- The settings of a trait at a field, by the metas of the field.
 abbrev pub read_among : Trait → Row → List Trait → List Meta → Result FieldSettings Stop
 read_among which row listed found = and_then (or_other which row listed found) (read_one which row found None)
 
@@ -110,6 +110,6 @@ pub data IsFieldCause (which : Trait) (row : Row) (listed : List Trait) (attribu
   other_meta : {e : EduceError} (other : Trait) → fallback which listed ≡ Some other → IsUnsaid which attributes → IsSaidCause other row attributes e
       → IsFieldCause which row listed attributes e
 
--- why the attributes of a field are rejected for a trait: a cause of its lists, or one of what they say of it
+-- Why the attributes of a field are rejected for a trait: a cause of its lists, or one of what they say of it.
 abbrev pub OfField : Trait → Row → List Trait → List Attribute → Cause
 OfField which row listed attributes = λ e. IsPlaceCause listed attributes e ⊎ IsFieldCause which row listed attributes e

@@ -41,7 +41,7 @@ abbrev pub said_once : Row → Meta → Option Values → Result (Option Values)
 said_once row m None = map_ok Some (read_meta row m)
 said_once row m (Some values) = refused_again (path_of m)
 
--- what was said before, or what this meta says if it is of the trait; a second such meta is rejected
+-- What was said before, or what this meta says if it is of the trait; a second such meta is rejected.
 abbrev pub next_said : Trait → Row → Meta → Option Values → Result (Option Values) Stop
 next_said which row m before = if is_of which m then said_once row m before else Ok before
 
@@ -52,7 +52,7 @@ read_one which row (m ∷ ms) before = and_then (read_one which row ms) (next_sa
 
 -- ---- what they say
 
--- no meta of the place is of the trait
+-- No meta of the place is of the trait.
 abbrev pub IsUnsaid : Trait → List Attribute → Type 0
 IsUnsaid which attributes = (found : List Meta) → AreMetas attributes found → (m : Meta) → IsAmong m found → is_of which m ≡ true → ⊥
 
@@ -75,8 +75,8 @@ pub data IsPlaceCause (listed : List Trait) (attributes : List Attribute) : Educ
   not_used : (path : MetaPath) (which : Trait) → IsNameIn attributes path → trait_named path ≡ Some which → is_listed listed which ≡ false
       → IsPlaceCause listed attributes (at_name TraitNotUsed path)
 
--- why what the metas of a place say of a trait is rejected, where all lists of the place are lists of metas: the trait is there
--- twice, or one of its metas is rejected
+-- Why what the metas of a place say of a trait is rejected, where all lists of the place are lists of metas: the trait is there
+-- twice, or one of its metas is rejected.
 pub data IsSaidCause (which : Trait) (row : Row) (attributes : List Attribute) : EduceError → Type 0 where
   reuse : (found : List Meta) (later : Meta) (path : MetaPath) → AreMetas attributes found → IsReused which found later → path_of later ≡ Some path
       → IsSaidCause which row attributes (at_name ReuseATrait path)

@@ -53,7 +53,7 @@ abbrev pub equals_as : Row → MetaPath → Meta → Option Behind → Result Va
 equals_as row name meta None = Err (Refused (incorrect_format row name))
 equals_as row name meta (Some b) = said_behind b name meta
 
--- what a value behind `=` says, by the row
+-- What a value behind `=` says, by the row.
 abbrev pub read_equals : Row → MetaPath → Meta → Result Values Stop
 read_equals row name meta = equals_as row name meta (behind row.equals)
 

@@ -36,7 +36,7 @@ has_no_name row = is_none row.name && is_none row.named_field
 abbrev pub has_no_param : Row → Bool
 has_no_param row = not row.new && not row.expression && not row.ignore && not row.method && not row.rank && not row.bound
 
--- the row allows no form: the attribute may not stand there
+-- The row allows no form: the attribute may not stand there.
 abbrev pub is_empty : Row → Bool
 is_empty row = not row.flag && is_nothing row.equals && has_no_name row && has_no_param row
 

@@ -61,7 +61,7 @@ Given Method = ExprPath
 Given Rank = Ranked
 Given Bound = WherePredicatesOrBool
 
--- the setting of a parameter, if it is given
+-- The setting of a parameter, if it is given.
 abbrev pub given : (p : Param) → Values → Option (Given p)
 given Name values = values.name
 given NamedField values = values.named_field
@@ -143,39 +143,39 @@ rank_of path meta = map_ok (ranked meta) (value_of value.Integer path meta)
 
 -- ---- the values with that of one more parameter
 
--- the settings with a name
+-- The settings with a name.
 abbrev pub with_name : Option NameKind → MetaPath → Meta → Values → Result Values Stop
 with_name kind path meta values = map_ok (λ x. record values { name = Some x }) (name_by kind path meta)
 
--- the settings with `named_field`
+-- The settings with `named_field`.
 abbrev pub with_named_field : MetaPath → Meta → Values → Result Values Stop
 with_named_field path meta values = map_ok (λ b. record values { named_field = Some b }) (value_of value.Truth path meta)
 
--- the settings with `new`
+-- The settings with `new`.
 abbrev pub with_new : MetaPath → Meta → Values → Result Values Stop
 with_new path meta values = map_ok (λ b. record values { new = Some b }) (value_of value.Flag path meta)
 
--- the settings with a default value
+-- The settings with a default value.
 abbrev pub with_expression : MetaPath → Meta → Values → Result Values Stop
 with_expression path meta values = map_ok (λ x. record values { expression = Some x }) (value_of value.Expr path meta)
 
--- the settings with `ignore`
+-- The settings with `ignore`.
 abbrev pub with_ignore : MetaPath → Meta → Values → Result Values Stop
 with_ignore path meta values = map_ok (λ b. record values { ignore = Some b }) (value_of value.Flag path meta)
 
--- the settings with a method
+-- The settings with a method.
 abbrev pub with_method : MetaPath → Meta → Values → Result Values Stop
 with_method path meta values = map_ok (λ x. record values { method = Some x }) (value_of value.Path path meta)
 
--- the settings with a rank
+-- The settings with a rank.
 abbrev pub with_rank : MetaPath → Meta → Values → Result Values Stop
 with_rank path meta values = map_ok (λ rank. record values { rank = Some rank }) (rank_of path meta)
 
--- the settings with a bound
+-- The settings with a bound.
 abbrev pub with_bound : MetaPath → Meta → Values → Result Values Stop
 with_bound path meta values = map_ok (λ x. record values { bound = Some x }) (value_of value.Bound path meta)
 
--- the settings with what this meta gives of the parameter
+-- The settings with what this meta gives of the parameter.
 abbrev pub with_param : Row → Param → MetaPath → Meta → Values → Result Values Stop
 with_param row Name path meta values = with_name row.name path meta values
 with_param row NamedField path meta values = with_named_field path meta values

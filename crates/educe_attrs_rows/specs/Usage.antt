@@ -42,13 +42,13 @@ takes_truth equals.Expr = false
 
 -- ---- truth values that lines show
 
--- the lines show `false` as the value
+-- The lines show `false` as the value.
 abbrev pub shows_false : Option Bool → Bool
 shows_false None = false
 shows_false (Some true) = false
 shows_false (Some false) = true
 
--- the lines show `true` as the value
+-- The lines show `true` as the value.
 abbrev pub shows_true : Option Bool → Bool
 shows_true None = false
 shows_true (Some true) = true
@@ -89,6 +89,6 @@ with_params lines name row =
     row.rank name (codes "(rank = integer)"))
     row.bound name (codes "(bound(where_predicates))")
 
--- the words, and behind them a line for each form that the row allows, with `bound = false` at the end
+-- The words, and behind them a line for each form that the row allows, with `bound = false` at the end.
 abbrev pub with_usage : List (List ℕ) → List ℕ → Row → List (List ℕ)
 with_usage words name row = with_line (with_params (with_names (with_heads words name row) name row) name row) row.bound name (codes "(bound = false)")

@@ -67,6 +67,6 @@ pub data IsReaderCause (k : ValueKind) (meta : Meta) : EduceError → Type 0 whe
   value : (path : MetaPath) (e : EduceError) → path_of meta ≡ Some path → IsValueCause k path meta e → IsReaderCause k meta e
   memory : IsReaderCause k meta (placeless Alloc)
 
--- none of these causes is present, out of memory aside
+-- None of these causes is present, out of memory aside.
 abbrev pub HasNoReaderCause : ValueKind → Meta → Type 0
 HasNoReaderCause k meta = (e : EduceError) → IsReaderCause k meta e → e.kind ≡ Alloc

@@ -19,7 +19,7 @@ pub record Decision {A : Type 0} (Is : A → Type 0) (IsCause : EduceError → T
   pub uncaused : (x : A) → Is x → IsUncaused IsCause
   pub single : IsSingle IsCause
 
--- what a decision says, as a result
+-- What a decision says, as a result.
 abbrev pub answer_of : {A : Type 0} {Is : A → Type 0} {IsCause : EduceError → Type 0} → ((x : A) × Is x) ⊎ HasCause IsCause → Result A EduceError
 answer_of (inl found) = Ok found.0
 answer_of (inr cause) = Err cause.error

@@ -41,6 +41,6 @@ abbrev pub integer_by : Option (List ℕ) → List Token → Option ℤ
 integer_by None tokens = signed_in tokens
 integer_by (Some text) tokens = decimal_in (encode_utf8_all text)
 
--- the integer that tokens are, as they stand or as the text of a string, if they are one
+-- The integer that tokens are, as they stand or as the text of a string, if they are one.
 abbrev pub integer_in : List Token → Option ℤ
 integer_in tokens = integer_by (only_text tokens) tokens

@@ -8,8 +8,8 @@ use Rattle.educe_attrs_values.specs.declared.choices.WherePredicatesOrBool.{Wher
 use Rattle.educe_attrs_values.specs.declared.kind.ValueKind.{ValueKind}
 use Rattle.educe_attrs_values.specs.declared.kind.ValueKind.TheVariants as kind
 
--- what a value of the kind is: a name, a name or a truth value, a truth value, a path, an integer, an expression, or predicates,
--- a truth value or `*`
+-- What a value of the kind is: a name, a name or a truth value, a truth value, a path, an integer, an expression, or predicates,
+-- a truth value or `*`.
 abbrev pub ValueOf : ValueKind → Type 0
 ValueOf kind.Ident = Ident
 ValueOf kind.Name = IdentOrBool
@@ -20,7 +20,7 @@ ValueOf kind.Integer = ℤ
 ValueOf kind.Expr = Expr
 ValueOf kind.Bound = WherePredicatesOrBool
 
--- what the parameter without a value means: `true` for a flag, and for other kinds nothing
+-- What the parameter without a value means: `true` for a flag, and for other kinds nothing.
 abbrev pub bare : (k : ValueKind) → Option (ValueOf k)
 bare kind.Ident = None
 bare kind.Name = None
@@ -31,7 +31,7 @@ bare kind.Integer = None
 bare kind.Expr = None
 bare kind.Bound = None
 
--- a string may hold the value, of which the text is read: that of names, paths and predicates
+-- A string may hold the value, of which the text is read: that of names, paths and predicates.
 abbrev pub opens_strings : ValueKind → Bool
 opens_strings kind.Ident = true
 opens_strings kind.Name = true

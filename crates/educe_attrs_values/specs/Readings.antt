@@ -43,7 +43,7 @@ fault_by false place words error.TooDeep = fault.TooDeep place
 fault_by quoted place words error.NotCarried = fault.NotCarried words
 fault_by quoted place words _ = fault.Wrong
 
--- why tokens are no value, by the error of what reads them
+-- Why tokens are no value, by the error of what reads them.
 abbrev pub fault_of : Bool → EduceError → Fault
 fault_of quoted e = fault_by quoted e.span e.words e.kind
 
@@ -64,7 +64,7 @@ abbrev pub opened_by : Option (List ℕ) → Tokens → Result Opened Fault
 opened_by None tokens = Ok (standing tokens)
 opened_by (Some text) tokens = opened_text text
 
--- the tokens that are read for a value: those of the text of a string, or the tokens themselves
+-- The tokens that are read for a value: those of the text of a string, or the tokens themselves.
 abbrev pub opened : Tokens → Result Opened Fault
 opened tokens = opened_by (only_text tokens) tokens
 
@@ -102,7 +102,7 @@ abbrev pub name_or : Option Bool → Tokens → Result IdentOrBool Fault
 name_or (Some b) tokens = Ok (choice.Bool b)
 name_or None tokens = if is_empty_text (only_text tokens) then Ok (choice.Bool false) else named tokens
 
--- what tokens are as a name or a truth value
+-- What tokens are as a name or a truth value.
 abbrev pub name_in : Tokens → Result IdentOrBool Fault
 name_in tokens = name_or (truth_in tokens) tokens
 
@@ -127,11 +127,11 @@ bound_or None s =
     if s.enclosed && is_star s.tokens then Ok bound.All else
     if may_be_predicates s then bounded s.tokens else Err fault.Wrong
 
--- what tokens are as a bound
+-- What tokens are as a bound.
 abbrev pub bound_in : Source → Result WherePredicatesOrBool Fault
 bound_in s = bound_or (truth_in s.tokens) s
 
--- what tokens are as a value of the kind, as a program
+-- What tokens are as a value of the kind, as a program.
 abbrev pub reading : (k : ValueKind) → Source → Result (ValueOf k) Fault
 reading kind.Ident s = plain lawful_name s.tokens
 reading kind.Name s = name_in s.tokens

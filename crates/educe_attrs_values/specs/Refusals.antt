@@ -12,7 +12,7 @@ use Rattle.educe_attrs_values.specs.declared.stop.Stop.TheVariants.{Memory, Refu
 use Rattle.educe_attrs_values.specs.Kinds.{missing_text, wrong_text}
 use Rattle.educe_attrs_values.specs.Words.{place_of, text_of}
 
--- an error of a kind, with its place and words
+-- An error of a kind, with its place and words.
 abbrev pub refusal : Kind → Span → List (List ℕ) → EduceError
 refusal kind place words = record { kind = kind; span = place; words = words }
 

@@ -11,8 +11,8 @@ use Rattle.educe_attrs_values.specs.Words.{place_of}
 abbrev pub inside : List Token → List Token
 inside tokens = take (length tokens - 2) (drop 1 tokens)
 
--- the tokens of a meta's value, and whether they stand in brackets: those behind `=`, or in the brackets; none where neither
--- stands there
+-- The tokens of a meta's value, and whether they stand in brackets: those behind `=`, or in the brackets; none where neither
+-- stands there.
 abbrev pub value_source : Meta → Option Source
 value_source (said.Word path) = None
 value_source (said.List path tokens place) = Some (record { tokens = inside tokens.tokens; enclosed = true })

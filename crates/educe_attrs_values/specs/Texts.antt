@@ -20,7 +20,7 @@ text_of_kind (token.Start b) spelling = None
 text_of_kind (token.Stop b) spelling = None
 text_of_kind token.Doc spelling = None
 
--- the text of a string; documentation has none
+-- The text of a string; documentation has none.
 abbrev pub text_in : Token → Option (List ℕ)
 text_in t = text_of_kind t.kind t.spelling
 

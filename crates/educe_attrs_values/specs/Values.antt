@@ -59,7 +59,7 @@ abbrev pub ReadsBy : {A : Type 0} → Rule A → Option (List ℕ) → List Toke
 ReadsBy g None tokens x = IsWhole g tokens x
 ReadsBy g (Some text) tokens x = ReadsText g text x
 
--- the text of the one string that the tokens are is the value by the rule; without such a string, the tokens are
+-- The text of the one string that the tokens are is the value by the rule; without such a string, the tokens are.
 abbrev pub ReadsPlain : {A : Type 0} → Rule A → List Token → A → Type 0
 ReadsPlain g tokens x = ReadsBy g (only_text tokens) tokens x
 
@@ -109,6 +109,6 @@ abbrev pub HoldsAmong : (k : ValueKind) → Option Source → ValueOf k → Type
 HoldsAmong k None v = bare k ≡ Some v
 HoldsAmong k (Some s) v = Reads k s v
 
--- the meta has this value of the kind: its tokens behind `=` or in brackets are the value, or there are none and `bare` is
+-- The meta has this value of the kind: its tokens behind `=` or in brackets are the value, or there are none and `bare` is.
 abbrev pub Holds : (k : ValueKind) → Meta → ValueOf k → Type 0
 Holds k meta v = HoldsAmong k (value_source meta) v

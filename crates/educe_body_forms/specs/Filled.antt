@@ -33,11 +33,11 @@ slot_of [] = 0
 slot_of (c ∷ []) = 0
 slot_of (c ∷ d ∷ cs) = slot d
 
--- the word begins as a lifetime does
+-- The word begins as a lifetime does.
 abbrev pub begins_lifetime : List ℕ → Bool
 begins_lifetime word = begins (λ c. c == 39) word
 
--- the word begins as an integer does
+-- The word begins as an integer does.
 abbrev pub begins_number : List ℕ → Bool
 begins_number word = begins is_ascii_digit word
 
@@ -60,7 +60,7 @@ fits word =
     (cond (begins_lifetime word) (list_all is_ascii word && is_ascii_lifetime word)
     (cond (begins_number word) (list_all is_ascii word && spells (kind.Literal Int) word) (is_template word)))
 
--- the tokens of a template in which `#0` is the first of the names, `#1` the second and so on, and lifetimes and integers are
--- words too
+-- The tokens of a template in which `#0` is the first of the names, `#1` the second and so on, and lifetimes and integers are
+-- words too.
 abbrev pub filled : List Ident → List ℕ → List Lexeme
 filled names text = flat_map (filled_word names) (template_words text)

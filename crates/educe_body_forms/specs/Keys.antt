@@ -26,7 +26,7 @@ abbrev pub shape_fields : Shape → List Field
 shape_fields (Struct shape) = shape.fields
 shape_fields (Enum variants) = []
 
--- the fields of a struct in written order, and none for an enum, whose fields patterns bind
+-- The fields of a struct in written order, and none for an enum, whose fields patterns bind.
 abbrev pub fields_of : DeriveInput → List Field
 fields_of definition = shape_fields definition.shape
 

@@ -24,7 +24,7 @@ use Rattle.educe_body_forms.specs.declared.key_function.Distance.{Distance}
 use Rattle.educe_body_forms.specs.declared.position.Position.{Position}
 use Rattle.educe_body_forms.specs.Suffixed.{steps_lexeme, steps_printable}
 
--- tokens, with the proof that they may stand beside others and that their text lexes as them
+-- Tokens, with the proof that they may stand beside others and that their text lexes as them.
 pub record Printout : Type 0 where
   pub tokens : List Lexeme
   pub printable : IsPrintable tokens

@@ -135,7 +135,7 @@ helper_function formatter = fmt_head (name formatter) beside in_curly (write_str
 abbrev pub helper_impl : Ident → Ident → Printout
 helper_impl helper formatter = says (codes "impl :: core :: fmt :: Debug for") refl beside name helper beside in_curly (helper_function formatter)
 
--- the helper type of a map's keys, and its `Debug`
+-- The helper type of a map's keys, and its `Debug`.
 abbrev pub helper_printout : Ident → Ident → Printout
 helper_printout helper formatter = helper_struct helper beside helper_impl helper formatter
 

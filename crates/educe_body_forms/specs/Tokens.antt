@@ -146,7 +146,7 @@ abbrev pub constant_inside : Expr → Option Distance → Printout
 constant_inside value None = written value.written
 constant_inside value (Some distance) = base_printout value distance beside sum_printout distance
 
--- `const { e }`, or with a distance `const { let base : D = e ; base . wrapping_add ( 3usize as D ) }`
+-- `const { e }`, or with a distance `const { let base : D = e ; base . wrapping_add ( 3usize as D ) }`.
 abbrev pub constant_printout : Constant → Printout
 constant_printout constant = says (codes "const") refl beside in_curly (constant_inside constant.value constant.distance)
 
@@ -224,13 +224,13 @@ own_field_printout key = says (codes "self .") refl beside word key
 abbrev pub lent_field_printout : Word → Printout
 lent_field_printout key = says (codes "& mut") refl beside own_field_printout key
 
--- an assignment to a field of `self`: `self . key = path ( x ) ;`, or with true, where the call is handed the field, `path ( &
--- mut self . key , x ) ;`
+-- An assignment to a field of `self`: `self . key = path ( x ) ;`, or with true, where the call is handed the field, `path ( &
+-- mut self . key , x ) ;`.
 abbrev pub field_assignment : Bool → Word → Written → Printout → Printout
 field_assignment false key path value = own_field_printout key beside result_printout path value
 field_assignment true key path value = handed_printout (lent_field_printout key) path value
 
--- an assignment through a name: `* name = path ( x ) ;`, or with true, where the call is handed the name, `path ( name , x ) ;`
+-- An assignment through a name: `* name = path ( x ) ;`, or with true, where the call is handed the name, `path ( name , x ) ;`.
 abbrev pub through_assignment : Bool → Ident → Written → Printout → Printout
 through_assignment false target path value = says (codes "*") refl beside name target beside result_printout path value
 through_assignment true target path value = handed_printout (name target) path value
@@ -250,7 +250,7 @@ comma_where true = says (codes ",") refl
 -- ---- forms that hold forms
 
 abbrev mutual
-  -- a form as it is printed: one equation for each form
+  -- A form as it is printed: one equation for each form.
   pub form_printout : Form → Printout
   form_printout (Local ident) = name ident
   form_printout (form.Known known) = known_printout known

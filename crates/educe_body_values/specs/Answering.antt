@@ -37,7 +37,7 @@ same_callee own callee = false
 abbrev pub row_fits : Row → Callee → Option FieldValue → Option FieldValue → Bool
 row_fits row callee x y = same_callee row.callee callee && same_argument row.first x && same_argument row.second y
 
--- the answer of the first row with this callee and these arguments
+-- The answer of the first row with this callee and these arguments.
 abbrev pub first_row : List Row → Callee → Option FieldValue → Option FieldValue → Option Answer
 first_row [] callee x y = None
 first_row (row ∷ rows) callee x y = if row_fits row callee x y then Some row.answer else first_row rows callee x y
@@ -54,7 +54,7 @@ abbrev pub hashed_number : Callee → FieldValue → Option Answer
 hashed_number Hash x = Some (Part x.number)
 hashed_number callee x = None
 
--- the comparison of the numbers of two values of one type, or what is fed of one value, by a built-in function; otherwise none
+-- The comparison of the numbers of two values of one type, or what is fed of one value, by a built-in function; otherwise none.
 abbrev pub by_number_answer : Callee → Option FieldValue → Option FieldValue → Option Answer
 by_number_answer callee None y = None
 by_number_answer callee (Some x) None = hashed_number callee x
@@ -65,8 +65,8 @@ abbrev pub or_else : Option Answer → Option Answer → Option Answer
 or_else None other = other
 or_else (Some answer) other = Some answer
 
--- the answer of the first row with this callee and these arguments; without one, if the table answers by number, what the numbers
--- say; otherwise none
+-- The answer of the first row with this callee and these arguments; without one, if the table answers by number, what the numbers
+-- say; otherwise none.
 abbrev pub answer_of : Answers → Callee → Option FieldValue → Option FieldValue → Option Answer
 answer_of table callee x y =
     or_else (first_row table.rows callee x y) (if table.by_number then by_number_answer callee x y else None)

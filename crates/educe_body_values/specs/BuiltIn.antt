@@ -16,7 +16,7 @@ use Rattle.educe_body_values.specs.declared.callee.BuiltIn.{BuiltIn}
 use Rattle.educe_body_values.specs.declared.callee.BuiltIn.TheVariants.{Ne, Cmp, PartialCmp, Hash, Clone, CloneFrom}
 use Rattle.educe_body_values.specs.Callees.{path_names}
 
--- the tokens of the path of a built-in function
+-- The tokens of the path of a built-in function.
 abbrev pub path_lexemes : BuiltIn → List Lexeme
 path_lexemes Ne = quoted (codes ":: core :: cmp :: PartialEq :: ne")
 path_lexemes Cmp = quoted (codes ":: core :: cmp :: Ord :: cmp")
@@ -29,7 +29,7 @@ path_lexemes CloneFrom = quoted (codes ":: core :: clone :: Clone :: clone_from"
 abbrev pub said_by : Segment → List ℕ × Span × Args
 said_by segment = ((out-Segment segment).ident.text, (out-Segment segment).ident.span, (out-Segment segment).args)
 
--- what a segment says that the program makes: a name without arguments, with the span 0 to 0
+-- What a segment says that the program makes: a name without arguments, with the span 0 to 0.
 abbrev pub name_alone : List ℕ → List ℕ × Span × Args
 name_alone name = (name, no_place, args.None)
 

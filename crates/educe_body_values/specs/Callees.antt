@@ -41,7 +41,7 @@ first_spelled (which ∷ more) path = if pointwise bytes_eq path (path_of (path_
 unfoldable pub built_in_named : List (List ℕ) → Option BuiltIn
 built_in_named path = first_spelled (Ne ∷ Cmp ∷ PartialCmp ∷ Hash ∷ Clone ∷ CloneFrom ∷ []) path
 
--- the built-in function that a path's tokens spell
+-- The built-in function that a path's tokens spell.
 abbrev pub built_in : ExprPath → Option BuiltIn
 built_in path = built_in_named (spellings path.written.tokens)
 
@@ -54,7 +54,7 @@ as_callee Hash = CalleeHash
 as_callee Clone = CalleeClone
 as_callee CloneFrom = CalleeCloneFrom
 
--- the text of a path: its tokens with one space between any two, but none behind a joint punctuation character
+-- The text of a path: its tokens with one space between any two, but none behind a joint punctuation character.
 abbrev pub text_of_path : ExprPath → List ℕ
 text_of_path path = text_of (written_lexemes path.written)
 

@@ -6,7 +6,7 @@ use Rattle.educe_body_forms.specs.declared.form.Arm.{Arm}
 use Rattle.educe_body_forms.specs.declared.form.Init.{Init}
 
 abbrev mutual
-  -- an assignment to a field of `self` or through a name, or a discard, stands in the form at any depth
+  -- An assignment to a field of `self` or through a name, or a discard, stands in the form at any depth.
   pub assigns : Form → Bool
   assigns (Call' path shape arguments) = row_assigns arguments
   assigns (Not' shape inner) = row_assigns inner

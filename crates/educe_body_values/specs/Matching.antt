@@ -25,7 +25,7 @@ abbrev pub is_named : List ℕ → Option Variant → Bool
 is_named name None = false
 is_named name (Some variant) = bytes_eq variant.ident.text name
 
--- the value is of the pattern's variant, by the name as it was written
+-- The value is of the pattern's variant, by the name as it was written.
 abbrev pub fits : DeriveInput → Pattern → Value → Bool
 fits definition pattern value = is_named pattern.variant.text (variant_of definition value)
 
@@ -43,8 +43,8 @@ abbrev pub bound_to : Option Ident → Referent → List Binding → List Bindin
 bound_to None referent rest = rest
 bound_to (Some name) referent rest = record { name = name.text; referent = referent } ∷ rest
 
--- what the fields of a pattern bind by position: they are as many as the variant's fields and as what these stand for, and each
--- has the key of its field; otherwise none
+-- What the fields of a pattern bind by position: they are as many as the variant's fields and as what these stand for, and each
+-- has the key of its field; otherwise none.
 abbrev pub fields_bound : List Field → List PatternField → List Referent → Option (List Binding)
 fields_bound [] [] [] = Some []
 fields_bound [] [] (r ∷ rs) = None
@@ -58,7 +58,7 @@ abbrev pub bound_of : Option Variant → Pattern → List Referent → Option (L
 bound_of None pattern referents = None
 bound_of (Some variant) pattern referents = if pattern.rest then Some [] else fields_bound variant.fields.fields pattern.fields referents
 
--- what a pattern binds of a value whose fields stand for these; with `..` nothing; none if the pattern does not match the
--- variant's fields
+-- What a pattern binds of a value whose fields stand for these; with `..` nothing; none if the pattern does not match the
+-- variant's fields.
 abbrev pub bindings_of : DeriveInput → Pattern → Value → List Referent → Option (List Binding)
 bindings_of definition pattern value referents = bound_of (variant_of definition value) pattern referents

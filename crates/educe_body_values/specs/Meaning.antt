@@ -137,14 +137,14 @@ abbrev pub field_of : Scene → Option Value → List ℕ → Option FieldValue
 field_of scene None key = None
 field_of scene (Some value) key = part_of (keys_of scene.definition) value.fields key
 
--- the whole value that a name stands for, as a match and an `if let` take it
+-- The whole value that a name stands for, as a match and an `if let` take it.
 abbrev pub value_named : Scene → Env → Option Referent → Option Value
 value_named scene env (Some This) = own_value env.own
 value_named scene env (Some Other) = scene.other
 value_named scene env found = None
 
--- the field with this key of the value that the base stands for (Rust Reference, Field access expressions; Tuple indexing
--- expressions)
+-- The field with this key of the value that the base stands for (Rust Reference, Field access expressions; Tuple indexing
+-- expressions).
 abbrev pub reference_value : Scene → Env → Option Referent → List ℕ → Option FieldValue
 reference_value scene env base key = field_of scene (value_named scene env base) key
 
@@ -202,7 +202,7 @@ key_of found value = None
 
 -- ---- flows
 
--- the value of a field, and Stuck without one
+-- The value of a field, and Stuck without one.
 abbrev pub part_flow : Env → Option FieldValue → Flow
 part_flow env None = Stuck
 part_flow env (Some x) = Gives env (Part x)
@@ -217,7 +217,7 @@ local_flow scene env found = part_flow env (local_value scene env found)
 abbrev pub read_flow : Scene → Env → List ℕ → List ℕ → Flow
 read_flow scene env base key = part_flow env (reference_value scene env (look_up env.names base) key)
 
--- a number, and Stuck without one
+-- A number, and Stuck without one.
 abbrev pub number_flow : Env → Option ℤ → Flow
 number_flow env None = Stuck
 number_flow env (Some n) = Gives env (Number n)
@@ -228,14 +228,14 @@ known_thing (KnownTruth b) = Truth b
 known_thing (KnownOrder o) = Order o
 known_thing (KnownPartialOrder p) = PartialOrder p
 
--- the next step continues with what was given; a return or Stuck ends it
+-- The next step continues with what was given; a return or Stuck ends it.
 abbrev pub go_on : Flow → (Env → Thing → Flow) → Flow
 go_on (Gives env thing) next = next env thing
 go_on (Returns env thing) next = Returns env thing
 go_on Stuck next = Stuck
 
--- the names of a block end with it: as many are left as there were before it (Rust Reference, Scopes); what was fed to a hasher
--- stays
+-- The names of a block end with it: as many are left as there were before it (Rust Reference, Scopes); what was fed to a hasher
+-- stays.
 abbrev pub leave : List Binding → Flow → Flow
 leave names (Gives env thing) = Gives (record env { names = take (length names) env.names }) thing
 leave names (Returns env thing) = Returns (record env { names = take (length names) env.names }) thing
@@ -245,17 +245,17 @@ leave names Stuck = Stuck
 abbrev pub enter : Env → List Binding → Env
 enter env more = record env { names = env.names ++ more }
 
--- what follows where these further names are in scope, which end with it; Stuck if there is no such list
+-- What follows where these further names are in scope, which end with it; Stuck if there is no such list.
 abbrev pub within : Env → Option (List Binding) → (Env → Flow) → Flow
 within env None next = Stuck
 within env (Some more) next = leave env.names (next (enter env more))
 
--- what follows for a value, and Stuck without one
+-- What follows for a value, and Stuck without one.
 abbrev pub with_value : Option Value → (Value → Flow) → Flow
 with_value None next = Stuck
 with_value (Some value) next = next value
 
--- what follows for the value of a name, and for what its fields stand for; Stuck without one
+-- What follows for the value of a name, and for what its fields stand for; Stuck without one.
 abbrev pub with_named : Scene → Env → Option Referent → (Value → List Referent → Flow) → Flow
 with_named scene env found next = with_value (value_named scene env found) (λ value. next value (fields_named found value))
 
@@ -270,7 +270,7 @@ or_nothing env (Some block) = block env
 
 -- ---- calls
 
--- the value of an answer of the table, and Stuck without one
+-- The value of an answer of the table, and Stuck without one.
 abbrev pub answer_flow : Env → Option Answer → Flow
 answer_flow env None = Stuck
 answer_flow env (Some (AnswerTruth b)) = Gives env (Truth b)
@@ -280,17 +280,17 @@ answer_flow env (Some (AnswerNumber n)) = Gives env (Number n)
 answer_flow env (Some (AnswerPart n)) = Gives env (Hashed n)
 answer_flow env (Some (AnswerMade x)) = Gives env (Made x)
 
--- it continues with a field value; anything else is Stuck
+-- It continues with a field value; anything else is Stuck.
 abbrev pub if_part : (FieldValue → Flow) → Thing → Flow
 if_part next (Part x) = next x
 if_part next thing = Stuck
 
--- it continues with a number; anything else is Stuck
+-- It continues with a number; anything else is Stuck.
 abbrev pub if_number : (ℤ → Flow) → Thing → Flow
 if_number next (Number n) = next n
 if_number next thing = Stuck
 
--- the order of two numbers, which only `Ord::cmp` compares
+-- The order of two numbers, which only `Ord::cmp` compares.
 abbrev pub numbers_flow : Env → Callee → ℤ → ℤ → Flow
 numbers_flow env Cmp m n = Gives env (Order (int_cmp m n))
 numbers_flow env callee m n = Stuck
@@ -333,7 +333,7 @@ abbrev pub call_named : Answers → Option Callee → Env → List Thing → Flo
 call_named table None env arguments = Stuck
 call_named table (Some callee) env arguments = call_answer env table callee (counted arguments)
 
--- the answer of the table for a call by its path, where these names are in scope (Rust Reference, Call expressions)
+-- The answer of the table for a call by its path, where these names are in scope (Rust Reference, Call expressions).
 abbrev pub call_value : Scene → List Binding → ExprPath → Env → List Thing → Flow
 call_value scene names path = call_named scene.answers (callee_in names path)
 
@@ -343,19 +343,19 @@ pasted_flow scene env written = call_named scene.answers (pasted_callee scene.de
 
 -- ---- what goes on behind a value
 
--- what follows the test of `if x { return false; }`: if it is true, `false` is returned, otherwise the block continues (Rust
--- Reference, If expressions)
+-- What follows the test of `if x { return false; }`: if it is true, `false` is returned, otherwise the block continues (Rust
+-- Reference, If expressions).
 abbrev pub unless_true : Env → Thing → Flow
 unless_true env (Truth true) = Returns env (Truth false)
 unless_true env (Truth false) = Gives env Nothing
 unless_true env thing = Stuck
 
--- the opposite of a truth value, and Stuck of anything else (Rust Reference, Negation operators)
+-- The opposite of a truth value, and Stuck of anything else (Rust Reference, Negation operators).
 abbrev pub opposite : Env → Thing → Flow
 opposite env (Truth b) = Gives env (Truth (not b))
 opposite env thing = Stuck
 
--- `Some` of an order, and Stuck of anything else
+-- `Some` of an order, and Stuck of anything else.
 abbrev pub some_of : Env → Thing → Flow
 some_of env (Order o) = Gives env (PartialOrder (Some o))
 some_of env thing = Stuck
@@ -392,8 +392,8 @@ partial_arm env above below (Some Equal) = Gives env Nothing
 partial_arm env above below (Some Greater) = Returns env (PartialOrder (Some above))
 partial_arm env above below (Some Less) = Returns env (PartialOrder (Some below))
 
--- the arm of a step: Equal continues, any other arm returns its order; with true what is matched is a partial order, and `None`
--- returns too
+-- The arm of a step: Equal continues, any other arm returns its order; with true what is matched is a partial order, and `None`
+-- returns too.
 abbrev pub arm_of : Bool → Ordering → Ordering → Env → Thing → Flow
 arm_of false above below env (Order o) = order_arm env above below o
 arm_of true above below env (PartialOrder p) = partial_arm env above below p
@@ -404,14 +404,14 @@ abbrev pub order_thing : Bool → Ordering → Thing
 order_thing false o = Order o
 order_thing true o = PartialOrder (Some o)
 
--- the arm of a match with a block for Equal: that block, and otherwise the order, which is given and not returned
+-- The arm of a match with a block for Equal: that block, and otherwise the order, which is given and not returned.
 abbrev pub block_arm : Bool → Ordering → Ordering → (Env → Flow) → Env → Thing → Flow
 block_arm partial above below equal env (Order Equal) = equal env
 block_arm partial above below equal env (Order Greater) = Gives env (order_thing partial above)
 block_arm partial above below equal env (Order Less) = Gives env (order_thing partial below)
 block_arm partial above below equal env thing = Stuck
 
--- the arm that a match on an order takes: that of a step, or with a block for Equal (Rust Reference, Match expressions)
+-- The arm that a match on an order takes: that of a step, or with a block for Equal (Rust Reference, Match expressions).
 abbrev pub order_match : Bool → Ordering → Ordering → Option (Env → Flow) → Env → Thing → Flow
 order_match partial above below None = arm_of partial above below
 order_match partial above below (Some equal) = block_arm partial above below equal
@@ -434,12 +434,12 @@ abbrev pub whole_thing : Own → Thing
 whole_thing (own.Value value) = Built value
 whole_thing (own.Whole x) = Made x
 
--- `* self`: the value of `self`, or what a call made of a whole one; Stuck without one
+-- `* self`: the value of `self`, or what a call made of a whole one; Stuck without one.
 abbrev pub own_flow : Env → Option Own → Flow
 own_flow env None = Stuck
 own_flow env (Some self) = Gives env (whole_thing self)
 
--- `let _ = name ;` gives nothing, and is Stuck where the name stands for nothing
+-- `let _ = name ;` gives nothing, and is Stuck where the name stands for nothing.
 abbrev pub discarded : Env → Option Referent → Flow
 discarded env None = Stuck
 discarded env (Some found) = Gives env Nothing
@@ -459,7 +459,7 @@ assigned (Some This) x self = Some (own.Whole x)
 assigned (Some (OwnField place)) x self = with_field place x (own_value self)
 assigned found x self = None
 
--- `self` is this from now on; Stuck if there is no such place
+-- `self` is this from now on; Stuck if there is no such place.
 abbrev pub with_own : Env → Option Own → Flow
 with_own env None = Stuck
 with_own env (Some self) = Gives (record env { own = Some self }) Nothing
@@ -474,15 +474,15 @@ with_target true (Some x) next = next (Part x ∷ [])
 abbrev pub stored : Option Referent → Env → FieldValue → Flow
 stored target env x = with_own env (assigned target x env.own)
 
--- what a call makes of a value is assigned to what a name stands for; with true the call is handed that before the value (Rust
--- Reference, Assignment expressions)
+-- What a call makes of a value is assigned to what a name stands for; with true the call is handed that before the value (Rust
+-- Reference, Assignment expressions).
 abbrev pub assign : Scene → ExprPath → Bool → Option Referent → Env → Thing → Flow
 assign scene path handed target env thing =
     with_target handed (local_value scene env target) (λ front. go_on (call_value scene env.names path env (front ++ thing ∷ [])) (if_made (stored target)))
 
 -- ---- what is shown
 
--- the name of an entry, empty without one
+-- The name of an entry, empty without one.
 abbrev pub key_text : EntryKey → List ℕ
 key_text Unnamed = []
 key_text (Named key) = key.text
@@ -520,7 +520,7 @@ may_show env found = false
 abbrev pub shows : Env → Option Referent → DebugShape → (Env → Flow) → Flow
 shows env found first next = if may_show env found then next (record env { shown = Some first }) else Stuck
 
--- `f.write_str("N")`: the text is shown (documentation of `std`, `fmt::Formatter`)
+-- `f.write_str("N")`: the text is shown (documentation of `std`, `fmt::Formatter`).
 abbrev pub text_flow : Env → Option Referent → List ℕ → Flow
 text_flow env found text = shows env found (bare_shape shape.Word text) (λ after. Gives after Shown)
 
@@ -528,7 +528,7 @@ text_flow env found text = shows env found (bare_shape shape.Word text) (λ afte
 abbrev pub declared : Env → List ℕ → Referent → Flow
 declared env name referent = Gives (enter env (record { name = name; referent = referent } ∷ [])) Nothing
 
--- `let mut builder = f.debug_struct("N");` and the like: what is shown begins, and the name stands for the builder
+-- `let mut builder = f.debug_struct("N");` and the like: what is shown begins, and the name stands for the builder.
 abbrev pub builder_flow : Env → Option Referent → List ℕ → Opening → Flow
 builder_flow env found builder opening = shows env found (opened opening) (λ after. declared after builder BuilderName)
 
@@ -547,13 +547,13 @@ abbrev pub added : Env → DebugShape → Option Entry → Flow
 added env shown None = Stuck
 added env shown (Some entry) = Gives (record env { shown = Some (record shown { entries = shown.entries ++ entry ∷ [] }) }) Nothing
 
--- an entry is added to what is shown, where its key is one of the form of that, and its value is that of a field or an argument;
--- otherwise Stuck
+-- An entry is added to what is shown, where its key is one of the form of that, and its value is that of a field or an argument;
+-- otherwise Stuck.
 abbrev pub entered : EntryKey → Env → Option DebugShape → Thing → Flow
 entered key env None thing = Stuck
 entered key env (Some shown) thing = if fits_form env.names shown.form key then added env shown (entry_of (key_text key) env.arguments thing) else Stuck
 
--- `builder.field("key", x);` and the like: the entry is added where the name is that of the builder, and otherwise Stuck
+-- `builder.field("key", x);` and the like: the entry is added where the name is that of the builder, and otherwise Stuck.
 abbrev pub entry_flow : Option Referent → EntryKey → Env → Thing → Flow
 entry_flow (Some BuilderName) key env thing = entered key env env.shown thing
 entry_flow found key env thing = Stuck
@@ -562,11 +562,11 @@ entry_flow found key env thing = Stuck
 abbrev pub inert : Ident → Binding
 inert name = record { name = name.text; referent = Inert }
 
--- the names in scope around the type of an argument: with that of the type that wraps it
+-- The names in scope around the type of an argument: with that of the type that wraps it.
 abbrev pub around_type : List Binding → ArgumentNames → List Binding
 around_type names own = names ++ inert own.wrapper ∷ []
 
--- the names in scope around the method of an argument: with those of the parameters of the closure too
+-- The names in scope around the method of an argument: with those of the parameters of the closure too.
 abbrev pub around_method : List Binding → ArgumentNames → List Binding
 around_method names own = names ++ inert own.wrapper ∷ inert own.own_value ∷ inert own.own_formatter ∷ []
 
@@ -589,7 +589,7 @@ finished env found = Stuck
 
 -- ---- values that are built
 
--- it continues with the case that is built, the position of its variant and its fields; Stuck without one
+-- It continues with the case that is built, the position of its variant and its fields; Stuck without one.
 abbrev pub with_case : Option (ℕ × List Field) → (ℕ → List Field → Flow) → Flow
 with_case None next = Stuck
 with_case (Some case) next = next case.0 case.1
@@ -682,8 +682,8 @@ abbrev mutual
       then go_on (form_value (for_field scene f) env x) (if_made (λ env value. inits_value scene env rest fs (λ env values. next env (value ∷ values))))
       else Stuck
 
--- the values of a list of arguments one after the other, each in the environment that the one before left, with which the call
--- continues
+-- The values of a list of arguments one after the other, each in the environment that the one before left, with which the call
+-- continues.
 abbrev pub args_list : Scene → Env → List Form → (Env → List Thing → Flow) → Flow
 args_list scene env [] next = next env []
 args_list scene env (x ∷ rest) next = go_on (form_value scene env x) (λ env thing. args_list scene env rest (λ env things. next env (thing ∷ things)))
@@ -702,8 +702,8 @@ inits_list scene env (init ∷ rest) (f ∷ fs) next =
 abbrev pub built_value : Scene → Env → List Init → ℕ → List Field → Flow
 built_value scene env inits variant fields = inits_list scene env inits fields (built variant)
 
--- the forms of a list in order, each in the environment that the one before left: the first return ends them, otherwise the last
--- gives the value (Rust Reference, Block expressions)
+-- The forms of a list in order, each in the environment that the one before left: the first return ends them, otherwise the last
+-- gives the value (Rust Reference, Block expressions).
 abbrev pub list_value : Scene → Env → Thing → List Form → Flow
 list_value scene env last [] = Gives env last
 list_value scene env last (x ∷ rest) = go_on (form_value scene env x) (λ env thing. list_value scene env thing rest)
@@ -717,13 +717,13 @@ held_list scene (Some forms) = Some (λ env. leave env.names (list_value scene e
 abbrev pub taken : Scene → Env → Pattern → List Form → Value → List Referent → Flow
 taken scene env pattern forms value referents = within env (bindings_of scene.definition pattern value referents) (λ inner. list_value scene inner Nothing forms)
 
--- the forms behind a pattern if it fits the value, and otherwise the others, if there are any (Rust Reference, If let
--- expressions)
+-- The forms behind a pattern if it fits the value, and otherwise the others, if there are any (Rust Reference, If let
+-- expressions).
 abbrev pub if_let_value : Scene → Env → Pattern → List Form → Option (List Form) → Value → List Referent → Flow
 if_let_value scene env pattern forms others value referents =
     if fits scene.definition pattern value then taken scene env pattern forms value referents else or_nothing env (held_list scene others)
 
--- the first arm of a list whose pattern fits the value, and Stuck without one (Rust Reference, Match expressions)
+-- The first arm of a list whose pattern fits the value, and Stuck without one (Rust Reference, Match expressions).
 abbrev pub arms_list : Scene → Env → List Arm → Value → List Referent → Flow
 arms_list scene env [] value referents = Stuck
 arms_list scene env (arm ∷ arms) value referents =
@@ -731,19 +731,19 @@ arms_list scene env (arm ∷ arms) value referents =
 
 -- ---- bodies
 
--- what `self` is when a body ends: a value, or what a call made of a whole one; Stuck without a `self`
+-- What `self` is when a body ends: a value, or what a call made of a whole one; Stuck without a `self`.
 abbrev pub own_outcome : Option Own → Outcome
 own_outcome None = OutcomeStuck
 own_outcome (Some (own.Value value)) = OutcomeMade value
 own_outcome (Some (own.Whole x)) = OutcomeWhole x
 
--- what is shown when a body ends; Stuck if nothing is
+-- What is shown when a body ends; Stuck if nothing is.
 abbrev pub shown_outcome : Option DebugShape → Outcome
 shown_outcome None = OutcomeStuck
 shown_outcome (Some shown) = OutcomeShape shown
 
--- the outcome of a thing: a truth value, an order, a partial order, a value that is built, a whole value that a call made, or
--- what a body shows that ends in handing it to a formatter; otherwise Stuck
+-- The outcome of a thing: a truth value, an order, a partial order, a value that is built, a whole value that a call made, or
+-- what a body shows that ends in handing it to a formatter; otherwise Stuck.
 abbrev pub outcome_of_thing : Env → Thing → Outcome
 outcome_of_thing env (Truth b) = OutcomeTruth b
 outcome_of_thing env (Order o) = OutcomeOrder o
@@ -753,13 +753,13 @@ outcome_of_thing env (Made x) = OutcomeWhole x
 outcome_of_thing env Shown = shown_outcome env.shown
 outcome_of_thing env thing = OutcomeStuck
 
--- the outcome of a body that gives or returns something
+-- The outcome of a body that gives or returns something.
 abbrev pub outcome_of : Flow → Outcome
 outcome_of (Gives env thing) = outcome_of_thing env thing
 outcome_of (Returns env thing) = outcome_of_thing env thing
 outcome_of Stuck = OutcomeStuck
 
--- what `self` becomes, whatever is given or returned, and Stuck of Stuck
+-- What `self` becomes, whatever is given or returned, and Stuck of Stuck.
 abbrev pub own_of : Flow → Outcome
 own_of (Gives env thing) = own_outcome env.own
 own_of (Returns env thing) = own_outcome env.own

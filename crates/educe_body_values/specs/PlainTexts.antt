@@ -30,7 +30,7 @@ single_comma [] (e ∷ []) = codes ","
 single_comma [] (e ∷ d ∷ es) = []
 single_comma (c ∷ name) es = []
 
--- a word; `N { a: .., b: .. }`; `N(.., ..)`; `{a: .., b: ..}`; a struct or a tuple without entries is its name
+-- A word; `N { a: .., b: .. }`; `N(.., ..)`; `{a: .., b: ..}`; a struct or a tuple without entries is its name.
 abbrev pub text_in_form : ShapeForm → List ℕ → List Entry → List (List ℕ) → List ℕ
 text_in_form Word name es texts = name
 text_in_form Struct name [] texts = name
@@ -39,6 +39,6 @@ text_in_form Tuple name [] texts = name
 text_in_form Tuple name (e ∷ es) texts = name ++ codes "(" ++ joined Tuple true (e ∷ es) texts ++ single_comma name (e ∷ es) ++ codes ")"
 text_in_form Map name es texts = codes "{" ++ joined Map true es texts ++ codes "}"
 
--- the text that `{:?}` prints of what is shown, where the values of its entries have these texts
+-- The text that `{:?}` prints of what is shown, where the values of its entries have these texts.
 abbrev pub plain_text : DebugShape → List (List ℕ) → List ℕ
 plain_text shown texts = text_in_form shown.form shown.name shown.entries texts

@@ -16,7 +16,7 @@ use Rattle.educe_body_values.specs.Callees.{built_in, as_callee, text_of_path}
 
 -- ---- what is called
 
--- the binding hides what a text means by this name: both are one name, ignoring a leading `r#`; `self`, a keyword, hides nothing
+-- The binding hides what a text means by this name: both are one name, ignoring a leading `r#`; `self`, a keyword, hides nothing.
 abbrev pub hides : Binding → List ℕ → Bool
 hides binding name = not (bytes_eq binding.name (codes "self")) && bytes_eq (unraw binding.name) name
 
@@ -47,8 +47,8 @@ abbrev pub named_in : List Binding → ExprPath → Option BuiltIn → Option Ca
 named_in names path None = if names_bound names path.written.tokens then None else Some (Written (text_of_path path))
 named_in names path (Some which) = Some (as_callee which)
 
--- what a path calls where these names are in scope: a built-in function; nothing, if one of its tokens is a name in scope;
--- otherwise the function of its text
+-- What a path calls where these names are in scope: a built-in function; nothing, if one of its tokens is a name in scope;
+-- otherwise the function of its text.
 abbrev pub callee_in : List Binding → ExprPath → Option Callee
 callee_in names path = named_in names path (built_in path)
 

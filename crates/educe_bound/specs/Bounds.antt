@@ -8,8 +8,8 @@ use Rattle.educe_attrs_values.specs.Values.{Holds}
 use Rattle.educe_bound.specs.declared.bound.Bound.{Bound}
 use Rattle.educe_bound.specs.declared.bound.Bound.TheVariants.{Disabled, Auto, All, Custom}
 
--- the bound that a value stands for: `true` asks for what the trait needs, `false` for nothing, `*` for the trait at each type
--- parameter, predicates for themselves
+-- The bound that a value stands for: `true` asks for what the trait needs, `false` for nothing, `*` for the trait at each type
+-- parameter, predicates for themselves.
 abbrev pub bound_of : WherePredicatesOrBool → Bound
 bound_of (value.WherePredicates predicates) = Custom predicates
 bound_of (value.Bool true) = Auto

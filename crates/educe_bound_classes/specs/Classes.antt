@@ -103,8 +103,8 @@ abbrev pub mentions_named : List GenericParam → List ℕ → Ty → Bool
 mentions_named params self ty = in_type (mention_of params self) ty
 
 module _ (params : List GenericParam) where
-  -- the path matches one of the names: it does not begin with a type parameter, its last name is one of them, and it is neither
-  -- `HashMap` with more than two types nor `HashSet` with more than one
+  -- The path matches one of the names: it does not begin with a type parameter, its last name is one of them, and it is neither
+  -- `HashMap` with more than two types nor `HashSet` with more than one.
   abbrev pub matches : List (List ℕ) → Path → Bool
   matches names p = not (begins_with (is_type_param params) p) && matches_at names (last_segment p)
 
@@ -122,8 +122,8 @@ module _ (params : List GenericParam) where
     is_unconditional_form (form.Path' args.Args-Round-1-None' p) = is_unconditional_path p
     is_unconditional_form _ = false
 
-    -- nothing is asked of the type, whatever stands in it: a raw or function pointer, `PhantomData`, a path with one of the
-    -- names, or `&T` where the exceptions say so
+    -- Nothing is asked of the type, whatever stands in it: a raw or function pointer, `PhantomData`, a path with one of the
+    -- names, or `&T` where the exceptions say so.
     abbrev pub is_unconditional : Ty → Bool
     is_unconditional ty = is_unconditional_form ty.form
 
@@ -147,8 +147,8 @@ module _ (params : List GenericParam) where
     abbrev pub is_forwarding : Ty → Bool
     is_forwarding ty = forwards_at (path_of_form ty.form)
 
-    -- the types to which a type hands on what is asked: those among the arguments of a path that matches a forwarding name and
-    -- has an angle list
+    -- The types to which a type hands on what is asked: those among the arguments of a path that matches a forwarding name and
+    -- has an angle list.
     abbrev pub parts_of : Ty → Option (List Ty)
     parts_of ty = parts_by (path_of_form ty.form)
 
@@ -164,7 +164,7 @@ module _ (params : List GenericParam) where
       passes_path = is_unconditional_path;
     }
 
-    -- the type parameters that begin a path in the type, in declared order; what is unconditional is passed over
+    -- The type parameters that begin a path in the type, in declared order; what is unconditional is passed over.
     abbrev pub names_in : Ty → List (List ℕ)
     names_in ty = filter (λ name. in_type (name_of name) ty) (filter_map type_name params)
 
@@ -183,6 +183,6 @@ module _ (params : List GenericParam) where
       class_by false true None true names = mentioning names
       class_by false true None false names = other
 
-      -- the class of a type, the first that fits: unconditional, without parameters, forwarding, mentioning, other
+      -- The class of a type, the first that fits: unconditional, without parameters, forwarding, mentioning, other.
       abbrev pub class_of : Ty → Class Ty (List ℕ)
       class_of ty = class_by (is_unconditional ty) (uses_params params ty) (parts_of ty) (mentions ty) (names_in ty)

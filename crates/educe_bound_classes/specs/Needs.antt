@@ -21,11 +21,11 @@ IsReading ty = (budget : ℕ) × Reads budget any_type ty.written.tokens ty
 abbrev pub AreNames : List GenericParam → Type 0
 AreNames params = AllByRecursion (λ p. IfSome (type_name p) IsName) params
 
--- the tokens of `Type : Trait`, ignoring spans and jointness, where the second list is what stands behind the type
+-- The tokens of `Type : Trait`, ignoring spans and jointness, where the second list is what stands behind the type.
 abbrev pub own_of : List Lexeme → Ty → List Lexeme
 own_of bound ty = lexemes_aside ty.written.tokens ++ bound
 
--- the tokens of `Param : Trait`, ignoring spans and jointness
+-- The tokens of `Param : Trait`, ignoring spans and jointness.
 abbrev pub param_of : List Lexeme → List ℕ → List Lexeme
 param_of bound name = record { kind = kind.Ident; spelling = name } ∷ bound
 
@@ -38,7 +38,7 @@ module _ (ex : Exceptions) (params : List GenericParam) (self : List ℕ) (bound
   abbrev pub Asks : Ty → List (List Lexeme) → Type 0
   Asks ty asked = Needs (class_of params ex self) (own_of bound) (param_of bound) ty asked
 
-  -- the own predicates of the automatic bound of types
+  -- The own predicates of the automatic bound of types.
   abbrev pub AreOwn : List Ty → List (List Lexeme) → Type 0
   AreOwn types own = IsAutomatic (class_of params ex self) (own_of bound) (param_of bound) types own
 

@@ -36,13 +36,13 @@ use_of params = record {
   passes_path = λ p. false;
 }
 
--- the type uses parameters: a type or const parameter begins a path without leading `::` in it, or is a word of an array length
--- or of a constant
+-- The type uses parameters: a type or const parameter begins a path without leading `::` in it, or is a word of an array length
+-- or of a constant.
 abbrev pub uses_params : List GenericParam → Ty → Bool
 uses_params params ty = in_type (use_of params) ty
 
--- the path mentions the derived type of this name: it has no self type, does not begin with a type parameter, and has a segment
--- of the name or begins with `Self`
+-- The path mentions the derived type of this name: it has no self type, does not begin with a type parameter, and has a segment
+-- of the name or begins with `Self`.
 abbrev pub mentions_at : List GenericParam → List ℕ → Bool → Path → Bool
 mentions_at params self behind p =
     not behind && (not (begins_with (is_type_param params) p)

@@ -4,11 +4,11 @@ use Rattle.std.specs.List.{list_any, list_all}
 use Rattle.educe_bound_traits.specs.declared.traits.Trait.{Trait}
 use Rattle.educe_bound_traits.specs.declared.traits.Trait.TheVariants.{Debug, Clone, Copy, PartialEq, Eq, PartialOrd, Ord, Hash, Default}
 
--- the traits in the fixed order in which items are written
+-- The traits in the fixed order in which items are written.
 abbrev pub variants : List Trait
 variants = Debug ∷ Clone ∷ Copy ∷ PartialEq ∷ Eq ∷ PartialOrd ∷ Ord ∷ Hash ∷ Default ∷ []
 
--- the position of a trait in it
+-- The position of a trait in it.
 abbrev pub place : Trait → ℕ
 place Debug = 0
 place Clone = 1

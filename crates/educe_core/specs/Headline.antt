@@ -22,8 +22,8 @@ use Rattle.educe_laws.specs.Handled.{IsListedCause}
 use Rattle.educe_laws.specs.Listed.{listed, IsListingCause}
 use Rattle.educe_laws.specs.Said.{AreAllSaid}
 
--- the definition that a text is: its tokens are a reading of the text, with brackets that match, not too deep; they are the
--- definition by the grammar, within the limits; and its names are distinct
+-- The definition that a text is: its tokens are a reading of the text, with brackets that match, not too deep; they are the
+-- definition by the grammar, within the limits; and its names are distinct.
 pub record Defines (text : List ℕ) (definition : DeriveInput) : Type 0 where
   pub tokens_are : IsReading text definition.tokens
   pub whole : IsWhole grammar.definition definition.tokens definition
@@ -36,7 +36,7 @@ pub data IsHandlerCause (definition : DeriveInput) : EduceError → Type 0 where
   handled : {e : EduceError} → NoCause (IsListingCause definition) → IsListedCause definition e → IsHandlerCause definition e
   memory : IsHandlerCause definition (placeless Alloc)
 
--- the text is a definition without a cause in any phase: it lists its traits as it should, and no listed trait is rejected
+-- The text is a definition without a cause in any phase: it lists its traits as it should, and no listed trait is rejected.
 pub record IsValid (source : List ℕ) : Type 0 where
   pub definition : DeriveInput
   pub defines : Defines (chars source) definition

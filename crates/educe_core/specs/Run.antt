@@ -19,11 +19,11 @@ expand_words = codes "expand" ∷ []
 abbrev pub usage_line : List ℕ
 usage_line = codes "usage: educe expand\n"
 
--- the line of an input past the limit
+-- The line of an input past the limit.
 abbrev pub too_long_line : List ℕ
 too_long_line = codes "the input is longer than 131072 bytes\n"
 
--- the line of an input that is not UTF-8
+-- The line of an input that is not UTF-8.
 abbrev pub not_utf8_line : List ℕ
 not_utf8_line = codes "the input is not UTF-8\n"
 
@@ -47,7 +47,7 @@ pub record ReadsTooMuch (source : Change) : Type 0 where
   pub limit : length input ≡ 131_073
   pub faults : source.faults_after ≡ source.faults_before
 
--- the text of an expansion of the whole input, which is UTF-8 and has no cause of rejection
+-- The text of an expansion of the whole input, which is UTF-8 and has no cause of rejection.
 pub record IsText (source : Change) (text : List ℕ) : Type 0 where
   pub input : List ℕ
   pub whole : ReadsAll source input
@@ -56,8 +56,8 @@ pub record IsText (source : Change) (text : List ℕ) : Type 0 where
   pub expands : IsExpansion input items text
   pub uncaused : (e : EduceError) → e.kind ≢ Alloc → IsCause input e → ⊥
 
--- the line of a rejection whose cause is in the whole input, which is not valid; if the input is no definition with distinct
--- names, no other cause is
+-- The line of a rejection whose cause is in the whole input, which is not valid; if the input is no definition with distinct
+-- names, no other cause is.
 pub record IsRefusal (source : Change) (error : EduceError) (line : List ℕ) : Type 0 where
   pub input : List ℕ
   pub whole : ReadsAll source input
@@ -85,7 +85,7 @@ IsLine words source ReadFault line = ⊥
 IsLine words source WriteFault line = ⊥
 IsLine words source NoMemory line = ⊥
 
--- the text of an expansion goes to the sink, all of it or a prefix, and the notes are unchanged
+-- The text of an expansion goes to the sink, all of it or a prefix, and the notes are unchanged.
 pub record WritesText (becomes : Change → List ℕ → Type 0) (words : List (List ℕ)) (source sink notes : Change) : Type 0 where
   pub command : words ≡ expand_words
   pub text : List ℕ
@@ -93,7 +93,7 @@ pub record WritesText (becomes : Change → List ℕ → Type 0) (words : List (
   pub gained : becomes sink text
   pub kept : IsUnchanged notes
 
--- the line of an answer goes to the notes, all of it or a prefix, and the sink is unchanged
+-- The line of an answer goes to the notes, all of it or a prefix, and the sink is unchanged.
 pub record WritesLine (becomes : Change → List ℕ → Type 0) (words : List (List ℕ)) (source sink notes : Change) (status : Status) : Type 0 where
   pub line : List ℕ
   pub stands : IsLine words source status line

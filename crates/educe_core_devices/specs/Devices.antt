@@ -1,21 +1,21 @@
 -- What calls do to the bytes and the count of faults of a device.
 use Rattle.std.specs.Prelude.{◌≡◌, ℕ, ◌+◌, ◌-◌, ◌^◌, ◌<◌, ◌≤◌, min, List, [], ◌++◌, length, take, Option, Some, None, IfSome, Bool, IsTrue}
 
--- the count of faults rose, or stands at its largest value
+-- The count of faults rose, or stands at its largest value.
 abbrev pub Rose : ℕ → ℕ → Type 0
 Rose before now = min (before + 1) (2 ^ 64 - 1) ≤ now
 
--- these bytes before the contents, and none if these are not modelled
+-- These bytes before the contents, and none if these are not modelled.
 abbrev pub ahead : List ℕ → Option (List ℕ) → Option (List ℕ)
 ahead bytes None = None
 ahead bytes (Some told) = Some (bytes ++ told)
 
--- these bytes behind the contents, and none if these are not modelled
+-- These bytes behind the contents, and none if these are not modelled.
 abbrev pub behind : Option (List ℕ) → List ℕ → Option (List ℕ)
 behind None bytes = None
 behind (Some told) bytes = Some (told ++ bytes)
 
--- no byte is left, if the contents are modelled
+-- No byte is left, if the contents are modelled.
 abbrev pub IsAtEnd : Option (List ℕ) → Type 0
 IsAtEnd told = IfSome told (λ bytes. bytes ≡ [])
 
@@ -41,12 +41,12 @@ pub record Change : Type 0 where
   pub faults_after : ℕ
   pub may_fail : Bool
 
--- the change of a device that is made of these five
+-- The change of a device that is made of these five.
 abbrev pub change : Option (List ℕ) → Option (List ℕ) → ℕ → ℕ → Bool → Change
 change before after faults_before faults_after may_fail =
     record { before = before; after = after; faults_before = faults_before; faults_after = faults_after; may_fail = may_fail }
 
--- contents and count of faults are the same
+-- Contents and count of faults are the same.
 pub record IsUnchanged (device : Change) : Type 0 where
   pub bytes : device.after ≡ device.before
   pub faults : device.faults_after ≡ device.faults_before
@@ -67,7 +67,7 @@ pub record FailsWithin (device : Change) (text : List ℕ) : Type 0 where
   pub bytes : device.after ≡ behind device.before (take count text)
   pub fails : Fails device
 
--- a prefix of the text was appended, no call failed, and memory ran out
+-- A prefix of the text was appended, no call failed, and memory ran out.
 pub record RunsShortWithin (device : Change) (text : List ℕ) : Type 0 where
   pub count : ℕ
   pub bytes : device.after ≡ behind device.before (take count text)

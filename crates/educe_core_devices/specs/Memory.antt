@@ -4,7 +4,7 @@ use Rattle.educe_core_devices.specs.declared.memory.MemorySource.{MemorySource}
 use Rattle.educe_core_devices.specs.declared.memory.MemorySink.{MemorySink}
 use Rattle.educe_core_devices.specs.declared.plan.Plan.{Plan}
 
--- the bytes that are left in a source over memory
+-- The bytes that are left in a source over memory.
 abbrev pub source_left : MemorySource → Option (List ℕ)
 source_left source = Some (drop source.taken source.bytes.items)
 
@@ -12,7 +12,7 @@ source_left source = Some (drop source.taken source.bytes.items)
 abbrev pub source_plan : MemorySource → Plan
 source_plan source = source.plan
 
--- the bytes that a sink over memory holds
+-- The bytes that a sink over memory holds.
 abbrev pub sink_held : MemorySink → Option (List ℕ)
 sink_held sink = Some sink.bytes.items
 

@@ -3,7 +3,7 @@ use Rattle.std.specs.Prelude.{◌≡◌, ℤ, pos, negsuc, true, false, refl}
 use Rattle.std.specs.Int.{complement_if}
 use Rattle.educe_discriminants.specs.declared.number.Number.TheInside.{Inside}
 
--- the fields of a whole number: whether it is below 0, and a magnitude
+-- The fields of a whole number: whether it is below 0, and a magnitude.
 abbrev pub fields_of : ℤ → Inside
 fields_of (pos n) = record { is_negative = false; magnitude = n }
 fields_of (negsuc n) = record { is_negative = true; magnitude = n }

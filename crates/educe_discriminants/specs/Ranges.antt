@@ -19,7 +19,7 @@ abbrev pub wrapped_to : Bool → Width → ℤ → ℤ
 wrapped_to true w n = int_wrap w n
 wrapped_to false w n = int_rem_euclid n (pos (2 ^ bits w))
 
--- the number of the type that differs from a number by a multiple of 2^bits, as `wrapping_add` returns it
+-- The number of the type that differs from a number by a multiple of 2^bits, as `wrapping_add` returns it.
 abbrev pub wrapped : DiscriminantType → ℤ → ℤ
 wrapped ty n = wrapped_to (is_signed ty) (width ty) n
 

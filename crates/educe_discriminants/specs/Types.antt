@@ -29,7 +29,7 @@ abbrev pub first_named : List DiscriminantType → List ℕ → Option Discrimin
 first_named [] name = None
 first_named (ty ∷ more) name = if bytes_eq name (name_of ty) then Some ty else first_named more name
 
--- the integer type of this name, if there is one
+-- The integer type of this name, if there is one.
 unfoldable pub type_named : List ℕ → Option DiscriminantType
 type_named name = first_named types name
 

@@ -31,7 +31,7 @@ is_joint c (kind.Start b) = false
 is_joint c (kind.Stop b) = false
 is_joint c kind.Doc = false
 
--- a kind opens a bracket pair of this form
+-- A kind opens a bracket pair of this form.
 abbrev pub is_start : Bracket → TokenKind → Bool
 is_start b (kind.Start c) = same_bracket b c
 is_start b (kind.Stop c) = false
@@ -41,7 +41,7 @@ is_start b (kind.Literal l) = false
 is_start b (kind.Punct d joint) = false
 is_start b kind.Doc = false
 
--- a kind closes a bracket pair of this form
+-- A kind closes a bracket pair of this form.
 abbrev pub is_stop : Bracket → TokenKind → Bool
 is_stop b (kind.Stop c) = same_bracket b c
 is_stop b (kind.Start c) = false
@@ -51,7 +51,7 @@ is_stop b (kind.Literal l) = false
 is_stop b (kind.Punct d joint) = false
 is_stop b kind.Doc = false
 
--- a kind is documentation
+-- A kind is documentation.
 abbrev pub is_doc : TokenKind → Bool
 is_doc kind.Doc = true
 is_doc (kind.Start c) = false
@@ -61,25 +61,25 @@ is_doc kind.Lifetime = false
 is_doc (kind.Literal l) = false
 is_doc (kind.Punct d joint) = false
 
--- the token opens a bracket pair of this form
+-- The token opens a bracket pair of this form.
 abbrev pub opens : Bracket → Token → Bool
 opens b t = is_start b t.kind
 
--- the token closes a bracket pair of this form
+-- The token closes a bracket pair of this form.
 abbrev pub closes : Bracket → Token → Bool
 closes b t = is_stop b t.kind
 
--- the token is documentation
+-- The token is documentation.
 abbrev pub documents : Token → Bool
 documents t = is_doc t.kind
 
--- the tokens begin with two punctuation characters that are one operator, as `::`, the first joint with the second
+-- The tokens begin with two punctuation characters that are one operator, as `::`, the first joint with the second.
 unfoldable pub begins_pair : ℕ → ℕ → Tokens → Bool
 begins_pair c d [] = false
 begins_pair c d (t ∷ []) = false
 begins_pair c d (t ∷ u ∷ ts) = is_joint c t.kind && is_sign d u.kind
 
--- the tokens begin with the first character, and not with the operator of both
+-- The tokens begin with the first character, and not with the operator of both.
 unfoldable pub begins_lone : ℕ → ℕ → Tokens → Bool
 begins_lone c d [] = false
 begins_lone c d (t ∷ ts) = is_sign c t.kind && not (begins_pair c d (t ∷ ts))
@@ -89,13 +89,13 @@ unfoldable pub sees : (Token → Bool) → Tokens → Bool
 sees test [] = false
 sees test (t ∷ ts) = test t
 
--- there is no token
+-- There is no token.
 unfoldable pub at_end : Tokens → Bool
 at_end [] = true
 at_end (t ∷ ts) = false
 
--- one step of a lookahead: a token of a set, a bracket, documentation, an operator of two characters, a single character, or the
--- end
+-- One step of a lookahead: a token of a set, a bracket, documentation, an operator of two characters, a single character, or the
+-- end.
 pub data Ahead : Type 0 where
   -- A token of this terminal.
   one : Terminal → Ahead
@@ -111,7 +111,7 @@ pub data Ahead : Type 0 where
   -- The end of the list.
   finish : Ahead
 
--- the tokens begin with this step
+-- The tokens begin with this step.
 abbrev pub begins : Ahead → Tokens → Bool
 begins (one asked) ts = sees (accepts asked) ts
 begins (start b) ts = sees (opens b) ts
@@ -134,11 +134,11 @@ abbrev pub meets : List Ahead → Tokens → Bool
 meets [] ts = true
 meets (a ∷ more) ts = begins a ts && meets more (behind a ts)
 
--- a lookahead: rows of such steps, one of which is looked for
+-- A lookahead: rows of such steps, one of which is looked for.
 abbrev pub Look : Type 0
 Look = List (List Ahead)
 
--- the tokens begin with one of several rows
+-- The tokens begin with one of several rows.
 unfoldable pub sees_any : Look → Tokens → Bool
 sees_any look ts = list_any (λ way. meets way ts) look
 

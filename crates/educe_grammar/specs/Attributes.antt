@@ -34,7 +34,7 @@ span_of tokens = between (slice_get tokens 0) (slice_get tokens (length tokens -
 
 -- ---- metas
 
--- the path of a meta
+-- The path of a meta.
 abbrev pub meta_path_of : (Bool × List (Unit {0})) × Written → MetaPath
 meta_path_of p = record { written = p.1 }
 
@@ -49,11 +49,11 @@ pub data MetaTail : Type 0 where
   value_tail : Expr → MetaTail
   unread_tail : Written → MetaTail
 
--- a lookahead: a bracket pair
+-- A lookahead: a bracket pair.
 abbrev pub at_group : Look
 at_group = (start Round ∷ []) ∷ (start Square ∷ []) ∷ (start Curly ∷ []) ∷ []
 
--- a bracket pair whose tokens are kept
+-- A bracket pair whose tokens are kept.
 unfoldable pub written_group : Rule MetaTail
 written_group = made (λ p. group_tail p.1) (written group)
 
@@ -61,7 +61,7 @@ written_group = made (λ p. group_tail p.1) (written group)
 unfoldable pub unread_value : Rule (Unit {0})
 unread_value = skipping (sign 61) (skipping (part trees) some_trees)
 
--- an unread value, with its tokens
+-- An unread value, with its tokens.
 unfoldable pub unread : Rule MetaTail
 unread = made (λ p. unread_tail p.1) (written unread_value)
 
@@ -88,11 +88,11 @@ metas = commas (at finish) meta
 unfoldable pub outer_meta : Rule Meta
 outer_meta = made meta_of (sliced (both meta_path (either at_group written_group (either (at_sign 61) unread (empty no_tail)))))
 
--- the attribute of documentation
+-- The attribute of documentation.
 abbrev pub documented : Found documents → Attribute
 documented found = record { meta = said.Doc found.token }
 
--- the attribute of a meta
+-- The attribute of a meta.
 abbrev pub attribute_of : Meta → Attribute
 attribute_of m = record { meta = m }
 

@@ -9,15 +9,15 @@ use Rattle.educe_grammar.specs.Rules.{Rule}
 
 -- ---- lookaheads
 
--- the lookahead of one step
+-- The lookahead of one step.
 abbrev pub at : Ahead → Look
 at a = (a ∷ []) ∷ []
 
--- a lookahead: a punctuation character
+-- A lookahead: a punctuation character.
 abbrev pub at_sign : ℕ → Look
 at_sign c = at (one (Sign c))
 
--- a lookahead: a word
+-- A lookahead: a word.
 abbrev pub at_word : Keyword → Look
 at_word word = at (one (Word word))
 
@@ -59,7 +59,7 @@ optional look g = rule.either look (rule.made Some g) (rule.empty None)
 abbrev pub flag : {A : Type 0} → Look → Rule A → Rule Bool
 flag look g = rule.either look (rule.made (λ _. true) g) (rule.empty false)
 
--- a punctuation character
+-- A punctuation character.
 abbrev pub sign : ℕ → Rule (Unit {0})
 sign c = unit (rule.token (Sign c))
 

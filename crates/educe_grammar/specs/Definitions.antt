@@ -44,11 +44,11 @@ visibility = unit (flag (at_word keyword.Pub) (both (word keyword.Pub) (flag at_
 
 -- ---- fields
 
--- the field of attributes, a name and a type
+-- The field of attributes, a name and a type.
 abbrev pub named_field_of : (List Attribute × Ident × Ty) × Tokens → Field
 named_field_of p = record { attrs = p.0.0; ident = Some p.0.1; ty = p.0.2; span = span_of p.1 }
 
--- these three as one triple
+-- These three as one triple.
 abbrev pub flat : List Attribute × (Ident × Ty) → List Attribute × Ident × Ty
 flat p = (p.0, p.1.0, p.1.1)
 
@@ -56,7 +56,7 @@ flat p = (p.0, p.1.0, p.1.1)
 unfoldable pub named_field : Rule Field
 named_field = made named_field_of (sliced (made flat (both attributes (skipping visibility (both name (behind_colon (part types)))))))
 
--- the field of attributes and a type
+-- The field of attributes and a type.
 abbrev pub tuple_field_of : (List Attribute × Ty) × Tokens → Field
 tuple_field_of p = record { attrs = p.0.0; ident = None; ty = p.0.1; span = span_of p.1 }
 
@@ -64,33 +64,33 @@ tuple_field_of p = record { attrs = p.0.0; ident = None; ty = p.0.1; span = span
 unfoldable pub tuple_field : Rule Field
 tuple_field = made tuple_field_of (sliced (both attributes (skipping visibility (part types))))
 
--- fields in curly brackets
+-- Fields in curly brackets.
 abbrev pub named_shape : List Field → FieldShape
 named_shape found = record { form = Named; fields = found }
 
--- fields in round brackets
+-- Fields in round brackets.
 abbrev pub tuple_shape : List Field → FieldShape
 tuple_shape found = record { form = Unnamed; fields = found }
 
--- no fields
+-- No fields.
 abbrev pub unit_shape : FieldShape
 unit_shape = record { form = UnitForm; fields = [] }
 
--- fields in curly brackets
+-- Fields in curly brackets.
 unfoldable pub named_fields : Rule FieldShape
 named_fields = made named_shape (in_curly named_field)
 
--- fields in round brackets
+-- Fields in round brackets.
 unfoldable pub tuple_fields : Rule FieldShape
 tuple_fields = made tuple_shape (in_round tuple_field)
 
 -- ---- enums
 
--- the fields of a variant, in brackets of either form, or none
+-- The fields of a variant, in brackets of either form, or none.
 unfoldable pub variant_fields : Rule FieldShape
 variant_fields = either (at (start Curly)) named_fields (either (at (start Round)) tuple_fields (empty unit_shape))
 
--- the variant of its parts
+-- The variant of its parts.
 abbrev pub variant_of : (List Attribute × (Ident × (FieldShape × Option Expr))) × Tokens → Variant
 variant_of p = record { attrs = p.0.0; ident = p.0.1.0; fields = p.0.1.1.0; discriminant = p.0.1.1.1; span = span_of p.1 }
 
@@ -104,11 +104,11 @@ variant = made variant_of (sliced (both attributes (both name (both variant_fiel
 abbrev pub Body : Type 0
 Body = Shape × List WherePredicate
 
--- the body of a struct: its fields and predicates
+-- The body of a struct: its fields and predicates.
 abbrev pub struct_body_of : FieldShape × List WherePredicate → Body
 struct_body_of p = (Struct p.0, p.1)
 
--- two parts in the other order
+-- Two parts in the other order.
 abbrev pub swapped : List WherePredicate × FieldShape → FieldShape × List WherePredicate
 swapped p = (p.1, p.0)
 
@@ -118,7 +118,7 @@ struct_body = made struct_body_of
     (either (at (start Round)) (leaving (both tuple_fields where_clause) (sign 59))
     (made swapped (both where_clause (either (at (start Curly)) named_fields (made (λ _. unit_shape) (sign 59))))))
 
--- the body of an enum: its variants and predicates
+-- The body of an enum: its variants and predicates.
 abbrev pub enum_body_of : List WherePredicate × List Variant → Body
 enum_body_of p = (Enum p.1, p.0)
 
@@ -130,15 +130,15 @@ enum_body = made enum_body_of (both where_clause (in_curly variant))
 abbrev pub Item : Type 0
 Item = Ident × (List GenericParam × Body)
 
--- a struct: its name, its parameters and its body
+-- A struct: its name, its parameters and its body.
 unfoldable pub struct_item : Rule Item
 struct_item = skipping (word keyword.Struct) (both name (both generic_params struct_body))
 
--- an enum: its name, its parameters and its body
+-- An enum: its name, its parameters and its body.
 unfoldable pub enum_item : Rule Item
 enum_item = skipping (word keyword.Enum) (both name (both generic_params enum_body))
 
--- the definition of attributes, a name, parameters and a body
+-- The definition of attributes, a name, parameters and a body.
 abbrev pub definition_of : (List Attribute × Item) × Tokens → DeriveInput
 definition_of p = record {
   attrs = p.0.0;

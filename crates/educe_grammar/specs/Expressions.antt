@@ -39,7 +39,7 @@ use Rattle.educe_grammar.specs.Types.{path_of, segment_of, angle_args, has_no_ar
 abbrev pub at_tree : Look
 at_tree = (one terminal.Leaf ∷ []) ∷ (start Round ∷ []) ∷ (start Square ∷ []) ∷ (start Curly ∷ []) ∷ []
 
--- any number of token trees
+-- Any number of token trees.
 unfoldable pub some_trees : Rule (Unit {0})
 some_trees = unit (many at_tree (part trees))
 
@@ -53,7 +53,7 @@ tree = either (at (one terminal.Leaf)) (unit (token terminal.Leaf)) group
 
 -- ---- paths in expressions
 
--- a segment with its arguments, if it has any
+-- A segment with its arguments, if it has any.
 abbrev pub segment_with : Ident × Option (List AngleArg) → Segment
 segment_with p = elim p.1 [ None ↦ segment_of p.0 args.None | Some found ↦ segment_of p.0 (args.Angle found) ]
 
@@ -65,19 +65,19 @@ at_turbofish = (pair 58 58 ∷ lone 60 61 ∷ []) ∷ []
 unfoldable pub expr_segment : Rule Segment
 expr_segment = made segment_with (both segment_name (optional at_turbofish (skipping colons angle_args)))
 
--- a path without a type before it
+-- A path without a type before it.
 abbrev pub local_path : Bool × List Segment → Option Ty × Path
 local_path p = (None, path_of p.0 p.1)
 
--- a path without a type before it is no word of a scope
+-- A path without a type before it is no word of a scope.
 abbrev pub is_local_path : Option Ty × Path → Bool
 is_local_path p = is_path p.1
 
--- a path behind its type
+-- A path behind its type.
 abbrev pub qualified_expr : (Ty × Option (Path × Ending)) × List Segment → Option Ty × Path
 qualified_expr p = (Some p.0.0, qualified_path p.0.1 p.1)
 
--- the tree of either path, with its tokens
+-- The tree of either path, with its tokens.
 abbrev pub expr_path_of : (Option Ty × Path) × Written → ExprPath
 expr_path_of p = record { self_type = p.0.0; path = p.0.1; written = p.1 }
 
@@ -89,7 +89,7 @@ qualified_expr_path = made qualified_expr (both qualified_self (skipping colons 
 unfoldable pub local_expr_path : Rule (Option Ty × Path)
 local_expr_path = checked is_local_path (made local_path (both (flag at_colons colons) (rule.path expr_segment)))
 
--- a path behind its type, or one without a type before it
+-- A path behind its type, or one without a type before it.
 unfoldable pub any_expr_path : Rule (Option Ty × Path)
 any_expr_path = either at_angle qualified_expr_path local_expr_path
 
@@ -101,12 +101,12 @@ expr_path = made expr_path_of (written any_expr_path)
 abbrev pub no_segment_args : List Segment → Bool
 no_segment_args found = list_all (λ s. has_no_args (out-Segment s).args) found
 
--- no type stands before the path
+-- No type stands before the path.
 abbrev pub has_no_self : Option Ty → Bool
 has_no_self None = true
 has_no_self (Some t) = false
 
--- no type stands before the path, and no segment has arguments
+-- No type stands before the path, and no segment has arguments.
 abbrev pub is_mod_path : ExprPath → Bool
 is_mod_path p = has_no_self p.self_type && no_segment_args (out-Path p.path).segments
 
@@ -121,11 +121,11 @@ unfoldable pub self_begins_paths : Tokens → Bool
 self_begins_paths [] = true
 self_begins_paths (t ∷ ts) = (not (is_self t) || begins_pair 58 58 ts) && self_begins_paths ts
 
--- each `self` in the group of a macro stands before `::`
+-- Each `self` in the group of a macro stands before `::`.
 abbrev pub is_macro_group : Unit {0} × Tokens → Bool
 is_macro_group p = self_begins_paths p.1
 
--- the bracket pair of a macro call
+-- The bracket pair of a macro call.
 unfoldable pub macro_group : Rule (Unit {0})
 macro_group = unit (checked is_macro_group (sliced group))
 
@@ -139,7 +139,7 @@ init =
     either at_value (unit (both (token terminal.NameOrIndex) (behind_colon (part exprs))))
     (unit (token terminal.Name))
 
--- a lookahead: what follows the fields of an expression
+-- A lookahead: what follows the fields of an expression.
 abbrev pub behind_fields : Look
 behind_fields = (stop Curly ∷ []) ∷ (pair 46 46 ∷ []) ∷ []
 
@@ -154,11 +154,11 @@ path_tail =
     (either (at (lone 33 61)) (made (λ _. tail.Call) (rule.lone 33 61 macro_group))
     (empty tail.Nothing))
 
--- the path fits what follows it: that of a macro is not qualified and has no arguments
+-- The path fits what follows it: that of a macro is not qualified and has no arguments.
 abbrev pub fits_tail : ExprPath × Tail → Bool
 fits_tail p = elim p.1 [ tail.Nothing ↦ true | tail.Fields ↦ true | tail.Call ↦ is_mod_path p.0 ]
 
--- the form of a path with what follows it
+-- The form of a path with what follows it.
 abbrev pub tail_form : Tail → ExprForm
 tail_form tail.Nothing = form.Path
 tail_form tail.Fields = form.Other
@@ -180,7 +180,7 @@ member =
     either (at (one terminal.Name)) (unit (both (token terminal.Name) (flag at_colons (skipping colons angle_args))))
     (unit (token terminal.Int))
 
--- a lookahead: a postfix
+-- A lookahead: a postfix.
 abbrev pub at_postfix : Look
 at_postfix = (start Round ∷ []) ∷ (start Square ∷ []) ∷ (lone 46 46 ∷ []) ∷ []
 
@@ -191,11 +191,11 @@ postfix =
     (either (at (start Square)) (unit (nest Square (part exprs)))
     (rule.lone 46 46 member))
 
--- a lookahead: a prefix
+-- A lookahead: a prefix.
 abbrev pub at_prefix : Look
 at_prefix = (one terminal.PrefixSign ∷ []) ∷ (one (terminal.Sign 38) ∷ []) ∷ []
 
--- the prefix is `-`
+-- The prefix is `-`.
 abbrev pub is_minus : Found (accepts terminal.PrefixSign) → Bool
 is_minus found = is_sign 45 found.token.kind
 
@@ -205,13 +205,13 @@ prefix =
     either (at_sign 38) (made (λ _. false) (both (sign 38) (flag (at_word keyword.Mut) (word keyword.Mut))))
     (made is_minus (token terminal.PrefixSign))
 
--- the form of an operand behind one prefix: one `-` and a literal, or any other
+-- The form of an operand behind one prefix: one `-` and a literal, or any other.
 abbrev pub negated_form : Bool → ExprForm → ExprForm
 negated_form true form.Literal = form.Negated
 negated_form true found = form.Other
 negated_form false found = form.Other
 
--- the form of an operand behind any prefixes and before any postfixes
+-- The form of an operand behind any prefixes and before any postfixes.
 abbrev pub unary_form : List Bool → ExprForm → List (Unit {0}) → ExprForm
 unary_form [] found [] = found
 unary_form (minus ∷ []) found [] = negated_form minus found
@@ -255,7 +255,7 @@ begins_with_less (Binary Less) = true
 begins_with_less (Binary ShiftsLeft) = true
 begins_with_less (Binary Calculates) = false
 
--- one link may stand before the next, by the rule of casts
+-- One link may stand before the next, by the rule of casts.
 abbrev pub may_stand_before : Link → Link → Bool
 may_stand_before (Cast Name) next = not (begins_with_less next)
 may_stand_before first next = true
@@ -266,19 +266,19 @@ casts_end [] = true
 casts_end (l ∷ []) = true
 casts_end (l ∷ next ∷ more) = may_stand_before l next && casts_end (next ∷ more)
 
--- the links obey the rules of comparisons and of casts
+-- The links obey the rules of comparisons and of casts.
 abbrev pub links_fit : List Link → Bool
 links_fit found = compares_once true found && casts_end found
 
--- the form of an operand and its links
+-- The form of an operand and its links.
 abbrev pub linked_form : ExprForm × List Link → ExprForm
 linked_form p = elim p.1 [ [] ↦ p.0 | _ ∷ _ ↦ form.Other ]
 
--- the expression of a form and its tokens
+-- The expression of a form and its tokens.
 abbrev pub expr_of : ExprForm × Written → Expr
 expr_of p = record { form = p.0; written = p.1 }
 
--- operands with casts and operators between
+-- Operands with casts and operators between.
 unfoldable pub operation : Rule ExprForm
 operation = made linked_form (both unary (checked links_fit (chain at_link link)))
 

@@ -21,11 +21,11 @@ shape_fields (Enum variants) = flat_map (λ v. v.fields.fields) variants
 abbrev pub variants_of : DeriveInput → List Variant
 variants_of definition = shape_variants definition.shape
 
--- the fields of a definition, of all variants together
+-- The fields of a definition, of all variants together.
 abbrev pub all_fields : DeriveInput → List Field
 all_fields definition = shape_fields definition.shape
 
--- the definition has at most so many generic parameters, variants and fields
+-- The definition has at most so many generic parameters, variants and fields.
 pub record IsFew (count : ℕ) (definition : DeriveInput) : Type 0 where
   -- The generic parameters are at most `count`.
   pub params : length definition.generics.params ≤ count

@@ -21,7 +21,7 @@ use Rattle.educe_grammar.specs.Types.{lifetime_bounds, for_all, constant, bounds
 unfoldable pub bounded_lifetime : Rule (Lifetime × Bool)
 bounded_lifetime = both lifetime (flag at_colon (behind_colon lifetime_bounds))
 
--- the lifetime parameter of what was read and its tokens
+-- The lifetime parameter of what was read and its tokens.
 abbrev pub lifetime_param_of : (Lifetime × Bool) × Written → GenericParam
 lifetime_param_of p = param.Lifetime (record { lifetime = p.0.0; written = p.1 })
 
@@ -33,7 +33,7 @@ lifetime_param = made lifetime_param_of (written bounded_lifetime)
 unfoldable pub bounded_name : Rule (Ident × Bool)
 bounded_name = both name (flag at_colon (behind_colon bounds))
 
--- the type parameter of what was read and its tokens
+-- The type parameter of what was read and its tokens.
 abbrev pub type_param_of : (Ident × Bool) × Written → GenericParam
 type_param_of p = param.TypeParam (record { ident = p.0.0; written = p.1 })
 
@@ -45,7 +45,7 @@ type_param = leaving (made type_param_of (written bounded_name)) (flag (at_sign 
 unfoldable pub typed_const : Rule Ident
 typed_const = skipping (word keyword.Const) (leaving name (behind_colon (part types)))
 
--- the const parameter of what was read and its tokens
+-- The const parameter of what was read and its tokens.
 abbrev pub const_param_of : Ident × Written → GenericParam
 const_param_of p = param.Const (record { ident = p.0; written = p.1 })
 
@@ -69,7 +69,7 @@ generic_params = either at_angle (in_angles generic_param) (empty [])
 
 -- ---- where-clauses
 
--- the predicate of what was read and its tokens
+-- The predicate of what was read and its tokens.
 abbrev pub predicate_of : (Unit {0}) × Written → WherePredicate
 predicate_of p = record { written = p.1 }
 
@@ -85,7 +85,7 @@ bounded_type = unit (both (part types) (behind_colon bounds))
 unfoldable pub type_predicate : Rule (Unit {0})
 type_predicate = prefer (terminal.Word keyword.For) (skipping for_all bounded_type) bounded_type
 
--- the content of a predicate
+-- The content of a predicate.
 unfoldable pub any_predicate : Rule (Unit {0})
 any_predicate = either (at (one terminal.Lifetime)) lifetime_predicate type_predicate
 
@@ -93,7 +93,7 @@ any_predicate = either (at (one terminal.Lifetime)) lifetime_predicate type_pred
 unfoldable pub predicate : Rule WherePredicate
 predicate = made predicate_of (written any_predicate)
 
--- a lookahead: what follows a where clause
+-- A lookahead: what follows a where clause.
 abbrev pub behind_where : Look
 behind_where = (start Curly ∷ []) ∷ (one (terminal.Sign 59) ∷ []) ∷ (finish ∷ []) ∷ []
 

@@ -40,20 +40,20 @@ lifetime_kind kind.Doc text h = absurd (passes _ h)
 abbrev pub ident_in : (words : Words) (t : Token) → IsTrue (token_in (only_words words) t.kind t.spelling) → Ident
 ident_in words t h = record { text = t.spelling; span = t.span; spelled = subst (λ k. IsTrue (spells k t.spelling)) (word_kind words t.kind t.spelling h) t.spelled }
 
--- an accepted token is in the requested set
+-- An accepted token is in the requested set.
 pub accepted : (asked : Terminal) (t : Token) → IsTrue (accepts asked t) → IsTrue (token_in (set_of asked) t.kind t.spelling)
 unfolding accepts
 accepted asked t passes = passes
 
--- the `Ident` of a token that is a name
+-- The `Ident` of a token that is a name.
 abbrev pub name_of : Found (accepts terminal.Name) → Ident
 name_of found = ident_in (some_words true []) found.token (accepted terminal.Name found.token found.passes)
 
--- the `Ident` of a token that is the name of a segment
+-- The `Ident` of a token that is the name of a segment.
 abbrev pub segment_name_of : Found (accepts terminal.PathSegment) → Ident
 segment_name_of found = ident_in segment_words found.token (accepted terminal.PathSegment found.token found.passes)
 
--- the `Lifetime` of a token
+-- The `Lifetime` of a token.
 abbrev pub lifetime_of : Found (accepts terminal.Lifetime) → Lifetime
 lifetime_of found = record {
   text = found.token.spelling;

@@ -20,7 +20,7 @@ pub record Named : Type 0 where
   pub text : List ℕ
   pub span : Span
 
--- the name of an identifier, with its place
+-- The name of an identifier, with its place.
 abbrev pub ident_named : Ident → Named
 ident_named ident = record { text = ident.text; span = ident.span }
 
@@ -30,21 +30,21 @@ lifetime_named (param.Lifetime p) = Some (record { text = p.lifetime.text; span 
 lifetime_named (param.TypeParam p) = None
 lifetime_named (param.Const p) = None
 
--- the name of a type or const parameter, and none of a lifetime
+-- The name of a type or const parameter, and none of a lifetime.
 abbrev pub type_named : GenericParam → Option Named
 type_named (param.Lifetime p) = None
 type_named (param.TypeParam p) = Some (ident_named p.ident)
 type_named (param.Const p) = Some (ident_named p.ident)
 
--- the name of a field, if it has one
+-- The name of a field, if it has one.
 abbrev pub field_named : Field → Option Named
 field_named field = elim field.ident [ None ↦ None | Some ident ↦ Some (ident_named ident) ]
 
--- the names of fields
+-- The names of fields.
 abbrev pub field_names : List Field → List Named
 field_names fields = filter_map field_named fields
 
--- the names of variants
+-- The names of variants.
 abbrev pub variant_names : List Variant → List Named
 variant_names variants = map (λ v. ident_named v.ident) variants
 
@@ -54,8 +54,8 @@ abbrev pub shape_scopes : Shape → List (List Named)
 shape_scopes (Struct shape) = field_names shape.fields ∷ []
 shape_scopes (Enum variants) = variant_names variants ∷ map (λ v. field_names v.fields.fields) variants
 
--- the lists of names of a definition, in each of which names must be distinct: its lifetime parameters; its type and const
--- parameters; the fields of a struct, or the variants of an enum and the fields of each
+-- The lists of names of a definition, in each of which names must be distinct: its lifetime parameters; its type and const
+-- parameters; the fields of a struct, or the variants of an enum and the fields of each.
 abbrev pub scopes : DeriveInput → List (List Named)
 scopes definition =
     filter_map lifetime_named definition.generics.params ∷ filter_map type_named definition.generics.params ∷ shape_scopes definition.shape
@@ -102,7 +102,7 @@ abbrev pub IsEarliest : Option Named → List (List Named) → Type 0
 IsEarliest (Some found) lists = IsRepeatedIn found lists
 IsEarliest None lists = AllApart lists
 
--- the names of each list of a definition are distinct, ignoring a leading `r#`
+-- The names of each list of a definition are distinct, ignoring a leading `r#`.
 abbrev pub AreNamesApart : DeriveInput → Type 0
 AreNamesApart definition = AllApart (scopes definition)
 

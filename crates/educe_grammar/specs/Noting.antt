@@ -23,16 +23,16 @@ use Rattle.educe_grammar.specs.Running.{skip_if, written_if}
 abbrev pub Noted : Type 0 → Type 0
 Noted A = Result (A × ParseStream) ParseError
 
--- a program that notes: it has such an outcome for each stream
+-- A program that notes: it has such an outcome for each stream.
 abbrev pub Noter : Type 0 → Type 0
 Noter A = ParseStream → Noted A
 
--- continue with the value and the stream that remains
+-- Continue with the value and the stream that remains.
 abbrev pub and_then : {A B : Type 0} → Noted A → (A → Noter B) → Noted B
 and_then (Ok p) f = f p.0 p.1
 and_then (Err e) f = Err e
 
--- an outcome behind a stream, where nothing more is noted
+-- An outcome behind a stream, where nothing more is noted.
 abbrev pub onto : {A : Type 0} → ParseStream → Outcome A → Noted A
 onto s (Ok p) = Ok (p.0, record { cursor = p.1; selves = s.selves })
 onto s (Err e) = Err e
@@ -71,24 +71,24 @@ unfoldable pub links : {A : Type 0} → Look → Noter A → ℕ → List A → 
 links look item zero found s = if sees_any look s.cursor then Err (TooDeep (length s.cursor)) else Ok (found, s)
 links look item (suc left) found s = if sees_any look s.cursor then and_then (item s) (λ x. links look item left (found ++ x ∷ [])) else Ok (found, s)
 
--- the segments behind the first one, each behind `::`; the number bounds the turns
+-- The segments behind the first one, each behind `::`; the number bounds the turns.
 unfoldable pub further : {A : Type 0} → Noter A → ℕ → List A → Noter (List A)
 further item zero found s = if begins_pair 58 58 s.cursor then Err (Syntax (length (drop 2 s.cursor))) else Ok (found, s)
 further item (suc turns) found s =
     if begins_pair 58 58 s.cursor then and_then (item (record { cursor = drop 2 s.cursor; selves = s.selves })) (λ x. further item turns (found ++ x ∷ [])) else Ok (found, s)
 
--- the stream behind a path; if the path begins with `Self`, it is noted: how many tokens are left at its beginning, behind its
--- first segment and behind it
+-- The stream behind a path; if the path begins with `Self`, it is noted: how many tokens are left at its beginning, behind its
+-- first segment and behind it.
 abbrev pub noted : ParseStream → ParseStream → ParseStream → ParseStream
 noted start first behind = if sees (accepts (Word SelfType)) start.cursor
     then record { cursor = behind.cursor; selves = behind.selves ++ record { start = length start.cursor; first = length first.cursor; behind = length behind.cursor } ∷ [] }
     else behind
 
--- items separated by `::`; the path is noted if it begins with `Self`
+-- Items separated by `::`; the path is noted if it begins with `Self`.
 abbrev pub segments : {A : Type 0} → Noter A → Noter (List A)
 segments item start = and_then (item start) (λ x first. and_then (further item (length start.cursor) (x ∷ []) first) (λ found behind. Ok (found, noted start first behind)))
 
--- take an operator, if there is one, and read the second operand
+-- Take an operator, if there is one, and read the second operand.
 abbrev pub binary_with : {A : Type 0} → Option (Operator × ℕ) → Noter A → Noter (Operator × A)
 binary_with None operand s = Err (Syntax (length s.cursor))
 binary_with (Some o) operand s = and_then (operand (record { cursor = drop o.1 s.cursor; selves = s.selves })) (λ x s. Ok ((o.0, x), s))

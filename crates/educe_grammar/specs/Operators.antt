@@ -44,12 +44,12 @@ abbrev pub single_operator : TokenKind → Option Operator
 single_operator (kind.Punct c joint) = single_of c
 single_operator first = None
 
--- an operator with its length
+-- An operator with its length.
 abbrev pub of_length : ℕ → Option Operator → Option (Operator × ℕ)
 of_length n None = None
 of_length n (Some o) = Some (o, n)
 
--- the first operator with the length 2, or else the second with the length 1
+-- The first operator with the length 2, or else the second with the length 1.
 abbrev pub longer_of : Option Operator → Option Operator → Option (Operator × ℕ)
 longer_of (Some o) single = Some (o, 2)
 longer_of None single = of_length 1 single

@@ -13,7 +13,7 @@ use Rattle.educe_grammar.specs.Rules.{Rule, token, documentation, empty, both, m
 abbrev pub Grammar : Type 0 → Type 1
 Grammar A = Tokens → A → Type 0
 
--- which tokens are which value, for each part and budget
+-- Which tokens are which value, for each part and budget.
 abbrev pub Parts : Type 1
 Parts = ℕ → (p : Part) → Grammar (TreeOf p)
 
@@ -29,7 +29,7 @@ module _ {A : Type 0} (Item : Grammar A) where
     more : {x : A} {xs : List A} (front rest : Tokens) (separator : Token) → Item front x → IsTrue (separates separator) → Listed separates rest xs
         → Listed separates (front ++ separator ∷ rest) (x ∷ xs)
 
-  -- items one after the other, without a separator
+  -- Items one after the other, without a separator.
   pub data Repeated : Tokens → List A → Type 0 where
     none : Repeated [] []
     more : {x : A} {xs : List A} (front rest : Tokens) → Item front x → Repeated rest xs → Repeated (front ++ rest) (x ∷ xs)

@@ -27,12 +27,12 @@ parts budget = parts_below (suc budget) budget
 abbrev pub Reads : ℕ → {A : Type 0} → Rule A → Grammar A
 Reads budget g = Parses parts budget g
 
--- the programs of the parts with each budget below a number
+-- The programs of the parts with each budget below a number.
 unfoldable pub readers_below : ℕ → Readers
 readers_below zero budget p = refuse
 readers_below (suc n) budget p = run (readers_below n) budget (rule_of p)
 
--- the programs of the parts with each budget
+-- The programs of the parts with each budget.
 abbrev pub readers : Readers
 readers budget = readers_below (suc budget) budget
 

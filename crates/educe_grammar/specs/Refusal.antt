@@ -14,8 +14,8 @@ use Rattle.educe_grammar.specs.Definitions.{visibility, definition}
 use Rattle.educe_grammar.specs.Parsed.{IsWhole, IsParseCause}
 use Rattle.educe_grammar.specs.Naming.{Named, IsRepeatedIn, AreNamesApart, scopes, duplicate_of}
 
--- the list is this definition, and its names are distinct; of the tokens that a definition keeps it says that a text may give the
--- definition
+-- The list is this definition, and its names are distinct; of the tokens that a definition keeps it says that a text may give the
+-- definition.
 pub record IsDefinition (tokens : Tokens) (found : DeriveInput) : Type 0 where
   pub whole : IsWhole definition tokens found
   pub apart : AreNamesApart found

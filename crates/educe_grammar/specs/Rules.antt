@@ -15,14 +15,14 @@ use Rattle.educe_grammar.specs.Ahead.{Look, documents}
 abbrev pub Typed : Type 0
 Typed = Ty × Ending
 
--- the four parts, which are mutually recursive
+-- The four parts, which are mutually recursive.
 pub data Part : Type 0 where
   types : Part
   plains : Part
   exprs : Part
   trees : Part
 
--- the value of each part
+-- The value of each part.
 abbrev pub TreeOf : Part → Type 0
 TreeOf types = Ty
 TreeOf plains = Typed

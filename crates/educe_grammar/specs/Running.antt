@@ -20,11 +20,11 @@ use Rattle.educe_grammar.specs.Rules.{Rule, token, documentation, empty, both, m
 abbrev pub Readers : Type 0
 Readers = ℕ → (p : Part) → Parser (TreeOf p)
 
--- take nothing, and have this value
+-- Take nothing, and have this value.
 abbrev pub pure : {A : Type 0} → A → Parser A
 pure x = λ ts. Ok (x, ts)
 
--- take so many tokens if the test holds, otherwise reject
+-- Take so many tokens if the test holds, otherwise reject.
 abbrev pub skip_if : Bool → ℕ → Parser (Unit {0})
 skip_if passes n = λ ts. if passes then Ok (tt, drop n ts) else Err (Syntax (length ts))
 
@@ -51,12 +51,12 @@ segments item zero found ts = Err (Syntax (length ts))
 segments item (suc turns) found ts = and_then (item ts) (λ x ts.
     if begins_pair 58 58 ts then segments item turns (found ++ x ∷ []) (drop 2 ts) else Ok (found ++ x ∷ [], ts))
 
--- take an operator, if there is one, and read the second operand
+-- Take an operator, if there is one, and read the second operand.
 abbrev pub binary_with : {A : Type 0} → Option (Operator × ℕ) → Parser A → Parser (Operator × A)
 binary_with None operand ts = Err (Syntax (length ts))
 binary_with (Some o) operand ts = and_then (operand (drop o.1 ts)) (λ x ts. Ok ((o.0, x), ts))
 
--- the last step of this, which rejects tokens that may not be copied
+-- The last step of this, which rejects tokens that may not be copied.
 abbrev pub written_if : {A : Type 0} → A → (tokens rest : Tokens) (b : Bool) → may_be_copied (lexemes tokens) ≡ b → Outcome (A × Written)
 written_if x tokens rest true stands = Ok ((x, record { tokens = tokens; written = stands }), rest)
 written_if x tokens rest false stands = Err (Syntax (length rest))

@@ -6,19 +6,19 @@ use Rattle.educe_grammar.specs.declared.operator.Operator.{Operator}
 use Rattle.educe_grammar.specs.declared.parse_error.ParseError.{ParseError}
 use Rattle.educe_grammar.specs.declared.parse_error.ParseError.TheVariants.{Memory, Syntax, TooDeep}
 
--- a list of tokens
+-- A list of tokens.
 abbrev pub Tokens : Type 0
 Tokens = List Token
 
--- a value with the tokens that remain, or a rejection: its kind, with how many tokens remain at its place, or out of memory
+-- A value with the tokens that remain, or a rejection: its kind, with how many tokens remain at its place, or out of memory.
 abbrev pub Outcome : Type 0 → Type 0
 Outcome A = Result (A × Tokens) ParseError
 
--- a program: it has an outcome for each list of tokens
+-- A program: it has an outcome for each list of tokens.
 abbrev pub Parser : Type 0 → Type 0
 Parser A = Tokens → Outcome A
 
--- continue with the value and the tokens that remain
+-- Continue with the value and the tokens that remain.
 abbrev pub and_then : {A B : Type 0} → Outcome A → (A → Parser B) → Outcome B
 and_then (Ok p) f = f p.0 p.1
 and_then (Err e) f = Err e
@@ -32,7 +32,7 @@ pub record Found (test : Token → Bool) : Type 0 where
   pub token : Token
   pub passes : IsTrue (test token)
 
--- this token, as one that passes the test, or a rejection
+-- This token, as one that passes the test, or a rejection.
 abbrev pub found_if : (test : Token → Bool) (t : Token) (ts : Tokens) (b : Bool) → test t ≡ b → Outcome (Found test)
 found_if test t ts true passes = Ok (record { token = t; passes = passes }, ts)
 found_if test t ts false fails = Err (Syntax (length (t ∷ ts)))
@@ -63,7 +63,7 @@ abbrev pub Lends : {test : Token → Bool} → Outcome (Found test) → Result (
 Lends {test = test} outcome (Ok t) new = (passes : IsTrue (test t.now)) × (outcome ≡ Ok (record { token = t.now; passes = passes }, new))
 Lends outcome (Err e) new = outcome ≡ Err e
 
--- what a function promises that takes such a token if it comes next, and otherwise changes nothing
+-- What a function promises that takes such a token if it comes next, and otherwise changes nothing.
 abbrev pub Eats : {test : Token → Bool} → Outcome (Found test) → Bool → Tokens → Tokens → Type 0
 Eats {test = test} outcome true old new = (found : Found test) × (outcome ≡ Ok (found, new))
 Eats outcome false old new = new ≡ old

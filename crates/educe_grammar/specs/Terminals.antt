@@ -53,30 +53,30 @@ pub data Signs : Type 0 where
   these_signs : List ℕ → Signs
   all_signs : Signs
 
--- a set of identifiers, lifetimes, literals and punctuation characters; no bracket and no documentation is in one
+-- A set of identifiers, lifetimes, literals and punctuation characters; no bracket and no documentation is in one.
 pub record TokenSet : Type 0 where
   pub words : Words
   pub lifetimes : Bool
   pub literals : Literals
   pub signs : Signs
 
--- no identifier
+-- No identifier.
 abbrev pub no_words : Words
 no_words = some_words false []
 
--- no punctuation character
+-- No punctuation character.
 abbrev pub no_signs : Signs
 no_signs = these_signs []
 
--- a set of nothing but these identifiers
+-- A set of nothing but these identifiers.
 abbrev pub only_words : Words → TokenSet
 only_words words = record { words = words; lifetimes = false; literals = no_literals; signs = no_signs }
 
--- a set of nothing but these literals
+-- A set of nothing but these literals.
 abbrev pub only_literals : Literals → TokenSet
 only_literals literals = record { words = no_words; lifetimes = false; literals = literals; signs = no_signs }
 
--- a set of nothing but these punctuation characters
+-- A set of nothing but these punctuation characters.
 abbrev pub only_signs : List ℕ → TokenSet
 only_signs signs = record { words = no_words; lifetimes = false; literals = no_literals; signs = these_signs signs }
 
@@ -84,7 +84,7 @@ only_signs signs = record { words = no_words; lifetimes = false; literals = no_l
 abbrev pub segment_words : Words
 segment_words = some_words true (SelfValue ∷ SelfType ∷ Super ∷ Crate ∷ [])
 
--- the set that a `Terminal` requests
+-- The set that a `Terminal` requests.
 abbrev pub set_of : Terminal → TokenSet
 set_of (terminal.Word word) = only_words (some_words false (word ∷ []))
 set_of terminal.Name = only_words (some_words true [])
@@ -130,6 +130,6 @@ token_in set (kind.Start b) text = false
 token_in set (kind.Stop b) text = false
 token_in set kind.Doc text = false
 
--- the token is in the set that a `Terminal` requests
+-- The token is in the set that a `Terminal` requests.
 unfoldable pub accepts : Terminal → Token → Bool
 accepts asked t = token_in (set_of asked) t.kind t.spelling

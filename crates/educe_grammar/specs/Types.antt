@@ -27,28 +27,28 @@ use Rattle.educe_grammar.specs.Names.{name, segment_name, lifetime}
 
 -- ---- trees
 
--- the tree of a form and its tokens
+-- The tree of a form and its tokens.
 abbrev pub type_of : TypeForm → Written → Ty
 type_of form tokens = roll-Ty (record { form = form; written = tokens })
 
--- the path of segments, behind a `::` or not
+-- The path of segments, behind a `::` or not.
 abbrev pub path_of : Bool → List Segment → Path
 path_of leading segments = roll-Path (record { leading = leading; segments = segments })
 
--- the segment of a name and its arguments
+-- The segment of a name and its arguments.
 abbrev pub segment_of : Ident → Args → Segment
 segment_of ident args = roll-Segment (record { ident = ident; args = args })
 
 -- ---- bounds
 
--- a lookahead: what follows a type or bounds
+-- A lookahead: what follows a type or bounds.
 abbrev pub behind_type : Look
 behind_type =
     (one (terminal.Sign 44) ∷ []) ∷ (one (terminal.Sign 59) ∷ []) ∷ (one (terminal.Sign 61) ∷ []) ∷ (one (terminal.Sign 62) ∷ [])
     ∷ (lone 58 58 ∷ []) ∷ (start Curly ∷ []) ∷ (stop Round ∷ []) ∷ (stop Square ∷ []) ∷ (stop Curly ∷ [])
     ∷ (one (terminal.Word keyword.As) ∷ []) ∷ (finish ∷ []) ∷ []
 
--- items separated by `+`, with an optional trailing one
+-- Items separated by `+`, with an optional trailing one.
 abbrev pub pluses : {A : Type 0} → Rule A → Rule (List A)
 pluses g = list (terminal.Sign 43) behind_type g
 
@@ -79,15 +79,15 @@ constant =
     (either (at (one terminal.Truth)) (unit (token terminal.Truth))
     (unit (nest Curly (part exprs)))))
 
--- the argument in angle brackets that a constant is
+-- The argument in angle brackets that a constant is.
 abbrev pub constant_of : Unit {0} × Written → AngleArg
 constant_of p = arg.Constant p.1
 
--- the argument of a name and the type behind its `=`
+-- The argument of a name and the type behind its `=`.
 abbrev pub binding_of : Ident × Ty → AngleArg
 binding_of p = arg.Binding p.0 p.1
 
--- a lookahead: a name with a `=` that is no half of `==`
+-- A lookahead: a name with a `=` that is no half of `==`.
 abbrev pub at_binding : Look
 at_binding = (one terminal.Name ∷ lone 61 61 ∷ []) ∷ []
 
@@ -107,22 +107,22 @@ angle_args = in_angles angle_arg
 abbrev pub ArgsRead : Type 0
 ArgsRead = Args × Ending × Bool
 
--- what is read where there are no arguments
+-- What is read where there are no arguments.
 abbrev pub no_args : ArgsRead
 no_args = (args.None, Name, true)
 
--- what is read of arguments in angle brackets
+-- What is read of arguments in angle brackets.
 abbrev pub angle_read : List AngleArg → ArgsRead
 angle_read found = (args.Angle found, Arguments, true)
 
--- what is read of arguments in round brackets with a type behind `->`: if that ends with a path, a `::` behind it continues that
--- path, so no segment may follow
+-- What is read of arguments in round brackets with a type behind `->`: if that ends with a path, a `::` behind it continues that
+-- path, so no segment may follow.
 abbrev pub returned : List Ty → Ty → Ending → ArgsRead
 returned inputs output Closed = (args.Round inputs (Some output), Arguments, true)
 returned inputs output Arguments = (args.Round inputs (Some output), Arguments, false)
 returned inputs output Name = (args.Round inputs (Some output), Name, false)
 
--- what is read of arguments in round brackets
+-- What is read of arguments in round brackets.
 abbrev pub round_read : List Ty × Option Typed → ArgsRead
 round_read p = elim p.1 [ None ↦ (args.Round p.0 None, Arguments, true) | Some output ↦ returned p.0 output.0 output.1 ]
 
@@ -130,7 +130,7 @@ round_read p = elim p.1 [ None ↦ (args.Round p.0 None, Arguments, true) | Some
 unfoldable pub round_args : Rule (List Ty × Option Typed)
 round_args = both (in_round (part types)) (optional at_arrow (arrow (part plains)))
 
--- a lookahead: arguments in angle brackets, `<A>` or `::<A>`
+-- A lookahead: arguments in angle brackets, `<A>` or `::<A>`.
 abbrev pub at_angle_args : Look
 at_angle_args = (lone 60 61 ∷ []) ∷ (pair 58 58 ∷ lone 60 61 ∷ []) ∷ []
 
@@ -143,11 +143,11 @@ type_args =
 
 -- ---- paths
 
--- a segment, how it ends, and whether another may follow
+-- A segment, how it ends, and whether another may follow.
 abbrev pub SegmentRead : Type 0
 SegmentRead = Segment × Ending × Bool
 
--- what is read of a name and its arguments
+-- What is read of a name and its arguments.
 abbrev pub segment_read : Ident × ArgsRead → SegmentRead
 segment_read p = (segment_of p.0 p.1.0, p.1.1, p.1.2)
 
@@ -167,7 +167,7 @@ last_ending [] = Closed
 last_ending (s ∷ []) = s.1
 last_ending (s ∷ t ∷ more) = last_ending (t ∷ more)
 
--- the segments of a path in a type, where another may follow each but the last
+-- The segments of a path in a type, where another may follow each but the last.
 unfoldable pub type_segments : Rule (List SegmentRead)
 type_segments = checked may_follow (rule.path type_segment)
 
@@ -175,17 +175,17 @@ type_segments = checked may_follow (rule.path type_segment)
 abbrev pub is_scope_word : List ℕ → Bool
 is_scope_word text = if bytes_eq text (codes "self") then true else if bytes_eq text (codes "super") then true else bytes_eq text (codes "crate")
 
--- there are no arguments
+-- There are no arguments.
 abbrev pub has_no_args : Args → Bool
 has_no_args args.None = true
 has_no_args (args.Angle' s found) = false
 has_no_args (args.Round' s inputs output) = false
 
--- a segment that is the word `self`, `super` or `crate` without arguments
+-- A segment that is the word `self`, `super` or `crate` without arguments.
 abbrev pub is_scope_segment : Segment → Bool
 is_scope_segment s = is_scope_word (out-Segment s).ident.text && has_no_args (out-Segment s).args
 
--- a single such segment without a leading `::`
+-- A single such segment without a leading `::`.
 abbrev pub are_scope : Bool → List Segment → Bool
 are_scope true found = false
 are_scope false [] = false
@@ -196,7 +196,7 @@ are_scope false (s ∷ t ∷ more) = false
 abbrev pub is_path : Path → Bool
 is_path p = not (are_scope (out-Path p).leading (out-Path p).segments)
 
--- the segments are one `Self`, with arguments or without, without a leading `::`
+-- The segments are one `Self`, with arguments or without, without a leading `::`.
 abbrev pub are_self : Bool → List Segment → Bool
 are_self true found = false
 are_self false [] = false
@@ -208,11 +208,11 @@ are_self false (s ∷ t ∷ more) = false
 abbrev pub path_ending : Bool → List SegmentRead → Ending
 path_ending leading found = if are_self leading (map (λ s. s.0) found) then Name else last_ending found
 
--- a path of the segments that were read, and how it ends
+-- A path of the segments that were read, and how it ends.
 abbrev pub path_read : Bool × List SegmentRead → Path × Ending
 path_read p = (path_of p.0 (map (λ s. s.0) p.1), path_ending p.0 p.1)
 
--- this is a path, and no word of a scope
+-- This is a path, and no word of a scope.
 abbrev pub is_path_read : Path × Ending → Bool
 is_path_read p = is_path p.0
 
@@ -229,7 +229,7 @@ abbrev pub qualified_path : Option (Path × Ending) → List Segment → Path
 qualified_path None found = path_of true found
 qualified_path (Some p) found = path_of (out-Path p.0).leading ((out-Path p.0).segments ++ found)
 
--- the form of a qualified path, and how it ends
+-- The form of a qualified path, and how it ends.
 abbrev pub qualified_read : (Ty × Option (Path × Ending)) × List SegmentRead → TypeForm × Ending
 qualified_read p = (form.Path (Some p.0.0) (qualified_path p.0.1 (map (λ s. s.0) p.1)), last_ending p.1)
 
@@ -239,7 +239,7 @@ qualified = made qualified_read (both qualified_self (skipping colons type_segme
 
 -- ---- bounds of types
 
--- the path of a bound, none for a lifetime, and how the bound ends
+-- The path of a bound, none for a lifetime, and how the bound ends.
 abbrev pub BoundRead : Type 0
 BoundRead = Option Path × Ending
 
@@ -258,22 +258,22 @@ bound =
 unfoldable pub bounds : Rule (List BoundRead)
 bounds = pluses bound
 
--- the paths of bounds
+-- The paths of bounds.
 abbrev pub bound_paths : List BoundRead → List Path
 bound_paths found = filter_map (λ b. b.0) found
 
--- there is at least one bound
+-- There is at least one bound.
 abbrev pub some_bounds : List BoundRead → Bool
 some_bounds [] = false
 some_bounds (b ∷ more) = true
 
 -- ---- types
 
--- the form of a type, and how it ends
+-- The form of a type, and how it ends.
 abbrev pub FormRead : Type 0
 FormRead = TypeForm × Ending
 
--- the form of what stands in round brackets
+-- The form of what stands in round brackets.
 abbrev pub round_of : Ty × Option (List Ty) → FormRead
 round_of p = elim p.1 [ None ↦ (form.Paren p.0, Closed) | Some more ↦ (form.Tuple (p.0 ∷ more), Closed) ]
 
@@ -283,11 +283,11 @@ round_form = nest Round
     (either (at (stop Round)) (empty (form.Tuple [], Closed))
     (made round_of (both (part types) (optional (at_sign 44) (skipping (sign 44) (commas (at (stop Round)) (part types)))))))
 
--- the form of `!`
+-- The form of `!`.
 abbrev pub never_of : Unit {0} → FormRead
 never_of _ = (form.Never, Closed)
 
--- the form of a reference
+-- The form of a reference.
 abbrev pub reference_of : Bool × Typed → FormRead
 reference_of p = (form.Reference p.0 p.1.0, p.1.1)
 
@@ -296,7 +296,7 @@ unfoldable pub reference : Rule FormRead
 reference = made reference_of
     (under (terminal.Sign 38) (skipping (flag (at (one terminal.Lifetime)) lifetime) (both (flag (at_word keyword.Mut) (word keyword.Mut)) (part plains))))
 
--- the form of a pointer
+-- The form of a pointer.
 abbrev pub pointer_of : Typed → FormRead
 pointer_of t = (form.Pointer t.0, t.1)
 
@@ -304,7 +304,7 @@ pointer_of t = (form.Pointer t.0, t.1)
 unfoldable pub pointer : Rule FormRead
 pointer = made pointer_of (under (terminal.Sign 42) (skipping (token terminal.PointerWord) (part plains)))
 
--- the form of what stands in square brackets
+-- The form of what stands in square brackets.
 abbrev pub square_of : Ty × Option Expr → FormRead
 square_of p = elim p.1 [ None ↦ (form.Slice p.0, Closed) | Some length ↦ (form.Array p.0 length.written, Closed) ]
 
@@ -318,7 +318,7 @@ fn_param =
     either ((one terminal.NameOrUnderscore ∷ lone 58 58 ∷ []) ∷ []) (skipping (token terminal.NameOrUnderscore) (behind_colon (part types)))
     (part types)
 
--- the form of a function pointer
+-- The form of a function pointer.
 abbrev pub fn_of : List Ty × Option Typed → FormRead
 fn_of p = elim p.1 [ None ↦ (form.FnPtr p.0 None, Closed) | Some output ↦ (form.FnPtr p.0 (Some output.0), output.1) ]
 
@@ -340,7 +340,7 @@ unfoldable pub fn_pointer : Rule FormRead
 fn_pointer = made fn_of
     (skipping fn_qualifiers (skipping (word keyword.Fn) (both (in_round fn_param) (optional at_arrow (arrow (part plains))))))
 
--- the form of a type that is a path
+-- The form of a type that is a path.
 abbrev pub path_form : Path × Ending → FormRead
 path_form p = (form.Path None p.0, p.1)
 
@@ -356,11 +356,11 @@ plain_form =
     (either at_fn fn_pointer
     (made path_form type_path)))))))
 
--- the form of `dyn` and one bound
+-- The form of `dyn` and one bound.
 abbrev pub bound_form : BoundRead → FormRead
 bound_form b = (form.TraitObject (bound_paths (b ∷ [])), b.1)
 
--- the form of `dyn` and any bounds
+-- The form of `dyn` and any bounds.
 abbrev pub bounds_form : List BoundRead → FormRead
 bounds_form found = (form.TraitObject (bound_paths found), Closed)
 
@@ -372,11 +372,11 @@ one_bound_form = either (at_word keyword.Dyn) (made bound_form (under (terminal.
 unfoldable pub any_bounds_form : Rule FormRead
 any_bounds_form = either (at_word keyword.Dyn) (made bounds_form (under (terminal.Word keyword.Dyn) (checked some_bounds bounds))) plain_form
 
--- the type of a form and its tokens, with how it ends
+-- The type of a form and its tokens, with how it ends.
 abbrev pub typed_of : FormRead × Written → Typed
 typed_of p = (type_of p.0.0 p.1, p.0.1)
 
--- the type of a form and its tokens, alone
+-- The type of a form and its tokens, alone.
 abbrev pub untyped_of : FormRead × Written → Ty
 untyped_of p = type_of p.0.0 p.1
 

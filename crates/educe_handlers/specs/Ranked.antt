@@ -23,6 +23,6 @@ called_by plain (by_order path) = path
 abbrev pub kept_of : Ranked → Kept
 kept_of ranked = record { field = ranked.field.now; place = ranked.place; rank = ranked.rank; rank_span = ranked.rank_span; how = how_of ranked.how }
 
--- the field behind one index is written no later than the field behind another
+-- The field behind one index is written no later than the field behind another.
 abbrev pub IsNoLater : List Ranked → ℕ → ℕ → Type 0
 IsNoLater sorted k j = (d : Ranked) → (slice_index_or sorted (k + 1) d).place ≤ (slice_index_or sorted (j + 1) d).place

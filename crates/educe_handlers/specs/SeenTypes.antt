@@ -17,7 +17,7 @@ read_of types = behind types.read.items
 abbrev pub touched_of : SeenTypes → List Ty
 touched_of types = behind types.touched.items
 
--- the type of a field on which the trait's own function is called, and none where it is treated by a method
+-- The type of a field on which the trait's own function is called, and none where it is treated by a method.
 abbrev pub touched_one : How → Ty → List Ty
 touched_one plainly ty = ty ∷ []
 touched_one (by_method path) ty = []

@@ -71,14 +71,14 @@ pub record AreChosenFor (definition : DeriveInput) (plain names : List (List ℕ
   pub words_are : AreWordsOf definition.tokens words
   pub chosen : AreChosen words plain names
 
--- the names `other`, `discriminant`, `this` and `base` are chosen one after the other, apart from the words of the definition;
--- and then the prefixes `_s_` and `_o_` so that neither a word of the definition nor one of the names begins with them
+-- The names `other`, `discriminant`, `this` and `base` are chosen one after the other, apart from the words of the definition;
+-- and then the prefixes `_s_` and `_o_` so that neither a word of the definition nor one of the names begins with them.
 pub record AreNames (definition : DeriveInput) (names : Names) : Type 0 where
   pub are : AreChosenFor definition plain_names (chosen_names names)
   pub own_is : IsPrefix (are.words ++ chosen_names names) (codes "_s_") names.own
   pub others_is : IsPrefix (are.words ++ chosen_names names) (codes "_o_") names.others
 
--- an identifier of this text, with the span 0 to 0
+-- An identifier of this text, with the span 0 to 0.
 pub record IsName (text : List ℕ) (name : Ident) : Type 0 where
   pub is : name.text ≡ text
   pub nowhere : name.span ≡ no_place
@@ -132,8 +132,8 @@ pub record IsPatternBy (prefix : List ℕ) (variant : Variant) (all : List Field
   pub whole : pattern.rest ≡ false
   pub fields_are : ArePatternFields prefix 0 (fields_in variant) all pattern.fields
 
--- the pattern of a variant that binds the fields that take part, by their settings, to variables behind a prefix, and every other
--- field to `_`
+-- The pattern of a variant that binds the fields that take part, by their settings, to variables behind a prefix, and every other
+-- field to `_`.
 abbrev pub IsPattern : Trait → DeriveInput → List ℕ → Variant → Pattern → Type 0
 IsPattern which definition prefix variant pattern = IsPatternBy prefix variant (map (settings_of which definition) (fields_in variant)) pattern
 
@@ -211,14 +211,14 @@ abbrev pub IsBase : Option Expr → Expr → Type 0
 IsBase None value = lexemes value.written.tokens ≡ word_lexeme (codes "0") ∷ []
 IsBase (Some written) value = value ≡ written
 
--- the distance of a constant: none at the expression itself, otherwise that many steps, in this type, from a value of this name
+-- The distance of a constant: none at the expression itself, otherwise that many steps, in this type, from a value of this name.
 abbrev pub IsDistance : DiscriminantType → List ℕ → ℕ → Option Distance → Type 0
 IsDistance ty base zero None = Unit {0}
 IsDistance ty base zero (Some distance) = ⊥
 IsDistance ty base (suc count) None = ⊥
 IsDistance ty base (suc count) (Some distance) = (distance.steps ≡ suc count) × (distance.ty ≡ ty) × IsName base distance.base
 
--- the constant of a variant: what it is counted from, and how far behind
+-- The constant of a variant: what it is counted from, and how far behind.
 pub record IsConstant (ty : DiscriminantType) (base : List ℕ) (c : Counted) (constant : Constant) : Type 0 where
   pub value_is : IsBase c.written constant.value
   pub distance_is : IsDistance ty base c.distance constant.distance
@@ -308,8 +308,8 @@ pub record IsKeyed (which : Comparison) (definition : DeriveInput) (names : Name
   pub decision_is : IsDecision which definition names variants compares (are_units variants) decision
   pub block_is : block ≡ keys ∷ decision ∷ []
 
--- the block of a comparison of an enum: without variants what is answered where nothing differs; for `PartialEq` a match on
--- `self`; for an order the key function and what follows it
+-- The block of a comparison of an enum: without variants what is answered where nothing differs; for `PartialEq` a match on
+-- `self`; for an order the key function and what follows it.
 abbrev pub IsEnumBlock : Comparison → DeriveInput → Names → List Variant → List Form → Type 0
 IsEnumBlock which definition names [] block = block ≡ form.Known (neutral which) ∷ []
 IsEnumBlock PartialEq definition names (v ∷ vs) block = IsMatch PartialEq definition names (v ∷ vs) block

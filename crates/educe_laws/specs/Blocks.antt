@@ -80,8 +80,8 @@ pub record IsStructBody (which : Comparison) (definition : DeriveInput) (fields 
   pub copied_are : AreCopied definition copied
   pub block_has : HasSteps which (of_base copied (codes "self")) (of_base copied param.text) ordered body.block
 
--- the body of a comparison of an enum: its names are chosen, its one parameter is the first of them, and its block is that of an
--- enum
+-- The body of a comparison of an enum: its names are chosen, its one parameter is the first of them, and its block is that of an
+-- enum.
 pub record IsEnumBody (which : Comparison) (definition : DeriveInput) (variants : List Variant) (body : Body) : Type 0 where
   pub names : Names
   pub names_are : AreNames definition names
@@ -95,7 +95,7 @@ abbrev pub IsBodyFor : Comparison → DeriveInput → Shape → Body → Type 0
 IsBodyFor which definition (Struct shape) body = IsStructBody which definition shape.fields body
 IsBodyFor which definition (Enum variants) body = IsEnumBody which definition variants body
 
--- the body of a comparison of the definition: that of a struct or that of an enum
+-- The body of a comparison of the definition: that of a struct or that of an enum.
 abbrev pub IsBody : Comparison → DeriveInput → Body → Type 0
 IsBody which definition body = IsBodyFor which definition definition.shape body
 
@@ -205,8 +205,8 @@ pub record AreCloning (definition : DeriveInput) (names : CloneNames) (functions
   pub clone_is : IsFunction (codes "clone") (IsCloneBody definition names) first
   pub clone_from_is : IsFunction (codes "clone_from") (IsFromBody definition names) second
 
--- the functions of the impl of `Clone`: with true, where values are copied as a whole, `clone` alone, which is `* self`;
--- otherwise `clone` and `clone_from`
+-- The functions of the impl of `Clone`: with true, where values are copied as a whole, `clone` alone, which is `* self`;
+-- otherwise `clone` and `clone_from`.
 abbrev pub AreCloneFunctions : Bool → DeriveInput → CloneNames → List Function → Type 0
 AreCloneFunctions true definition names functions = AreCopying functions
 AreCloneFunctions false definition names functions = AreCloning definition names functions
@@ -253,7 +253,7 @@ Blocks (which ∷ traits) definition items =
 abbrev pub OneEach : DeriveInput → List Item → Type 0
 OneEach definition items = Blocks (listed_in_order definition) definition items
 
--- the scene of a definition and a table, where `self` is the first value and the parameter the second
+-- The scene of a definition and a table, where `self` is the first value and the parameter the second.
 abbrev pub scene_of : DeriveInput → Value → Value → Answers → Scene
 scene_of definition a b table = record { definition = definition; this = Some a; other = Some b; answers = table; field = None }
 

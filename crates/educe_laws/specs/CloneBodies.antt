@@ -87,7 +87,7 @@ pub record IsCloneArm (definition : DeriveInput) (names : CloneNames) (variant :
   pub form_is : IsCloneConstruct definition (bound names.sources) (Some variant.ident.text) variant.fields form
   pub block_is : arm.block ≡ form ∷ []
 
--- the block of `clone` for an enum: a match on `self`; without variants `:: core :: unreachable ! ( )`
+-- The block of `clone` for an enum: a match on `self`; without variants `:: core :: unreachable ! ( )`.
 abbrev pub IsCloneEnum : DeriveInput → CloneNames → List Variant → List Form → Type 0
 IsCloneEnum definition names [] block = block ≡ Unreachable ∷ []
 IsCloneEnum definition names (v ∷ vs) block = IsMatchOnSelf (IsCloneArm definition names) (v ∷ vs) block
@@ -97,7 +97,7 @@ abbrev pub IsCloneBlockFor : DeriveInput → CloneNames → Shape → List Form 
 IsCloneBlockFor definition names (Struct shape) block = IsCloneStruct definition shape block
 IsCloneBlockFor definition names (Enum variants) block = IsCloneEnum definition names variants block
 
--- the body of `clone`: it has no parameters, and its block is that of the struct or of the variants
+-- The body of `clone`: it has no parameters, and its block is that of the struct or of the variants.
 pub record IsCloneBody (definition : DeriveInput) (names : CloneNames) (body : Body) : Type 0 where
   pub params_are : body.params ≡ []
   pub block_is : IsCloneBlockFor definition names definition.shape body.block
@@ -131,12 +131,12 @@ pub record IsDiscard (source : List ℕ) (block : List Form) : Type 0 where
   pub name_is : IsName source name
   pub block_is : block ≡ Discard name ∷ []
 
--- one step for each field, in written order; without fields `let _ = source ;`
+-- One step for each field, in written order; without fields `let _ = source ;`.
 abbrev pub AreAssignments : Bool → List ℕ → List Kept → List Form → Type 0
 AreAssignments copied source [] block = IsDiscard source block
 AreAssignments copied source (k ∷ ks) block = AllZip (IsAssignment copied source) (k ∷ ks) block
 
--- the block of `clone_from` for a struct: one step for each field, in written order
+-- The block of `clone_from` for a struct: one step for each field, in written order.
 pub record IsFromStruct (definition : DeriveInput) (names : CloneNames) (shape : FieldShape) (block : List Form) : Type 0 where
   pub copied : Bool
   pub copied_are : AreCopied definition copied
@@ -177,7 +177,7 @@ pub record IsFromArm (definition : DeriveInput) (names : CloneNames) (variant : 
   pub whole_is : IsWhole names.source whole
   pub block_is : arm.block ≡ IfLet inner value steps (Some (whole ∷ [])) ∷ []
 
--- the block of `clone_from` for an enum: a match on `self`; without variants `let _ = source ;`
+-- The block of `clone_from` for an enum: a match on `self`; without variants `let _ = source ;`.
 abbrev pub IsFromEnum : DeriveInput → CloneNames → List Variant → List Form → Type 0
 IsFromEnum definition names [] block = IsDiscard names.source block
 IsFromEnum definition names (v ∷ vs) block = IsMatchOnSelf (IsFromArm definition names) (v ∷ vs) block

@@ -78,7 +78,7 @@ comparison PartialEq = Ne
 comparison PartialOrd = PartialCmp
 comparison Ord = Cmp
 
--- what is called on a field: this function of the core library, or what the method names
+-- What is called on a field: this function of the core library, or what the method names.
 abbrev pub asked : BuiltIn → How → Callee
 asked function plainly = as_callee function
 asked function (by_method path) = callee_of path
@@ -104,9 +104,9 @@ abbrev pub said_in_some : Option Answer → Option Known
 said_in_some (Some (AnswerOrder o)) = Some (PartialOrder (Some o))
 said_in_some answer = None
 
--- what a field says by an answer: to `PartialEq` the opposite of what `ne` answers, or what its method answers; to `Ord` the
+-- What a field says by an answer: to `PartialEq` the opposite of what `ne` answers, or what its method answers; to `Ord` the
 -- order; to `PartialOrd` the partial order, or in `Some` the order that a method of `Ord` answers; an answer of another kind says
--- nothing
+-- nothing.
 abbrev pub said : Comparison → How → Option Answer → Option Known
 said PartialEq plainly answer = said_truth true answer
 said PartialEq (by_method path) answer = said_truth false answer
@@ -116,7 +116,7 @@ said PartialOrd (by_method path) answer = said_partial_order answer
 said PartialOrd (by_order path) answer = said_in_some answer
 said Ord how answer = said_order answer
 
--- what a field says to a trait by what the table answers for the call on it, if it says something
+-- What a field says to a trait by what the table answers for the call on it, if it says something.
 abbrev pub says : Comparison → Answers → Compared → Option Known
 says which table c = said which c.kept.how (answer_of table (asked (comparison which) c.kept.how) (Some c.first) (Some c.second))
 
@@ -130,7 +130,7 @@ pub record Covers (which : Comparison) (table : Answers) (definition : DeriveInp
 
 -- ---- what a derived function means
 
--- what two values say that no field tells apart: `true`, Equal, or Equal in `Some`
+-- What two values say that no field tells apart: `true`, Equal, or Equal in `Some`.
 abbrev pub neutral : Comparison → Known
 neutral PartialEq = Truth true
 neutral PartialOrd = PartialOrder (Some Equal)
@@ -140,7 +140,7 @@ neutral Ord = Order Equal
 abbrev pub word_of : Comparison → Answers → Compared → Known
 word_of which table c = unwrap_or (says which table c) (neutral which)
 
--- what is said means that two values differ: `false`, or an order that is not Equal; `None` counts as different
+-- What is said means that two values differ: `false`, or an order that is not Equal; `None` counts as different.
 abbrev pub is_apart : Known → Bool
 is_apart (Truth b) = not b
 is_apart (Order Less) = true
@@ -175,12 +175,12 @@ abbrev pub answered : Comparison → Answers → Option Compared → Known
 answered which table None = neutral which
 answered which table (Some c) = word_of which table c
 
--- the order, or partial order, of two values of one case: what the deciding field says, and without one what two values say that
--- no field tells apart; nothing is sorted here
+-- The order, or partial order, of two values of one case: what the deciding field says, and without one what two values say that
+-- no field tells apart; nothing is sorted here.
 abbrev pub order : Comparison → Answers → List Compared → Known
 order which table cs = answered which table (deciding which table cs)
 
--- the order of two discriminants, and Equal where one is missing
+-- The order of two discriminants, and Equal where one is missing.
 abbrev pub number_order : Option ℤ → Option ℤ → Ordering
 number_order None n = Equal
 number_order (Some m) None = Equal
@@ -198,7 +198,7 @@ discriminants_first which Less answer = as_answer which Less
 discriminants_first which Equal answer = answer
 discriminants_first which Greater answer = as_answer which Greater
 
--- the order of the discriminants of two values if they differ, otherwise that of their fields; a struct has no discriminants
+-- The order of the discriminants of two values if they differ, otherwise that of their fields; a struct has no discriminants.
 abbrev pub whole_order : Comparison → Answers → DeriveInput → Value → Value → Known
 whole_order which table definition a b =
     discriminants_first which (number_order (discriminant_of table definition a) (discriminant_of table definition b)) (order which table (compared which definition a b))

@@ -117,8 +117,8 @@ choice_by definition (Some value) shape = Some (by_value value)
 choice_by definition None (Struct shape) = Some (of_struct shape)
 choice_by definition None (Enum variants) = chosen_variant definition variants
 
--- what `default` makes, if it is determined: the type's own value if it has one; otherwise the struct, or the variant that is
--- chosen
+-- What `default` makes, if it is determined: the type's own value if it has one; otherwise the struct, or the variant that is
+-- chosen.
 abbrev pub choice_of : DeriveInput → Option Choice
 choice_of definition = choice_by definition (type_values definition).expression definition.shape
 

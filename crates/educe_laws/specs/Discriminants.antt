@@ -40,7 +40,7 @@ abbrev pub base_number : Answers → Option Expr → Option ℤ
 base_number table None = Some (pos 0)
 base_number table (Some value) = number_of table value
 
--- the discriminant of a variant: the number of the nearest expression at it or before it, plus the distance to that one
+-- The discriminant of a variant: the number of the nearest expression at it or before it, plus the distance to that one.
 abbrev pub discriminant : Answers → Counted → Option ℤ
 discriminant table c = option_map (λ n. n +ℤ pos c.distance) (base_number table c.written)
 
@@ -62,7 +62,7 @@ pub record HaveNumbers (table : Answers) (definition : DeriveInput) (numbers : L
   pub are : discriminants table definition ≡ map Some numbers
   pub in_range : (ty : DiscriminantType) → IsDiscriminantType definition.attrs ty → AllByRecursion (IsInRange ty) numbers
 
--- by the table each variant has a discriminant, all are numbers of the discriminants' type, and no two of them are the same
+-- By the table each variant has a discriminant, all are numbers of the discriminants' type, and no two of them are the same.
 pub record HaveDiscriminants (table : Answers) (definition : DeriveInput) : Type 0 where
   pub numbers : List ℤ
   pub have : HaveNumbers table definition numbers

@@ -34,7 +34,7 @@ reuse_of rank place = record { kind = ReuseARank rank; span = place; words = [] 
 abbrev pub places : DeriveInput → List (List Attribute)
 places definition = definition.attrs ∷ variant_attributes definition ++ field_attributes definition
 
--- why the `educe` lists of one of the places are rejected, whatever the trait
+-- Why the `educe` lists of one of the places are rejected, whatever the trait.
 pub record IsListsCause (definition : DeriveInput) (e : EduceError) : Type 0 where
   pub attributes : List Attribute
   pub stand : IsAmong attributes (places definition)
@@ -47,7 +47,7 @@ pub record IsReuse (kept : List Kept) (e : EduceError) : Type 0 where
   pub reuses : ReusesARank kept rank place
   pub is : e ≡ reuse_of rank place
 
--- the trait is an order, two of these fields that take part have one rank, and no field of them is rejected for it
+-- The trait is an order, two of these fields that take part have one rank, and no field of them is rejected for it.
 pub record IsRankCause (which : Trait) (definition : DeriveInput) (fields : List Field) (e : EduceError) : Type 0 where
   pub orders : IsTrue (is_order which)
   pub read : HaveNoCauses which (field_row which) (listed definition) fields
@@ -81,7 +81,7 @@ abbrev pub OfShape : Trait → DeriveInput → Shape → Cause
 OfShape which definition (Struct shape) = OfCase which definition shape.fields
 OfShape which definition (Enum variants) = λ e. (variant : Variant) × IsAmong variant variants × OfVariant which definition variant e
 
--- why a trait is rejected: field by field, or by the causes of `Default` or `Debug`
+-- Why a trait is rejected: field by field, or by the causes of `Default` or `Debug`.
 abbrev pub IsTraitCause : DeriveInput → Trait → Cause
 IsTraitCause definition trait.Clone = IsFieldwiseCause trait.Clone definition
 IsTraitCause definition trait.Copy = IsFieldwiseCause trait.Copy definition
@@ -93,7 +93,7 @@ IsTraitCause definition trait.Hash = IsFieldwiseCause trait.Hash definition
 IsTraitCause definition trait.Debug = IsShownCause definition
 IsTraitCause definition trait.Default = IsDefaultCause definition
 
--- the causes of the lists and of each trait, as those of the last phase are made of them
+-- The causes of the lists and of each trait, as those of the last phase are made of them.
 abbrev pub handling : DeriveInput → Handling
 handling definition = record { InLists = IsListsCause definition; Own = IsTraitCause definition }
 

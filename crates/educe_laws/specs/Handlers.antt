@@ -58,8 +58,8 @@ inherited_from noted traits = flat_map (λ which. noted_of which noted) traits
 abbrev pub AreUncaused : DeriveInput → List Trait → Type 0
 AreUncaused definition done = AllByRecursion (λ which. is_listed (listed definition) which ≡ true → NoCause (OfHandler (handling definition) which)) done
 
--- the definition is ready for the handler of this trait: it is the reading of its tokens, with distinct names; it lists these
--- traits, this one among them; and the handlers before this one have no cause, and the context holds what they noted
+-- The definition is ready for the handler of this trait: it is the reading of its tokens, with distinct names; it lists these
+-- traits, this one among them; and the handlers before this one have no cause, and the context holds what they noted.
 pub record IsReady (which : Trait) (definition : DeriveInput) (traits : List Trait) (noted : List Noted) : Type 0 where
   pub is_read : IsDefinition definition.tokens definition
   pub traits_are : traits ≡ listed definition

@@ -39,8 +39,8 @@ plain_params = codes "state" ∷ codes "H" ∷ []
 abbrev pub chosen_params : HashNames → List (List ℕ)
 chosen_params names = names.state ∷ names.hasher ∷ []
 
--- the names `state` and `H` are chosen in this order, and then the prefix `_v_` is chosen so that neither a word of the
--- definition nor a name begins with it
+-- The names `state` and `H` are chosen in this order, and then the prefix `_v_` is chosen so that neither a word of the
+-- definition nor a name begins with it.
 pub record AreHashNames (definition : DeriveInput) (names : HashNames) : Type 0 where
   pub are : AreChosenFor definition plain_params (chosen_params names)
   pub prefix_is : IsPrefix (are.words ++ chosen_params names) (codes "_v_") names.prefix
@@ -117,8 +117,8 @@ abbrev pub IsHashForms : DeriveInput → HashNames → Shape → List Form → T
 IsHashForms definition names (Struct shape) block = IsHashStructBlock definition names shape.fields block
 IsHashForms definition names (Enum variants) block = IsHashEnumBlock definition names variants block
 
--- the body of `hash`: its names are chosen, its two parameters are the hasher and the type of that, and its block is that of the
--- struct or of the variants
+-- The body of `hash`: its names are chosen, its two parameters are the hasher and the type of that, and its block is that of the
+-- struct or of the variants.
 pub record IsHashBody (definition : DeriveInput) (body : Body) : Type 0 where
   pub names : HashNames
   pub names_are : AreHashNames definition names

@@ -54,8 +54,8 @@ pub record AreAdded (which : Trait) (definition : DeriveInput) (inherited own al
 
 -- ---- inheritance
 
--- the traits whose added predicates an impl inherits, where they are listed: `PartialOrd` and `Eq` from `PartialEq`, `Ord` from
--- `Eq` and `PartialOrd`, `Copy` from `Clone`
+-- The traits whose added predicates an impl inherits, where they are listed: `PartialOrd` and `Eq` from `PartialEq`, `Ord` from
+-- `Eq` and `PartialOrd`, `Copy` from `Clone`.
 abbrev pub prerequisites : Trait → List Trait
 prerequisites trait.Copy = trait.Clone ∷ []
 prerequisites trait.Eq = trait.PartialEq ∷ []
@@ -64,7 +64,7 @@ prerequisites trait.Ord = trait.Eq ∷ trait.PartialOrd ∷ []
 prerequisites _ = []
 
 mutual
-  -- the predicates that the impl of a trait adds, by their tokens
+  -- The predicates that the impl of a trait adds, by their tokens.
   pub data AreOf (definition : DeriveInput) : Trait → List Key → Type 0 where
     added : (which : Trait) (inherited own : List Key) {all : List Key} → AreInherited definition (prerequisites which) inherited
         → AreAdded which definition inherited own all → AreOf definition which all

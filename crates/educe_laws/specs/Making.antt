@@ -155,7 +155,7 @@ pub record IsConstruct (definition : DeriveInput) (name : Option (List ℕ)) (sh
   pub is : x ≡ Construct variant shape.form inits
   pub inits_are : AllZip (IsInit definition) shape.fields inits
 
--- the form makes what is chosen: the tokens of the type's own value, or a struct or a variant with its initializers
+-- The form makes what is chosen: the tokens of the type's own value, or a struct or a variant with its initializers.
 abbrev pub IsMaking : DeriveInput → Choice → Form → Type 0
 IsMaking definition (by_value said) x = IsPasted (adjusted said.written None) x
 IsMaking definition (of_struct shape) x = IsConstruct definition None shape x
@@ -184,7 +184,7 @@ has_new definition = unwrap_or (type_values definition).new false
 abbrev pub self_tokens : List Lexeme
 self_tokens = quoted (codes "< Self as :: core :: default :: Default > :: default ( )")
 
--- the body of `new`: `< Self as :: core :: default :: Default > :: default ( )`
+-- The body of `new`: `< Self as :: core :: default :: Default > :: default ( )`.
 abbrev pub IsNewBody : Body → Type 0
 IsNewBody body = HasOneForm (IsPasted self_tokens) body
 

@@ -22,7 +22,7 @@ Rises rank (x ∷ xs) = AllByRecursion (λ y. rank x <ℤ rank y) xs × Rises ra
 abbrev pub AreRanksApart : {X : Type 0} → (X → ℤ) → List X → Type 0
 AreRanksApart rank xs = IsDistinct int_eq (map rank xs)
 
--- of fields sorted by rank: no two neighbours have one rank
+-- Of fields sorted by rank: no two neighbours have one rank.
 abbrev pub NeighboursDiffer : {X : Type 0} → (X → ℤ) → List X → Type 0
 NeighboursDiffer {X} rank xs = (k : ℕ) (d : X) → k + 1 < length xs → rank (slice_index_or xs k d) ≢ rank (slice_index_or xs (k + 1) d)
 

@@ -33,7 +33,7 @@ is_fieldwise trait.Ord = true
 is_fieldwise trait.Hash = true
 is_fieldwise _ = false
 
--- the functions of the trait read fields, in a packed struct by copies: all but those of `Copy`, `Eq` and `Default`
+-- The functions of the trait read fields, in a packed struct by copies: all but those of `Copy`, `Eq` and `Default`.
 abbrev pub reads_fields : Trait → Bool
 reads_fields trait.Copy = false
 reads_fields trait.Eq = false

@@ -9,8 +9,8 @@ use Rattle.educe_laws.specs.Listed.{listed}
 use Rattle.educe_laws.specs.Settings.{AreSaid}
 use Rattle.educe_laws.specs.Shown.{AreShownSaid}
 
--- the settings of a trait are what the attributes say of it: `AreDefaultsSaid` of `Default`, `AreShownSaid` of `Debug`, and
--- `AreSaid` of any other
+-- The settings of a trait are what the attributes say of it: `AreDefaultsSaid` of `Default`, `AreShownSaid` of `Debug`, and
+-- `AreSaid` of any other.
 abbrev pub AreSaidOf : Trait → DeriveInput → Type 0
 AreSaidOf trait.Clone definition = AreSaid trait.Clone definition
 AreSaidOf trait.Copy definition = AreSaid trait.Copy definition

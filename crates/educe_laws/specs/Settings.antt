@@ -28,15 +28,15 @@ use Rattle.educe_laws.specs.Rows.{type_row, variant_row, field_row}
 
 -- ---- settings
 
--- the settings of the type for a trait
+-- The settings of the type for a trait.
 abbrev pub type_settings : Trait → DeriveInput → Values
 type_settings which definition = place_settings which (type_row which definition) (listed definition) definition.attrs
 
--- the settings of a variant for a trait
+-- The settings of a variant for a trait.
 abbrev pub variant_settings : Trait → DeriveInput → Variant → Values
 variant_settings which definition variant = place_settings which (variant_row which) (listed definition) variant.attrs
 
--- the settings of a field for a trait; none if its attributes are rejected
+-- The settings of a field for a trait; none if its attributes are rejected.
 abbrev pub settings_of : Trait → DeriveInput → Field → FieldSettings
 settings_of which definition = settings_at which (field_row which) (listed definition)
 
@@ -75,7 +75,7 @@ pub record AreFieldSettings (which : Trait) (row : Row) (definition : DeriveInpu
 abbrev pub keeps : FieldSettings → Bool
 keeps settings = not (unwrap_or settings.values.ignore false)
 
--- the rank at a place where none is set: -2^63 plus the position among the fields of the case
+-- The rank at a place where none is set: -2^63 plus the position among the fields of the case.
 abbrev pub default_rank : ℕ → ℤ
 default_rank place = pos place -ℤ pos (2 ^ 63)
 
@@ -106,7 +106,7 @@ how_by settings = how_with settings.method_returns_ordering settings.values.meth
 
 -- ---- fields
 
--- the field takes part in what the trait does: its settings do not ignore it
+-- The field takes part in what the trait does: its settings do not ignore it.
 abbrev pub is_kept : Trait → DeriveInput → Field → Bool
 is_kept which definition field = keeps (settings_of which definition field)
 

@@ -36,8 +36,8 @@ pub record IsReference (copied : Bool) (base : List ℕ) (place : ℕ) (field : 
   pub nowhere : base_name.span ≡ no_place
   pub key_is : key.text ≡ key_of place field
 
--- the local variable of the field at a place: its name is the prefix, and behind it the field's key without `r#`; it has the span
--- 0 to 0
+-- The local variable of the field at a place: its name is the prefix, and behind it the field's key without `r#`; it has the span
+-- 0 to 0.
 pub record IsVariable (prefix : List ℕ) (place : ℕ) (field : Field) (x : Form) : Type 0 where
   pub name : Ident
   pub is : x ≡ Local name

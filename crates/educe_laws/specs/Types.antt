@@ -63,8 +63,8 @@ checked_types definition = checked_with (is_listed (listed definition) trait.Par
 
 -- ---- the types of each trait
 
--- no field is read, and these types have to have the trait: the checked ones for `Eq`, those without a value for `Default`, those
--- of all fields for `Copy`
+-- No field is read, and these types have to have the trait: the checked ones for `Eq`, those without a value for `Default`, those
+-- of all fields for `Copy`.
 pub record AreUnread (types read touched : List Ty) : Type 0 where
   pub none_read : read ≡ []
   pub touched_are : touched ≡ types

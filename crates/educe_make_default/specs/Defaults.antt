@@ -78,7 +78,7 @@ pub record AreTwice (marks : List Values) (span : Span) : Type 0 where
   pub later_flag : later.flag ≡ true
   pub span_is : span ≡ later.span
 
--- the position of the only variant, or of the only mark
+-- The position of the only variant, or of the only mark.
 pub data IsOnly (marks : List Values) : ℕ → Type 0 where
   alone : is_one marks ≡ true → IsOnly marks 0
   marked : (place : ℕ) → is_one marks ≡ false → places_from 0 marks ≡ place ∷ [] → IsOnly marks place

@@ -23,7 +23,7 @@ is_taken how words text = list_any (λ word. clash how word text) words
 abbrev pub is_held : List (List ℕ) → List ℕ → Bool
 is_held words text = is_taken Whole words text
 
--- behind so many `_` the name clashes with none of the words, and behind each smaller number with one of them
+-- Behind so many `_` the name clashes with none of the words, and behind each smaller number with one of them.
 pub record IsFewest (how : Clash) (words : List (List ℕ)) (name : List ℕ) (count : ℕ) : Type 0 where
   pub free : is_taken how words (underscored count name) ≡ false
   pub least : (fewer : ℕ) → fewer < count → is_taken how words (underscored fewer name) ≡ true

@@ -8,7 +8,7 @@ use Rattle.educe_names.specs.Words.{HasWord}
 abbrev pub AreWordsOf : List Token → List (List ℕ) → Type 0
 AreWordsOf tokens words = (word : List ℕ) → IsTrue (is_held words word) ↔ HasWord tokens word
 
--- the words of the tokens are among those that are held
+-- The words of the tokens are among those that are held.
 abbrev pub HoldWordsOf : List Token → List (List ℕ) → Type 0
 HoldWordsOf tokens words = (word : List ℕ) → HasWord tokens word → IsTrue (is_held words word)
 

@@ -17,15 +17,15 @@ pub record BeginsWithRun (word text : List ℕ) : Type 0 where
   pub continues : IsTrue (list_all is_xid_continue word)
   pub ends : IsTrue (ends_word_before rest)
 
--- the word is a maximal run of XID_Continue in the text
+-- The word is a maximal run of XID_Continue in the text.
 pub data IsRunOf : List ℕ → List ℕ → Type 0 where
   -- At the front.
   front : (word text : List ℕ) → BeginsWithRun word text → IsRunOf word text
   -- Behind a character that doesn't go on with a word.
   behind : (word before text : List ℕ) (c : ℕ) → is_xid_continue c ≡ false → BeginsWithRun word text → IsRunOf word (before ++ c ∷ text)
 
--- the word is one of the token's: a name without `r#`, a lifetime without `'`, or a run in the value of a string or of
--- documentation
+-- The word is one of the token's: a name without `r#`, a lifetime without `'`, or a run in the value of a string or of
+-- documentation.
 pub data IsWordOf : List ℕ → Lexeme → Type 0 where
   -- A name without `r#`.
   ident : (text : List ℕ) → IsWordOf (unraw text) (record { kind = kind.Ident; spelling = text })
@@ -39,6 +39,6 @@ abbrev pub HasWord : List Token → List ℕ → Type 0
 HasWord [] word = ⊥
 HasWord (t ∷ tokens) word = IsWordOf word (lexeme_of t) ⊎ HasWord tokens word
 
--- the parts of a text between characters that are not XID_Continue
+-- The parts of a text between characters that are not XID_Continue.
 abbrev pub parts : List ℕ → List (List ℕ)
 parts text = slice_split (λ c. not (is_xid_continue c)) text

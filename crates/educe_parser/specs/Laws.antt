@@ -154,6 +154,6 @@ lawful_parts = record {
 abbrev pub TypeLaw : Type 0
 TypeLaw = (b c : ℕ) (ts us : Tokens) (x y : Ty) → AreEqualAside ts us → Reads b any_type ts x → Reads c any_type us y → AlikeTypes x y
 
--- the law of types holds
+-- The law of types holds.
 pub lawful_types : TypeLaw
 lawful_types = alike.types_alike

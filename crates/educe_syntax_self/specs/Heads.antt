@@ -63,7 +63,7 @@ pub record Adds (found : List Lexeme) (old new : Tokens) : Type 0 where
 
 -- ---- tests
 
--- the token is in the set that is requested
+-- The token is in the set that is requested.
 abbrev pub is_a : Terminal → Lexeme → Bool
 is_a asked found = token_in (set_of asked) found.kind found.spelling
 

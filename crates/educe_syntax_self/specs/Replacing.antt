@@ -89,8 +89,8 @@ FirstOf new all budget g true stays before tokens behind x out y = (out ≡ new)
 FirstOf new all budget g false stays before tokens behind x out y = stays before tokens behind x out y
 
 module _ (new : Tokens) (parts : Parts) (changes : Changes) where
-  -- by the rule, with a budget, these tokens, which are this value, become those, which are that value: each path that begins
-  -- with `Self` and is replaced begins with the head instead, and everything else is kept
+  -- By the rule, with a budget, these tokens, which are this value, become those, which are that value: each path that begins
+  -- with `Self` and is replaced begins with the head instead, and everything else is kept.
   unfoldable pub Replaces : ℕ → {A : Type 0} → Rule A → Change A
   Replaces budget (token asked) before tokens behind x out y = (tokens ≡ x.token ∷ []) × (out ≡ tokens) × (y ≡ x)
   Replaces budget documentation before tokens behind x out y = (tokens ≡ x.token ∷ []) × (out ≡ tokens) × (y ≡ x)

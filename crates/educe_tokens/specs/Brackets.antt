@@ -7,7 +7,7 @@ use Rattle.educe_tokens_pieces.specs.declared.kind.TokenKind.TheVariants.{Ident,
 use Rattle.educe_tokens.specs.declared.brackets.TheConstants.{NESTING}
 use Rattle.educe_tokens.specs.Lexes.{Lexeme}
 
--- two brackets have one form
+-- Two brackets have one form.
 abbrev pub same_bracket : Bracket → Bracket → Bool
 same_bracket Round b = elim b [ Round ↦ true | Square ↦ false | Curly ↦ false ]
 same_bracket Square b = elim b [ Round ↦ false | Square ↦ true | Curly ↦ false ]
@@ -45,11 +45,11 @@ abbrev pub nests : ℕ → ℕ → List TokenKind → Bool
 nests limit depth [] = true
 nests limit depth (kind ∷ more) = nat_le (depth_after depth kind) limit && nests limit (depth_after depth kind) more
 
--- the kinds of tokens
+-- The kinds of tokens.
 abbrev pub kinds : List Lexeme → List TokenKind
 kinds found = map (λ lexeme. lexeme.kind) found
 
--- brackets match: each closes the innermost open one, and none stays open
+-- Brackets match: each closes the innermost open one, and none stays open.
 abbrev pub IsBalanced : List Lexeme → Type 0
 IsBalanced found = IsTrue (closes [] (kinds found))
 

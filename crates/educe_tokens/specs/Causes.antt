@@ -63,7 +63,7 @@ pub data IsLexicalCause (text : List ℕ) : EduceError → Type 0 where
   -- Out of memory may end any call.
   memory : IsLexicalCause text (placeless Alloc)
 
--- of a predicate on errors: it holds of some error that is not out of memory
+-- Of a predicate on errors: it holds of some error that is not out of memory.
 pub record HasCause (IsCause : EduceError → Type 0) : Type 0 where
   pub error : EduceError
   pub is_told : error.kind ≢ Alloc

@@ -17,8 +17,8 @@ copied_kind (Start b) more = Start b
 copied_kind (Stop b) more = Stop b
 copied_kind Doc more = Doc
 
--- the tokens as they are copied to another place: a punctuation character stays joint only before another one with which it opens
--- no comment, and all else is kept
+-- The tokens as they are copied to another place: a punctuation character stays joint only before another one with which it opens
+-- no comment, and all else is kept.
 abbrev pub copied : List Lexeme → List Lexeme
 copied [] = []
 copied (x ∷ more) = record { kind = copied_kind x.kind (kinds more); spelling = x.spelling } ∷ copied more

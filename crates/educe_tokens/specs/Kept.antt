@@ -14,7 +14,7 @@ bytes_of (Part source start end) = slice_range (string_bytes source.value) start
 abbrev pub characters_of : Text → List ℕ
 characters_of text = chars (bytes_of text)
 
--- the bytes are UTF-8: a short text has at most 15 of them, and a part begins and ends where characters do, before 4 GiB
+-- The bytes are UTF-8: a short text has at most 15 of them, and a part begins and ends where characters do, before 4 GiB.
 abbrev pub IsCut : Text → Type 0
 IsCut (Short bytes len) = (len ≤ 15) × IsUtf8 (take len bytes)
 IsCut (Part source start end) = (start ≤ end) × IsCharBoundary (string_bytes source.value) start × IsCharBoundary (string_bytes source.value) end × (end < 2 ^ 32)

@@ -12,7 +12,7 @@ pub record Lexeme : Type 0 where
   pub kind : TokenKind
   pub spelling : List ℕ
 
--- a token without its span
+-- A token without its span.
 abbrev pub lexeme_of : Token → Lexeme
 lexeme_of t = record { kind = t.kind; spelling = t.spelling }
 
@@ -20,7 +20,7 @@ lexeme_of t = record { kind = t.kind; spelling = t.spelling }
 abbrev pub lexemes : List Token → List Lexeme
 lexemes tokens = map lexeme_of tokens
 
--- the piece is a token: neither a blank nor a comment
+-- The piece is a token: neither a blank nor a comment.
 abbrev pub is_token : Piece → Bool
 is_token p = elim p.kind [ Blank ↦ false | Comment ↦ false | TokenPiece kind ↦ true | Uncarried kind ↦ false ]
 
@@ -28,11 +28,11 @@ is_token p = elim p.kind [ Blank ↦ false | Comment ↦ false | TokenPiece kind
 abbrev pub is_carried : Piece → Bool
 is_carried p = elim p.kind [ Blank ↦ true | Comment ↦ true | TokenPiece kind ↦ true | Uncarried kind ↦ false ]
 
--- none of the pieces is an unsupported literal
+-- None of the pieces is an unsupported literal.
 abbrev pub are_carried : List Piece → Bool
 are_carried ps = list_all is_carried ps
 
--- the piece that a token is
+-- The piece that a token is.
 abbrev pub piece_of : Lexeme → Piece
 piece_of lexeme = record { kind = TokenPiece lexeme.kind; spelling = lexeme.spelling }
 

@@ -8,8 +8,8 @@ use Rattle.educe_tokens.specs.declared.error.Kind.TheVariants.{Syntax, TooDeep, 
 abbrev pub educe_format : List (List ℕ)
 educe_format = codes "educe" ∷ codes "#[educe(Trait1, Trait2, ..., TraitN)]" ∷ []
 
--- these are the words that the message of the kind cites: none, exactly one, those of `educe_format`, or at least one for the
--- form of an attribute
+-- These are the words that the message of the kind cites: none, exactly one, those of `educe_format`, or at least one for the
+-- form of an attribute.
 abbrev pub HasWords : Kind → List (List ℕ) → Type 0
 HasWords Syntax words = words ≡ []
 HasWords TooDeep words = words ≡ []
@@ -51,7 +51,7 @@ lines_below (line ∷ lines) = codes "\n    " ++ (line ++ lines_below lines)
 abbrev pub available_traits : List ℕ
 available_traits = lines_below (codes "Debug" ∷ codes "Clone" ∷ codes "Copy" ∷ codes "PartialEq" ∷ codes "Eq" ∷ codes "PartialOrd" ∷ codes "Ord" ∷ codes "Hash" ∷ codes "Default" ∷ [])
 
--- the first word between two texts
+-- The first word between two texts.
 abbrev pub around : List ℕ → List (List ℕ) → List ℕ → List ℕ
 around before words behind = before ++ (encode_utf8_all (first_word words) ++ behind)
 

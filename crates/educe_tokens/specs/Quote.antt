@@ -38,7 +38,7 @@ is_mark (c ∷ []) = is_bracket c || is_punct c
 is_mark (c ∷ d ∷ []) = is_joint_pair c d
 is_mark (c ∷ d ∷ e ∷ cs) = false
 
--- an ASCII identifier, a bracket, a punctuation character, or one of `::`, `->`, `=>` and `..`
+-- An ASCII identifier, a bracket, a punctuation character, or one of `::`, `->`, `=>` and `..`.
 abbrev pub is_template_word : List ℕ → Bool
 is_template_word word = is_ascii_name word || is_mark word
 
@@ -46,7 +46,7 @@ is_template_word word = is_ascii_name word || is_mark word
 abbrev pub template_words : List ℕ → List (List ℕ)
 template_words text = slice_split (λ c. c == 32) text
 
--- a text of words with one space between any two
+-- A text of words with one space between any two.
 abbrev pub is_template : List ℕ → Bool
 is_template text = list_all is_template_word (template_words text)
 

@@ -8,7 +8,7 @@ use Rattle.educe_tokens.specs.Lexes.{Lexeme, lexeme_of}
 abbrev pub lexeme_aside : Token → Lexeme
 lexeme_aside t = unjoin (lexeme_of t)
 
--- the tokens of a list without spans and jointness
+-- The tokens of a list without spans and jointness.
 abbrev pub lexemes_aside : List Token → List Lexeme
 lexemes_aside tokens = map lexeme_aside tokens
 

@@ -17,7 +17,7 @@ use Rattle.educe_tokens.specs.Lexes.{lexemes, Lexes}
 use Rattle.educe_tokens.specs.Brackets.{open_after, IsBalanced, IsShallow}
 use Rattle.educe_tokens.specs.Refusals.{placeless, syntax_at, too_deep_at, not_carried_at}
 
--- what a piece adds to the tokens: a blank or a comment adds nothing, and an unsupported literal is never added
+-- What a piece adds to the tokens: a blank or a comment adds nothing, and an unsupported literal is never added.
 abbrev pub Adds : PieceKind → List ℕ → Span → List Token → List Token → Type 0
 Adds Blank spelling span old new = new ≡ old
 Adds Comment spelling span old new = new ≡ old

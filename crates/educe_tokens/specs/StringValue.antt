@@ -19,8 +19,8 @@ pub data IsString : TokenKind → Type 0 where
   str : IsString (Literal literal.Str)
   doc : IsString Doc
 
--- the characters of a token's value: what the parts of a string literal stand for, or the text between the delimiters of a raw
--- string or of documentation
+-- The characters of a token's value: what the parts of a string literal stand for, or the text between the delimiters of a raw
+-- string or of documentation.
 pub data IsStringValue : Lexeme → List ℕ → Type 0 where
   -- The value of a quoted string: what its parts stand for.
   parts : (text : List ℕ) (found : List Part) → IsBody Str text found

@@ -55,7 +55,7 @@ may_join (Start b) more = true
 may_join (Stop b) more = true
 may_join Doc more = false
 
--- no token is documentation, and each joint one is followed by a punctuation character with which it opens no comment
+-- No token is documentation, and each joint one is followed by a punctuation character with which it opens no comment.
 abbrev pub joins_well : List TokenKind → Bool
 joins_well [] = true
 joins_well (kind ∷ more) = may_join kind more && joins_well more
@@ -78,7 +78,7 @@ have_no_doc found = list_all is_no_doc found
 abbrev pub is_well_formed : List Lexeme → Bool
 is_well_formed found = closes [] (kinds found) && joins_well (kinds found)
 
--- brackets match, and the list joins well
+-- Brackets match, and the list joins well.
 abbrev pub IsWellFormed : List Lexeme → Type 0
 IsWellFormed found = IsTrue (is_well_formed found)
 
@@ -93,7 +93,7 @@ abbrev pub text_behind : Bool → List Lexeme → List ℕ
 text_behind joint [] = []
 text_behind joint (x ∷ xs) = cond joint [] (32 ∷ []) ++ (x.spelling ++ text_behind (joins_next x.kind) xs)
 
--- the spellings of tokens, with one space between two of them and none behind a joint one
+-- The spellings of tokens, with one space between two of them and none behind a joint one.
 abbrev pub text_of : List Lexeme → List ℕ
 text_of found = text_behind true found
 

@@ -13,7 +13,7 @@ is_only c [] = false
 is_only c (d ∷ []) = d == c
 is_only c (d ∷ e ∷ cs) = false
 
--- the text has no character
+-- The text has no character.
 abbrev pub is_empty : List ℕ → Bool
 is_empty [] = true
 is_empty (c ∷ cs) = false

@@ -34,7 +34,7 @@ line_at cs = cond (opens_inner cs) None (Some (comment_kind (opens_line_doc cs),
 abbrev pub block_at : List ℕ → Option (PieceKind × ℕ)
 block_at cs = cond (opens_inner cs) None (of_kind (comment_kind (opens_block_doc cs)) (plus 2 (closing_len 0 cs)))
 
--- the comment or documentation at the front, with its kind and length; what may follow it is not asked
+-- The comment or documentation at the front, with its kind and length; what may follow it is not asked.
 abbrev pub comment_at : List ℕ → Option (PieceKind × ℕ)
 comment_at [] = None
 comment_at (c ∷ []) = None

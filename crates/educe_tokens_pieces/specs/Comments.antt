@@ -41,11 +41,11 @@ opens_inner cs = begins (λ c. c == 33) cs
 abbrev pub is_line_doc : List ℕ → Bool
 is_line_doc cs = is_line cs && opens_line_doc (drop 2 cs)
 
--- documentation of a block
+-- Documentation of a block.
 abbrev pub is_block_doc : List ℕ → Bool
 is_block_doc cs = is_block cs && opens_block_doc (drop 2 cs)
 
--- documentation of either kind
+-- Documentation of either kind.
 abbrev pub is_doc : List ℕ → Bool
 is_doc cs = is_line_doc cs || is_block_doc cs
 
@@ -53,11 +53,11 @@ is_doc cs = is_line_doc cs || is_block_doc cs
 abbrev pub is_line_comment : List ℕ → Bool
 is_line_comment cs = is_line cs && not (opens_line_doc (drop 2 cs) || opens_inner (drop 2 cs))
 
--- a comment of a block, and no documentation
+-- A comment of a block, and no documentation.
 abbrev pub is_block_comment : List ℕ → Bool
 is_block_comment cs = is_block cs && not (opens_block_doc (drop 2 cs) || opens_inner (drop 2 cs))
 
--- a comment of either kind
+-- A comment of either kind.
 abbrev pub is_comment : List ℕ → Bool
 is_comment cs = is_line_comment cs || is_block_comment cs
 
@@ -71,7 +71,7 @@ abbrev pub opens_line : List ℕ → Bool
 opens_line [] = false
 opens_line (c ∷ cs) = (c == 47) && begins (λ d. d == 47) cs
 
--- a text that begins with `//` stands only before a line feed or the end
+-- A text that begins with `//` stands only before a line feed or the end.
 abbrev pub ends_line_before : List ℕ → List ℕ → Bool
 ends_line_before spelling rest = not (is_line spelling && begins is_in_line rest)
 

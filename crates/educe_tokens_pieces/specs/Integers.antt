@@ -8,7 +8,7 @@ use Rattle.educe_tokens_pieces.specs.declared.integers.Base.{Base}
 use Rattle.educe_tokens_pieces.specs.declared.integers.Base.TheVariants.{Binary, Octal, Decimal, Hexadecimal}
 use Rattle.educe_tokens_pieces.specs.Chars.{begins, is_empty, is_word_start}
 
--- how many digits a base has
+-- How many digits a base has.
 abbrev pub radix : Base → ℕ
 radix Binary = 2
 radix Octal = 8
@@ -36,11 +36,11 @@ base_of (c ∷ cs) = cond (c == 48) (base_behind cs) Decimal
 abbrev pub is_digit_or_mark : Base → ℕ → Bool
 is_digit_or_mark base c = is_digit c (radix base) || (c == 95)
 
--- the text without its radix prefix
+-- The text without its radix prefix.
 abbrev pub unmarked : List ℕ → List ℕ
 unmarked cs = drop (mark_length (base_of cs)) cs
 
--- how many digits of the base and `_` follow the radix prefix
+-- How many digits of the base and `_` follow the radix prefix.
 abbrev pub digit_count : List ℕ → ℕ
 digit_count cs = prefix_len (is_digit_or_mark (base_of cs)) (unmarked cs)
 
@@ -48,7 +48,7 @@ digit_count cs = prefix_len (is_digit_or_mark (base_of cs)) (unmarked cs)
 abbrev pub digits_of : List ℕ → List ℕ
 digits_of cs = take (digit_count cs) (unmarked cs)
 
--- what follows these digits
+-- What follows these digits.
 abbrev pub suffix_of : List ℕ → List ℕ
 suffix_of cs = drop (digit_count cs) (unmarked cs)
 
@@ -58,7 +58,7 @@ integer_types =
     codes "u8" ∷ codes "u16" ∷ codes "u32" ∷ codes "u64" ∷ codes "u128" ∷ codes "usize"
     ∷ codes "i8" ∷ codes "i16" ∷ codes "i32" ∷ codes "i64" ∷ codes "i128" ∷ codes "isize" ∷ []
 
--- the text is one of the integer types
+-- The text is one of the integer types.
 unfoldable pub is_integer_type : List ℕ → Bool
 is_integer_type text = list_any (λ type. bytes_eq type text) integer_types
 
@@ -73,7 +73,7 @@ has_int_form cs =
 abbrev pub int_value_of : List ℕ → ℕ
 int_value_of cs = digits_value (radix (base_of cs)) (filter (λ c. not (c == 95)) (digits_of cs))
 
--- the value is below 2^128
+-- The value is below 2^128.
 abbrev pub fits_u128 : List ℕ → Bool
 fits_u128 cs = nat_lt (int_value_of cs) (2 ^ 128)
 

@@ -19,7 +19,7 @@ behind_part quote = cond (is_single quote) (Close quote) (Open quote)
 abbrev pub is_space_character : ℕ → Bool
 is_space_character c = (c == 32) || (c == 9) || (c == 10) || (c == 13)
 
--- a step before a part or the closing quote
+-- A step before a part or the closing quote.
 abbrev pub open_step : Quote → ℕ → Next
 open_step quote c =
     cond ((c == closing quote) && not (is_single quote)) End
@@ -42,7 +42,7 @@ code_step quote digits value c =
     (cond (c == 95) (cond (nat_lt 0 digits) (Go (Code quote digits value)) Stop)
     (cond (is_hex c && nat_lt digits 6) (Go (Code quote (digits + 1) (value * 16 + digit_value c))) Stop))
 
--- what a character does at a place in the literal: it continues, to which place; it ends the literal; or it may not stand there
+-- What a character does at a place in the literal: it continues, to which place; it ends the literal; or it may not stand there.
 abbrev pub step : Within → ℕ → Next
 step (Open quote) c = open_step quote c
 step (Break quote) c = cond (is_space_character c) (Go (Break quote)) (open_step quote c)
@@ -71,12 +71,12 @@ abbrev pub ends : Within → List ℕ → Bool
 ends within [] = false
 ends within (c ∷ cs) = elim (step within c) [ Go more ↦ ends more cs | End ↦ is_empty cs | Stop ↦ false ]
 
--- the value of these characters, up to the end of the literal
+-- The value of these characters, up to the end of the literal.
 abbrev pub given : Within → List ℕ → List ℕ
 given within [] = []
 given within (c ∷ cs) = elim (step within c) [ Go more ↦ gives within c ++ given more cs | End ↦ [] | Stop ↦ [] ]
 
--- a length that is so much longer, if there is one
+-- A length that is so much longer, if there is one.
 abbrev pub plus : ℕ → Option ℕ → Option ℕ
 plus k None = None
 plus k (Some n) = Some (k + n)
@@ -96,22 +96,22 @@ abbrev pub is_prefixed : ℕ → Quote → ℕ → List ℕ → Bool
 is_prefixed letter quote mark [] = false
 is_prefixed letter quote mark (c ∷ cs) = (c == letter) && is_quoted quote mark cs
 
--- a string literal
+-- A string literal.
 abbrev pub is_str : List ℕ → Bool
 is_str cs = is_quoted Str 34 cs
 
--- a byte string literal
+-- A byte string literal.
 abbrev pub is_byte_str : List ℕ → Bool
 is_byte_str cs = is_prefixed 98 ByteStr 34 cs
 
--- a C string literal
+-- A C string literal.
 abbrev pub is_c_str : List ℕ → Bool
 is_c_str cs = is_prefixed 99 CStr 34 cs
 
--- a character literal
+-- A character literal.
 abbrev pub is_char : List ℕ → Bool
 is_char cs = is_quoted Char 39 cs
 
--- a byte literal
+-- A byte literal.
 abbrev pub is_byte : List ℕ → Bool
 is_byte cs = is_prefixed 98 Byte 39 cs

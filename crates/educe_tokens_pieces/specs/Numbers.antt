@@ -31,7 +31,7 @@ end_len (c ∷ cs) = cond (is_exponent_mark c && begins is_sign cs) (2 + continu
 abbrev pub fraction_len : List ℕ → ℕ
 fraction_len cs = prefix_len is_decimal_part cs + end_len (behind_digits cs)
 
--- how many characters belong to a possible tail of a float; `float_or_int` tests whether they are one
+-- How many characters belong to a possible tail of a float; `float_or_int` tests whether they are one.
 abbrev pub tail_len : List ℕ → ℕ
 tail_len [] = 0
 tail_len (c ∷ cs) = cond (makes_float (c ∷ cs)) (1 + fraction_len cs) (end_len (c ∷ cs))
@@ -65,6 +65,6 @@ abbrev pub float_or_int : List ℕ → ℕ → Option (PieceKind × ℕ)
 float_or_int text n =
     cond (is_float_tail (take n (behind_digits text))) (Some (Uncarried Float, prefix_len is_decimal_part text + n)) (int_at text (continue_len text))
 
--- the number at the front, with its kind and length; what may follow it is not asked
+-- The number at the front, with its kind and length; what may follow it is not asked.
 abbrev pub number_at : List ℕ → Option (PieceKind × ℕ)
 number_at text = float_or_int text (tail_len (behind_digits text))

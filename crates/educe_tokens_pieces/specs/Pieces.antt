@@ -20,13 +20,13 @@ use Rattle.educe_tokens_pieces.specs.Machine.{is_str, is_byte_str, is_c_str, is_
 use Rattle.educe_tokens_pieces.specs.RawStrings.{is_raw_str, is_raw_byte_str, is_raw_c_str}
 use Rattle.educe_tokens_pieces.specs.Comments.{is_comment, is_doc, opens_comment, ends_line_before}
 
--- the character that opens a bracket of this form
+-- The character that opens a bracket of this form.
 abbrev pub opener : Bracket → ℕ
 opener Round = 40
 opener Square = 91
 opener Curly = 123
 
--- the character that closes a bracket of this form
+-- The character that closes a bracket of this form.
 abbrev pub closer : Bracket → ℕ
 closer Round = 41
 closer Square = 93
@@ -61,7 +61,7 @@ is_piece Comment cs = is_comment cs
 is_piece (Token kind) cs = spells kind cs
 is_piece (Uncarried kind) cs = spells_uncarried kind cs
 
--- a punctuation character is joint before this rest: another one follows directly, and no comment or documentation opens there
+-- A punctuation character is joint before this rest: another one follows directly, and no comment or documentation opens there.
 abbrev pub is_joint : List ℕ → Bool
 is_joint rest = begins is_punct rest && not (opens_comment rest)
 
@@ -73,11 +73,11 @@ ends_word_before rest = not (begins is_xid_continue rest)
 abbrev pub may_follow_int : List ℕ → List ℕ → Bool
 may_follow_int spelling rest = ends_word_before rest && (not (is_empty (suffix_of spelling)) || not (makes_float rest))
 
--- a float may stand before this rest: its final `.` does not become the first of two
+-- A float may stand before this rest: its final `.` does not become the first of two.
 abbrev pub may_follow_float : List ℕ → List ℕ → Bool
 may_follow_float spelling rest = ends_word_before rest && not (ends_with_dot spelling && begins (λ c. c == 46) rest)
 
--- what may follow a piece of the kind with this spelling
+-- What may follow a piece of the kind with this spelling.
 abbrev pub may_precede : PieceKind → List ℕ → List ℕ → Bool
 may_precede Blank spelling rest = true
 may_precede Comment spelling rest = ends_line_before spelling rest

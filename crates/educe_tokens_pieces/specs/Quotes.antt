@@ -7,7 +7,7 @@ use Rattle.std.specs.Char.{is_ascii, is_digit, digit_value}
 use Rattle.educe_tokens_pieces.specs.declared.quotes.Quote.{Quote}
 use Rattle.educe_tokens_pieces.specs.declared.quotes.Quote.TheVariants.{Str, ByteStr, CStr, Char, Byte}
 
--- the closing quote of a kind of literal
+-- The closing quote of a kind of literal.
 abbrev pub closing : Quote → ℕ
 closing Str = 34
 closing ByteStr = 34
@@ -39,7 +39,7 @@ top_digit CStr = 15
 top_digit Char = 7
 top_digit Byte = 15
 
--- a part of a literal: a plain character, an escape, or a `\` before the end of a line
+-- A part of a literal: a plain character, an escape, or a `\` before the end of a line.
 pub data Part : Type 0 where
   -- A character that stands for itself.
   Plain : (c : ℕ) → Part
@@ -54,7 +54,7 @@ pub data Part : Type 0 where
   -- A string continuation: `\` before a carriage return and a line feed.
   ReturnBreak : Part
 
--- how the part is spelled
+-- How the part is spelled.
 abbrev pub spelled : Part → List ℕ
 spelled (Plain c) = c ∷ []
 spelled (Escape c) = 92 ∷ c ∷ []
@@ -63,15 +63,15 @@ spelled (Unicode digits) = 92 ∷ 117 ∷ 123 ∷ (digits ++ 125 ∷ [])
 spelled Break = 92 ∷ 10 ∷ []
 spelled ReturnBreak = 92 ∷ 13 ∷ 10 ∷ []
 
--- a character that may follow `\`: one of n r t \ 0 ' "
+-- A character that may follow `\`: one of n r t \ 0 ' ".
 abbrev pub is_escape : ℕ → Bool
 is_escape c = (c == 110) || (c == 114) || (c == 116) || (c == 92) || (c == 48) || (c == 39) || (c == 34)
 
--- the character that it stands for behind a `\`
+-- The character that it stands for behind a `\`.
 abbrev pub escape_value : ℕ → ℕ
 escape_value c = cond (c == 110) 10 (cond (c == 114) 13 (cond (c == 116) 9 (cond (c == 48) 0 c)))
 
--- a hexadecimal digit
+-- A hexadecimal digit.
 abbrev pub is_hex : ℕ → Bool
 is_hex c = is_digit c 16
 
@@ -84,7 +84,7 @@ abbrev pub is_code : List ℕ → Bool
 is_code [] = false
 is_code (d ∷ ds) = is_hex d && (list_all (λ c. is_hex c || (c == 95)) ds && nat_le (length (filter is_hex (d ∷ ds))) 6)
 
--- the number that the hexadecimal digits write, ignoring `_`
+-- The number that the hexadecimal digits write, ignoring `_`.
 abbrev pub code_value : List ℕ → ℕ
 code_value digits = digits_value 16 (filter (λ c. not (c == 95)) digits)
 
@@ -112,7 +112,7 @@ may_hold quote ReturnBreak = not (is_single quote)
 abbrev pub has_count : Quote → List Part → Bool
 has_count quote parts = not (is_single quote) || (length parts == 1)
 
--- the text is parts that a literal of this kind may contain, as many as it may have, and the closing quote
+-- The text is parts that a literal of this kind may contain, as many as it may have, and the closing quote.
 pub record IsBody (quote : Quote) (text : List ℕ) (parts : List Part) : Type 0 where
   pub hold : IsTrue (list_all (may_hold quote) parts)
   pub count : IsTrue (has_count quote parts)
@@ -136,7 +136,7 @@ is_space (Unicode digits) = false
 is_space Break = false
 is_space ReturnBreak = false
 
--- the characters that one part stands for
+-- The characters that one part stands for.
 abbrev pub part_value : Part → List ℕ
 part_value (Plain c) = c ∷ []
 part_value (Escape c) = escape_value c ∷ []
@@ -150,6 +150,6 @@ abbrev pub values : Bool → List Part → List ℕ
 values behind_break [] = []
 values behind_break (p ∷ ps) = cond (behind_break && is_space p) (values true ps) (part_value p ++ values (is_break p) ps)
 
--- the characters that parts stand for; blanks behind a `\` at the end of a line stand for none
+-- The characters that parts stand for; blanks behind a `\` at the end of a line stand for none.
 abbrev pub value_of : List Part → List ℕ
 value_of parts = values false parts

@@ -14,7 +14,7 @@ abbrev pub closes_raw : ℕ → List ℕ → Bool
 closes_raw marks [] = false
 closes_raw marks (c ∷ cs) = cond ((c == 34) && nat_le marks (mark_count cs)) (length cs == marks) (closes_raw marks cs)
 
--- at most 255 `#`, `"`, a text up to the first `"` that as many `#` follow, and these
+-- At most 255 `#`, `"`, a text up to the first `"` that as many `#` follow, and these.
 abbrev pub is_raw : List ℕ → Bool
 is_raw cs =
     (nat_le (mark_count cs) 255 && begins (λ c. c == 34) (drop (mark_count cs) cs))

@@ -4,8 +4,8 @@ use Rattle.std.specs.Prelude.{◌^◌, Bool, true, ◌&&◌, nat_lt, nat_le}
 use Rattle.educe_tokens_pieces.specs.declared.quotes.Within.{Within}
 use Rattle.educe_tokens_pieces.specs.declared.quotes.Within.TheVariants.{Open, Break, Escape, Return, High, Low, Brace, Code, Close}
 
--- what holds at each place reached from the start of a literal: the first digit of `\x` is below 16; behind `\u{` stand at most
--- six digits, and the number is one that so many write
+-- What holds at each place reached from the start of a literal: the first digit of `\x` is below 16; behind `\u{` stand at most
+-- six digits, and the number is one that so many write.
 abbrev pub is_reachable : Within → Bool
 is_reachable (Open quote) = true
 is_reachable (Break quote) = true

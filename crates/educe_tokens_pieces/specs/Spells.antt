@@ -28,7 +28,7 @@ use Rattle.educe_tokens_pieces.specs.Pieces.{opener, closer}
 abbrev pub BeginsWith : List ℕ → List ℕ → Type 0
 BeginsWith mark text = (more : List ℕ) × (text ≡ mark ++ more)
 
--- the text does not begin with these characters
+-- The text does not begin with these characters.
 abbrev pub BeginsNot : List ℕ → List ℕ → Type 0
 BeginsNot mark text = BeginsWith mark text → ⊥
 
@@ -53,7 +53,7 @@ pub record IsLifetime (text : List ℕ) : Type 0 where
   pub is : text ≡ 39 ∷ word
   pub own : IsWord word
 
--- the radix prefix of a base: nothing for the decimal one
+-- The radix prefix of a base: nothing for the decimal one.
 abbrev pub mark_of : Base → List ℕ
 mark_of Binary = 48 ∷ 98 ∷ []
 mark_of Octal = 48 ∷ 111 ∷ []
@@ -103,7 +103,7 @@ pub record IsExponent (text : List ℕ) : Type 0 where
 abbrev pub EndsFloat : List ℕ → Type 0
 EndsFloat text = IsFloatSuffix text ⊎ IsExponent text
 
--- what makes the digits before it a float: a `.` alone, a `.` with digits and an end, or an end that is not empty
+-- What makes the digits before it a float: a `.` alone, a `.` with digits and an end, or an end that is not empty.
 pub data IsTail : List ℕ → Type 0 where
   -- A `.` alone.
   Dot : IsTail (46 ∷ [])
@@ -127,7 +127,7 @@ pub record IsQuoted (letters : List ℕ) (quote : Quote) (text : List ℕ) : Typ
   pub is : text ≡ letters ++ closing quote ∷ body
   pub holds : IsBody quote body parts
 
--- letters before a raw string: up to 255 `#`, `"`, and a text up to the first `"` that as many `#` follow
+-- Letters before a raw string: up to 255 `#`, `"`, and a text up to the first `"` that as many `#` follow.
 pub record IsRaw (letters text : List ℕ) : Type 0 where
   pub raw : List ℕ
   pub value : List ℕ
@@ -173,7 +173,7 @@ IsBlockDoc text = (inside : List ℕ) × IsBlockOf text inside × DocumentsBlock
 abbrev pub IsLineComment : List ℕ → Type 0
 IsLineComment text = (line : List ℕ) × IsLineOf text line × (DocumentsLine line → ⊥) × BeginsNot (33 ∷ []) line
 
--- a comment of a block: neither documentation nor inner documentation
+-- A comment of a block: neither documentation nor inner documentation.
 abbrev pub IsBlockComment : List ℕ → Type 0
 IsBlockComment text = (inside : List ℕ) × IsBlockOf text inside × (DocumentsBlock inside → ⊥) × BeginsNot (33 ∷ []) inside
 

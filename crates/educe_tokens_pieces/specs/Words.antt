@@ -10,11 +10,11 @@ abbrev pub is_word : List ℕ → Bool
 is_word [] = false
 is_word (c ∷ cs) = is_word_start c && list_all is_xid_continue cs
 
--- the five words that may not follow `r#`
+-- The five words that may not follow `r#`.
 abbrev pub never_raw : List (List ℕ)
 never_raw = codes "crate" ∷ codes "self" ∷ codes "super" ∷ codes "Self" ∷ codes "_" ∷ []
 
--- the text is one of these words
+-- The text is one of these words.
 unfoldable pub is_never_raw : List ℕ → Bool
 is_never_raw text = list_any (λ word. bytes_eq word text) never_raw
 
@@ -29,7 +29,7 @@ abbrev pub is_lifetime : List ℕ → Bool
 is_lifetime [] = false
 is_lifetime (c ∷ cs) = (c == 39) && is_word cs
 
--- a character that an identifier may not stand directly before: one that continues it, `"`, `'` or `#`
+-- A character that an identifier may not stand directly before: one that continues it, `"`, `'` or `#`.
 abbrev pub touches_word : ℕ → Bool
 touches_word c = is_xid_continue c || ((c == 34) || (c == 39) || (c == 35))
 

@@ -21,8 +21,8 @@ pub record Stands (kind : PieceKind) (text rest : List ℕ) : Type 0 where
   pub piece : IsTrue (is_piece kind spelling)
   pub before : IsTrue (may_precede kind spelling rest)
 
--- so many bytes at the front are the piece that `piece_at` finds in the characters; a character begins behind them, or the text
--- ends
+-- So many bytes at the front are the piece that `piece_at` finds in the characters; a character begins behind them, or the text
+-- ends.
 pub record IsFront (text : List ℕ) (found : PieceKind × ℕ) : Type 0 where
   pub count : ℕ
   pub is : piece_at (chars text) ≡ Some (found.0, count)
@@ -42,7 +42,7 @@ opening InCStr = 99 ∷ 34 ∷ []
 opening InChar = 39 ∷ []
 opening InByte = 98 ∷ 39 ∷ []
 
--- the kind of the piece that such a literal is; a C string is unsupported
+-- The kind of the piece that such a literal is; a C string is unsupported.
 abbrev pub quoted_kind : Quote → PieceKind
 quoted_kind InStr = Token (Literal Str)
 quoted_kind InByteStr = Token (Literal ByteStr)

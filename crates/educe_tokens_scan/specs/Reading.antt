@@ -3,7 +3,7 @@ use Rattle.std.specs.Prelude.{◌≡◌, ℕ, ◌≤◌, ◌&&◌, IsTrue, List,
 use Rattle.educe_tokens_pieces.specs.declared.kind.PieceKind.{PieceKind}
 use Rattle.educe_tokens_pieces.specs.Pieces.{is_piece, may_precede}
 
--- a kind and a spelling
+-- A kind and a spelling.
 pub record Piece : Type 0 where
   pub kind : PieceKind
   pub spelling : List ℕ

@@ -54,7 +54,7 @@ abbrev pub opens_raw : List ℕ → Bool
 opens_raw [] = false
 opens_raw (c ∷ cs) = (c == 34) || ((c == 35) && begins is_quote_or_hash cs)
 
--- behind a `b` or `c` the text continues as a raw string does: with an `r` first
+-- Behind a `b` or `c` the text continues as a raw string does: with an `r` first.
 abbrev pub opens_prefixed_raw : List ℕ → Bool
 opens_prefixed_raw [] = false
 opens_prefixed_raw (c ∷ cs) = (c == 114) && opens_raw cs

@@ -17,7 +17,7 @@ keywords =
     ∷ codes "type" ∷ codes "typeof" ∷ codes "unsafe" ∷ codes "unsized" ∷ codes "use" ∷ codes "virtual"
     ∷ codes "where" ∷ codes "while" ∷ codes "yield" ∷ []
 
--- the text is a keyword
+-- The text is a keyword.
 unfoldable pub is_keyword : List ℕ → Bool
 is_keyword text = list_any (λ keyword. bytes_eq keyword text) keywords
 

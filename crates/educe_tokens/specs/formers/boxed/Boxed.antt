@@ -22,11 +22,11 @@ use Rattle.educe_tokens.specs.declared.boxed.Boxed.TheView.{view, invariant}
 use Rattle.educe_tokens.specs.contracts.boxed.Boxed as boxed
 use Rattle.educe_tokens.specs.contracts.boxed.Boxed.TheInside as inside
 
--- a `Boxed` is stored as its value
+-- A `Boxed` is stored as its value.
 abbrev pub the_former : Former {0} → Former {0}
 the_former value = value
 
--- its weight, by that of its value
+-- Its weight, by that of its value.
 abbrev pub the_weighed : {value : Former {0}} → Weighed value → Weighed (the_former value)
 the_weighed weight = weight
 
@@ -51,7 +51,7 @@ module _ (A B : RattleType) (to : A.Denot → B.Denot) where
     shr_same = λ b i. (box_row (one_value A (alike.mir_same i) (alike.own_same b.value i) (alike.shr_same b.value i) gnil)).shr_at (holding b tt);
   }
 
-  -- if values lie alike in memory, so do boxes of them
+  -- If values lie alike in memory, so do boxes of them.
   pub the_places : Alike A B to → Alike (boxed.the_row A) (boxed.the_row B) ((the_former this).map A.Denot B.Denot to)
   the_places alike =
       let stored = laid _ _ _ (box_places alike) in
@@ -60,6 +60,6 @@ module _ (A B : RattleType) (to : A.Denot → B.Denot) where
       (invariant A.Denot) (invariant B.Denot) (λ b p q. refl) (λ b p q. refl) (λ b e. tt) (λ b e. tt)
       (over (inside.the_row A)) (over (inside.the_row B)) fields
 
-  -- if values have one code, so do boxes of them
+  -- If values have one code, so do boxes of them.
   pub the_codes_placed : Recodes A B to → Recodes (boxed.the_row A) (boxed.the_row B) ((the_former this).map A.Denot B.Denot to)
   the_codes_placed same value = same value

@@ -19,23 +19,23 @@ use Rattle.educe_tokens.specs.declared.seq.Seq.TheView.{view, invariant}
 use Rattle.educe_tokens.specs.contracts.seq.Seq as seq
 use Rattle.educe_tokens.specs.contracts.seq.Seq.TheInside as inside
 
--- a `Seq` is stored as the list of its items
+-- A `Seq` is stored as the list of its items.
 abbrev pub the_former : Former {0} → Former {0}
 the_former item = list item
 
--- its weight, by that of its items
+-- Its weight, by that of its items.
 abbrev pub the_weighed : {item : Former {0}} → Weighed item → Weighed (the_former item)
 the_weighed weight = w_list weight
 
--- the empty `Seq`
+-- The empty `Seq`.
 pub the_empty : List ⊥
 the_empty = []
 
--- the items of a `Seq`
+-- The items of a `Seq`.
 abbrev pub the_items : (Item : Type 0) → List Item → List Item
 the_items Item items = items
 
--- these are the list as which it is stored
+-- These are the list as which it is stored.
 pub the_items_listed : (Item : Type 0) (items : List Item) → listed _ (children (the_former this) Item items) ≡ the_items Item items
 the_items_listed Item items = list-listed Item items
 
@@ -44,7 +44,7 @@ abbrev the_fields : Former {0}
 the_fields = via (vec.the_former this Global) Inside (λ Item s. s.items) (λ Item v. record { items = v }) (λ Item s. refl) (λ Item v. refl)
 
 module _ (A B : RattleType) (to : A.Denot → B.Denot) where
-  -- if items lie alike in memory, so do lists of them
+  -- If items lie alike in memory, so do lists of them.
   pub the_places : Alike A B to → Alike (seq.the_row A) (seq.the_row B) ((the_former this).map A.Denot B.Denot to)
   the_places alike =
       let stored = laid _ _ _ (vec.the_places heap.the_row ghosts A B to alike) in
@@ -53,6 +53,6 @@ module _ (A B : RattleType) (to : A.Denot → B.Denot) where
       (invariant A.Denot) (invariant B.Denot) (λ s p q. refl) (λ s p q. refl) (λ s e. tt) (λ s e. tt)
       (over (inside.the_row A)) (over (inside.the_row B)) fields
 
-  -- if items have one code, so do lists of them
+  -- If items have one code, so do lists of them.
   pub the_codes_placed : Recodes A B to → Recodes (seq.the_row A) (seq.the_row B) ((the_former this).map A.Denot B.Denot to)
   the_codes_placed same items = sym (code_map A.coded.code B.coded.code to (λ x. sym (same x)) items)
