@@ -163,7 +163,7 @@ are_keys : (asked : List Asked) → AllByRecursion IsKey (all_keys asked)
 are_keys [] = tt
 are_keys (a ∷ asked) = (is_key a, are_keys asked)
 
--- ---- lists that are told apart by their tokens
+-- ---- lists that differ in their tokens
 
 tokens_is_key : (tokens : List Token) → IsKey (tokens_key tokens)
 tokens_is_key tokens = ap (flat_map lexeme_key) (words_back tokens) ∙ lexemes_key tokens
