@@ -18,7 +18,7 @@ word_of Method = codes "method"
 word_of Rank = codes "rank"
 word_of Bound = codes "bound"
 
--- The other word that names it; the same one where it has no other.
+-- The alternative word that names a parameter; the word itself where it has none.
 abbrev pub alias_of : Param → List ℕ
 alias_of Name = codes "rename"
 alias_of NamedField = codes "named_field"
