@@ -93,7 +93,7 @@ unfolding head_of words_from
 head_back (Itself ty) = words_back ty.now.written.tokens
 head_back (Param name) = ap words_from (sym (append-nil (word_key kind.Ident name.now.text))) ∙ word_back kind.Ident name.now.text []
 
--- what is kept by one function of it is kept by another that tells the same apart
+-- what is kept by one function of it is kept by another that distinguishes the same
 module _ {K L : Type 0} (g : K → L) (Is : K → Type 0) (apart : (a b : K) → Is a → Is b → g a ≡ g b → a ≡ b) where
   has_to : (ks : List K) (k : K) → Has ks k → Has (map g ks) (g k)
   has_to [] k h = absurd h

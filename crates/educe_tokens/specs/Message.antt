@@ -8,7 +8,7 @@ use Rattle.educe_tokens.specs.declared.error.Kind.TheVariants.{Syntax, TooDeep, 
 abbrev pub educe_format : List (List ℕ)
 educe_format = codes "educe" ∷ codes "#[educe(Trait1, Trait2, ..., TraitN)]" ∷ []
 
--- The number of words fits the kind: they are those that its message cites.
+-- The words are such as the message of the kind cites.
 abbrev pub HasWords : Kind → List (List ℕ) → Type 0
 HasWords Syntax words = words ≡ []
 HasWords TooDeep words = words ≡ []
