@@ -27,7 +27,7 @@ pub out_of_place : (meta : Meta) (e : EduceError) → IsCause no_row meta e → 
 out_of_place meta e (cause.own h) = inr (h.0, h.1, for_place h.0 meta h.2)
 out_of_place meta e cause.memory = inl refl
 
--- so none is read
+-- no meta of such a field is read
 place_stands : (meta : Meta) (name : MetaPath) → path_of meta ≡ Some name → HasNoCause no_row meta → ⊥
 place_stands meta name is none =
     let same : AttributeIncorrectPlace ≡ Alloc = none.none_stands (incorrect_place name) (cause.own (name, is, cause.place refl)) in

@@ -17,7 +17,7 @@ use Rattle.educe_attrs.specs.Building.{OfError, caused, memory}
 pub memory_of_meta : (row : Row) (meta : Meta) (e : EduceError) → e ≡ placeless Alloc → IsCause row meta e
 memory_of_meta row meta e is = let P : EduceError → Type 0 = λ e. IsCause row meta e in subst P (sym is) meta_cause.memory
 
--- so may the attributes of a place
+-- the attributes of a place may be rejected for out of memory
 pub memory_of_place : (P : Cause) (e : EduceError) → e ≡ placeless Alloc → OfError P e
 memory_of_place P e is = let Q : EduceError → Type 0 = λ e. OfError P e in subst Q (sym is) memory
 

@@ -1,4 +1,4 @@
--- What is said of a type of which only `bound` may be said (documentation of `educe`, Generic parameters bound to the trait).
+-- The attributes of types that allow only `bound` (documentation of `educe`, Generic parameters bound to the trait).
 use Rattle.std.specs.Prelude.{◌≡◌, Bool, Option, Some, None}
 use Rattle.educe_bound.specs.declared.bound.Bound.{Bound}
 use Rattle.educe_bound.specs.Bounds as value
@@ -9,16 +9,16 @@ use Rattle.educe_attrs_rows.specs.declared.row.TheConstants.Row.{EMPTY}
 use Rattle.educe_attrs_places.specs.declared.place.FieldSettings.{FieldSettings}
 use Rattle.educe_attrs.specs.declared.bound_only.TypeAttribute.{TypeAttribute}
 
--- The trait alone, and `bound`.
+-- The row that allows the trait alone and `bound`.
 abbrev pub bound_row : Bool → Bool → Row
 bound_row flag bound = record EMPTY { flag = flag; bound = bound }
 
--- The bound that is said; without one, the bounds that the trait needs.
+-- The bound that is set; else the bounds that the trait needs.
 abbrev pub bound_of : Option WherePredicatesOrBool → Bound
 bound_of None = Auto
 bound_of (Some said) = value.bound_of said
 
--- The attribute of a type of which only the bound is said.
+-- The attribute of a type that allows only `bound`, of these settings.
 abbrev pub bound_attribute : FieldSettings → TypeAttribute
 bound_attribute settings = record { bound = bound_of settings.values.bound }
 

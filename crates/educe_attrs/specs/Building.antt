@@ -1,4 +1,4 @@
--- What the calls of builders answer.
+-- The results of builders.
 use Rattle.std.specs.Prelude.{Result, MatchResult}
 use Rattle.educe_tokens.specs.declared.error.EduceError.{EduceError}
 use Rattle.educe_tokens.specs.declared.error.Kind.TheVariants.{Alloc}
@@ -11,15 +11,16 @@ use Rattle.educe_attrs_places.specs.declared.place.FieldSettings.{FieldSettings}
 use Rattle.educe_attrs_places.specs.Causes.{Cause}
 use Rattle.educe_attrs_places.specs.Places.{own_settings}
 
--- The attribute is of what the meta says, by the row of its place.
+-- The attribute is that of the values of the meta, by the row of its place.
 abbrev pub SaysAs : {A : Type 0} → Row → (FieldSettings → A → Type 0) → Meta → A → Type 0
 SaysAs row IsOf meta attribute = (values : Values) × Says row meta values × IsOf (own_settings values) attribute
 
--- What a call that reads a meta answers: an attribute of what the meta says, and then no cause stands; or a cause.
+-- The postcondition of a call that reads a meta: the attribute of its values, and then there is no cause; or a
+-- rejection with a cause.
 abbrev pub Reads : {A : Type 0} → Row → (FieldSettings → A → Type 0) → Meta → Result A EduceError → Type 0
 Reads row IsOf meta result = MatchResult result (λ attribute. SaysAs row IsOf meta attribute × HasNoCause row meta) (λ e. IsCause row meta e)
 
--- The rejection has the cause, or is for out of memory.
+-- The error has the cause, or is out of memory.
 pub data OfError (P : Cause) : EduceError → Type 0 where
   caused : {e : EduceError} → P e → OfError P e
   memory : OfError P (placeless Alloc)

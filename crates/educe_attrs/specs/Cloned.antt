@@ -1,15 +1,15 @@
--- What `Clone` says of a field.
+-- The attributes of `Clone` at a field.
 use Rattle.std.specs.Prelude.{◌≡◌, Bool}
 use Rattle.educe_attrs_rows.specs.declared.row.Row.{Row}
 use Rattle.educe_attrs_rows.specs.declared.row.TheConstants.Row.{EMPTY}
 use Rattle.educe_attrs_places.specs.declared.place.FieldSettings.{FieldSettings}
 use Rattle.educe_attrs.specs.declared.clone.FieldAttribute.{FieldAttribute}
 
--- `method`.
+-- The row that allows `method`.
 abbrev pub clone_row : Bool → Row
 clone_row method = record EMPTY { method = method }
 
--- The attribute of a field.
+-- The attribute of a field, of these settings.
 abbrev pub clone_attribute : FieldSettings → FieldAttribute
 clone_attribute settings = record { method = settings.values.method }
 

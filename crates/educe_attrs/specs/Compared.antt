@@ -1,4 +1,4 @@
--- What is said of a field that is compared or hashed (documentation of `educe`, PartialEq; PartialOrd; Ord; Hash).
+-- The attributes of fields that are compared or hashed (documentation of `educe`, PartialEq; PartialOrd; Ord; Hash).
 use Rattle.std.specs.Prelude.{◌≡◌, ℤ, Bool, false, if◌then◌else◌, Option, Some, None, unwrap_or}
 use Rattle.educe_tokens.specs.declared.span.Span.{Span}
 use Rattle.educe_attrs_rows.specs.declared.row.Row.{Row}
@@ -8,7 +8,7 @@ use Rattle.educe_attrs_rows.specs.declared.values.Rank.{Rank}
 use Rattle.educe_attrs_places.specs.declared.place.FieldSettings.{FieldSettings}
 use Rattle.educe_attrs.specs.declared.compared.FieldAttribute.{FieldAttribute}
 
--- `ignore`, also as a truth value behind `=`, `method` and `rank`.
+-- The row that allows `ignore`, also as a truth value after `=`, `method` and `rank`.
 abbrev pub compared_row : Bool → Bool → Bool → Row
 compared_row ignore method rank = record EMPTY {
   equals = if ignore then Truth else Nothing;
@@ -17,7 +17,7 @@ compared_row ignore method rank = record EMPTY {
   rank = rank;
 }
 
--- The attribute of a field without a rank.
+-- The attribute of a field without a rank, of these settings.
 abbrev pub compared_attribute : FieldSettings → FieldAttribute
 compared_attribute settings = record { ignore = unwrap_or settings.values.ignore false; method = settings.values.method }
 
@@ -25,12 +25,12 @@ compared_attribute settings = record { ignore = unwrap_or settings.values.ignore
 abbrev pub IsCompared : FieldSettings → FieldAttribute → Type 0
 IsCompared settings attribute = attribute ≡ compared_attribute settings
 
--- The rank that is given, or else the builder's.
+-- The given rank, or else the builder's own.
 abbrev pub number_of : Option Rank → ℤ → ℤ
 number_of None own = own
 number_of (Some rank) own = rank.number
 
--- The place of the rank that is given.
+-- The place of the given rank.
 abbrev pub place_of : Option Rank → Option Span
 place_of None = None
 place_of (Some rank) = Some rank.span

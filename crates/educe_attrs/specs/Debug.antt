@@ -1,4 +1,4 @@
--- What `Debug` says of a type, a variant or a field (documentation of `educe`, Debug).
+-- The attributes of `Debug` at a type, a variant or a field (documentation of `educe`, Debug).
 use Rattle.std.specs.Prelude.{◌≡◌, Bool, true, false, not, if◌then◌else◌, Option, Some, None, unwrap_or}
 use Rattle.educe_attrs_values.specs.declared.choices.IdentOrBool.{IdentOrBool}
 use Rattle.educe_attrs_values.specs.declared.choices.IdentOrBool.TheVariants as said
@@ -26,14 +26,15 @@ is_disabled type_name.Disable = true
 is_disabled type_name.Default = false
 is_disabled (type_name.Custom name) = false
 
--- The name that is said: `true` means the own one, `false` none; without any it is this.
+-- The name that is set: `true` means the own name, `false` none; without one, the given name.
 abbrev pub type_name_of : TypeName → Option IdentOrBool → TypeName
 type_name_of own None = own
 type_name_of own (Some (said.Ident name)) = type_name.Custom name
 type_name_of own (Some (said.Bool true)) = type_name.Default
 type_name_of own (Some (said.Bool false)) = type_name.Disable
 
--- The trait alone, a name, also behind `=`, `named_field` and `bound`; the usage lines show what changes the builder's own.
+-- The row that allows the trait alone, a name, also after `=`, `named_field` and `bound`; its usage lines show what
+-- changes the builder's own.
 abbrev pub type_row : TypeAttributeBuilder → Row
 type_row builder = record EMPTY {
   flag = builder.enable_flag;
@@ -43,7 +44,7 @@ type_row builder = record EMPTY {
   bound = builder.enable_bound;
 }
 
--- The attribute of a type or a variant.
+-- The attribute of a type or a variant, of these settings.
 abbrev pub type_attribute : TypeAttributeBuilder → FieldSettings → TypeAttribute
 type_attribute builder settings = record {
   name = type_name_of builder.name settings.values.name;
@@ -57,20 +58,20 @@ IsTyped builder settings attribute = attribute ≡ type_attribute builder settin
 
 -- ---- fields
 
--- The name that is said; without one it is this.
+-- The name that is set; without one, the given name.
 abbrev pub field_name_of : FieldName → Option IdentOrBool → FieldName
 field_name_of own None = own
 field_name_of own (Some (said.Ident name)) = field_name.Custom name
 field_name_of own (Some (said.Bool b)) = own
 
--- Behind `=` a name, where one is shown, and whether the field is kept, where it may be ignored.
+-- What may stand after `=`: a name, where one is shown, and whether the field is kept, where it may be ignored.
 abbrev pub field_equals : Bool → Bool → Equals
 field_equals true true = equals.Name
 field_equals true false = equals.Ident
 field_equals false true = equals.Truth
 field_equals false false = equals.Nothing
 
--- A name, `ignore`, both also behind `=`, and `method`.
+-- The row that allows a name and `ignore`, both also after `=`, and `method`.
 abbrev pub field_row : FieldAttributeBuilder → Row
 field_row builder = record EMPTY {
   equals = field_equals builder.enable_name builder.enable_ignore;
@@ -79,7 +80,7 @@ field_row builder = record EMPTY {
   method = builder.enable_method;
 }
 
--- The attribute of a field.
+-- The attribute of a field, of these settings.
 abbrev pub field_attribute : FieldAttributeBuilder → FieldSettings → FieldAttribute
 field_attribute builder settings = record {
   name = field_name_of builder.name settings.values.name;

@@ -1,4 +1,4 @@
--- What `Default` says of a type, a variant or a field (documentation of `educe`, Default).
+-- The attributes of `Default` at a type, a variant or a field (documentation of `educe`, Default).
 use Rattle.std.specs.Prelude.{◌≡◌, false, if◌then◌else◌, Option, Some, None, unwrap_or}
 use Rattle.educe_syntax.specs.Expr.{Expr}
 use Rattle.educe_syntax.specs.Ty.{Ty}
@@ -14,7 +14,7 @@ use Rattle.educe_attrs.specs.declared.default.FieldAttribute.{FieldAttribute}
 use Rattle.educe_attrs.specs.declared.default.FieldAttributeBuilder.{FieldAttributeBuilder}
 use Rattle.educe_attrs.specs.Bounds.{bound_of}
 
--- The default value as it is written for a field of the type, if there is one; where none is said there is none.
+-- The second value is the first as it is written for a field of the type; where there is no first, there is no second.
 abbrev pub IsAdjusted : Option Expr → Option Ty → Option Expr → Type 0
 IsAdjusted None ty None = Unit {0}
 IsAdjusted None ty (Some x) = ⊥
@@ -23,7 +23,7 @@ IsAdjusted (Some said) ty (Some x) = value.IsAdjusted said ty x
 
 -- ---- types and variants
 
--- The trait alone, `new`, `expression` and `bound`.
+-- The row that allows the trait alone, `new`, `expression` and `bound`.
 abbrev pub type_row : TypeAttributeBuilder → Row
 type_row builder = record EMPTY {
   flag = builder.enable_flag;
@@ -32,7 +32,7 @@ type_row builder = record EMPTY {
   bound = builder.enable_bound;
 }
 
--- The attribute of a type or a variant.
+-- The attribute of a type or a variant, of these settings.
 pub record IsTyped (settings : FieldSettings) (attribute : TypeAttribute) : Type 0 where
   pub flag : attribute.flag ≡ settings.values.flag
   pub new : attribute.new ≡ unwrap_or settings.values.new false
@@ -42,7 +42,7 @@ pub record IsTyped (settings : FieldSettings) (attribute : TypeAttribute) : Type
 
 -- ---- fields
 
--- The trait alone, and the value, also behind `=`.
+-- The row that allows the trait alone, and the value, also after `=`.
 abbrev pub field_row : FieldAttributeBuilder → Row
 field_row builder = record EMPTY {
   flag = builder.enable_flag;
@@ -50,7 +50,7 @@ field_row builder = record EMPTY {
   expression = builder.enable_expression;
 }
 
--- The attribute of a field of the type.
+-- The attribute of a field of the type, of these values.
 pub record IsField (ty : Ty) (values : Values) (attribute : FieldAttribute) : Type 0 where
   pub flag : attribute.flag ≡ values.flag
   pub expression : IsAdjusted values.expression (Some ty) attribute.expression

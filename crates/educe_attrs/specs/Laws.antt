@@ -1,4 +1,4 @@
--- The laws of attributes as terms, which proofs cite with no call.
+-- The laws of attributes as terms, which proofs cite without a call.
 use Rattle.std.specs.Prelude.{List, Contains}
 use Rattle.educe_tokens.specs.declared.error.EduceError.{EduceError}
 use Rattle.educe_bound_traits.specs.declared.traits.Trait.{Trait}
@@ -14,16 +14,16 @@ use Rattle.educe_attrs_places.proofs.Settled as settled
 pub lawful_reports : ReportLaws
 lawful_reports = reported.lawful_reports
 
--- Where attributes have no cause, the settings are what they say; the text of a method is among their tokens, or it is
--- that of a string among these.
+-- Where attributes have no cause of rejection, the settings are what they say; the tokens of a method are among theirs,
+-- or are those of the text of a string among them.
 pub lawful_settings : SettingLaws
 lawful_settings = settled.lawful_settings
 
--- Where no handler of a listed trait has a cause, and there is one, the last phase has none.
+-- If some trait is listed and no handler of a listed trait has a cause, the last phase has none.
 pub all_handled : (h : Handling) (listed : List Trait) (some : Trait) → Contains listed some
     → ((which : Trait) → Contains listed which → NoCause (OfHandler h which)) → NoCause (OfLast h listed)
 all_handled = phased.all_handled
 
--- A cause of a listed trait's handler is one of the last phase.
+-- A cause of a listed trait's handler is a cause of the last phase.
 pub one_refused : (h : Handling) (listed : List Trait) (which : Trait) → Contains listed which → (e : EduceError) → OfHandler h which e → OfLast h listed e
 one_refused = phased.one_refused

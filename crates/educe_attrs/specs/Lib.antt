@@ -1,4 +1,4 @@
--- The builders, and what each builds.
+-- Re-exports: the builders and their attributes.
 pub mod Building
 pub mod Bounds
 pub mod NoField
@@ -8,9 +8,9 @@ pub mod PartialOrdered
 pub mod Ordered
 pub mod Debug
 pub mod Default
--- The laws of attributes as terms.
+-- Re-exports: the laws of attributes as terms.
 pub mod Laws
--- The table: the rows, and what a meta says by the row of its place.
+-- Re-exports: the rows, and what a meta says by the row of its place.
 pub use Rattle.educe_attrs_rows.specs.Rows
 pub use Rattle.educe_attrs_rows.specs.Params
 pub use Rattle.educe_attrs_rows.specs.Usage
@@ -18,14 +18,14 @@ pub use Rattle.educe_attrs_rows.specs.Settings
 pub use Rattle.educe_attrs_rows.specs.Refusals as MetaRefusals
 pub use Rattle.educe_attrs_rows.specs.Causes as Says
 pub use Rattle.educe_attrs_rows.specs.Among
--- The kinds of values: what each reads, and why a value is rejected.
+-- Re-exports: the kinds of values, and the causes for which a value is rejected.
 pub use Rattle.educe_attrs_values.specs.Kinds
 pub use Rattle.educe_attrs_values.specs.Values as Holds
 pub use Rattle.educe_attrs_values.specs.Causes as ValueCauses
 pub use Rattle.educe_attrs_values.specs.Refusals
 pub use Rattle.educe_attrs_values.specs.Words
 pub use Rattle.educe_attrs_values.specs.Metas
--- Places: several lists, the settings of a trait, what a type lists, and the phases of causes.
+-- Re-exports: places, that is several lists, the settings of a trait, the listed traits, and the phases of causes.
 pub use Rattle.educe_attrs_places.specs.Causes
 pub use Rattle.educe_attrs_places.specs.Lists
 pub use Rattle.educe_attrs_places.specs.Said
@@ -35,15 +35,15 @@ pub use Rattle.educe_attrs_places.specs.Methods
 pub use Rattle.educe_attrs_places.specs.SettingLaws
 pub use Rattle.educe_attrs_places.specs.Listing
 pub use Rattle.educe_attrs_places.specs.Phases
--- Errors: their messages, and where they start.
+-- Re-exports: errors, with their messages and where they start.
 pub use Rattle.educe_attrs_values.specs.Reports as Messages
 pub use Rattle.educe_attrs_places.specs.Reports
--- What generated code takes from attributes.
+-- Re-exports: what generated code takes from attributes.
 pub use Rattle.educe_attrs_generated.specs.Lints
 pub use Rattle.educe_attrs_generated.specs.Represented
 pub use Rattle.educe_attrs_generated.specs.Packed
 pub use Rattle.educe_attrs_generated.specs.Adjusted
--- The types that clauses name.
+-- Re-exports: the types that clauses name.
 pub use Rattle.educe_bound_traits.specs.declared.traits.Trait
 pub use Rattle.educe_bound.specs.declared.bound.Bound
 pub use Rattle.educe_attrs_values.specs.declared.choices.IdentOrBool

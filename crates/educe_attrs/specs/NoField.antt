@@ -1,4 +1,4 @@
--- The fields of which nothing may be said.
+-- The attributes of fields that allow no form.
 use Rattle.std.specs.Prelude.{◌≡◌, ◌⊎◌, Some}
 use Rattle.educe_tokens.specs.declared.error.EduceError.{EduceError}
 use Rattle.educe_tokens.specs.declared.error.Kind.TheVariants.{Alloc}
@@ -12,14 +12,14 @@ use Rattle.educe_attrs_rows.specs.declared.row.TheConstants.Row.{EMPTY}
 use Rattle.educe_attrs_places.specs.declared.place.FieldSettings.{FieldSettings}
 use Rattle.educe_attrs.specs.declared.no_field.FieldAttribute.{FieldAttribute}
 
--- No form at all.
+-- The row that allows no form.
 abbrev pub no_row : Row
 no_row = EMPTY
 
--- There is one attribute only.
+-- The attribute of a field that allows no form: there is only one.
 abbrev pub IsOfNothing : FieldSettings → FieldAttribute → Type 0
 IsOfNothing settings attribute = Unit {0}
 
--- The error is that the meta is out of place, or out of memory.
+-- The error rejects the place of the meta, or is out of memory.
 abbrev pub IsOutOfPlace : Meta → EduceError → Type 0
 IsOutOfPlace meta e = (e ≡ placeless Alloc) ⊎ ((name : MetaPath) × (path_of meta ≡ Some name) × (e ≡ incorrect_place name))

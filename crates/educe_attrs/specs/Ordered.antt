@@ -1,10 +1,10 @@
--- What `Ord` says of a field.
+-- The attributes of `Ord` at a field.
 use Rattle.std.specs.Prelude.{◌≡◌, ℤ, false, unwrap_or}
 use Rattle.educe_attrs_places.specs.declared.place.FieldSettings.{FieldSettings}
 use Rattle.educe_attrs.specs.declared.ord.FieldAttribute.{FieldAttribute}
 use Rattle.educe_attrs.specs.Compared.{number_of, place_of}
 
--- The attribute of a field, whose rank is this one where none is given.
+-- The attribute of a field, of these settings; the number is its rank where none is given.
 abbrev pub ordered_attribute : ℤ → FieldSettings → FieldAttribute
 ordered_attribute rank settings = record {
   ignore = unwrap_or settings.values.ignore false;

@@ -1,10 +1,10 @@
--- What `PartialOrd` says of a field.
+-- The attributes of `PartialOrd` at a field.
 use Rattle.std.specs.Prelude.{◌≡◌, ℤ, false, unwrap_or}
 use Rattle.educe_attrs_places.specs.declared.place.FieldSettings.{FieldSettings}
 use Rattle.educe_attrs.specs.declared.partial_ord.FieldAttribute.{FieldAttribute}
 use Rattle.educe_attrs.specs.Compared.{number_of, place_of}
 
--- The attribute of a field, whose rank is this one where none is given.
+-- The attribute of a field, of these settings; the number is its rank where none is given.
 abbrev pub ordered_attribute : ℤ → FieldSettings → FieldAttribute
 ordered_attribute rank settings = record {
   ignore = unwrap_or settings.values.ignore false;

@@ -1,4 +1,4 @@
-//! What each builder does: it reads by the row of its switches.
+//! Builders, which read attributes by the row of their switches.
 ghost use Rattle.std.specs.Prelude.{◌≡◌, IfOk, IfErr};
 ghost use Rattle.educe_bound_traits.specs.declared.traits.Trait.{Trait};
 ghost use Rattle.educe_attrs_rows.specs.declared.row.Row.{Row};
@@ -16,13 +16,13 @@ use educe_syntax::{Attributes, Meta};
 use educe_tokens::EduceError;
 use std::alloc::{AllocError, Global};
 
-/// A builder of what a trait's attribute says of a place. Its switches tell which forms are allowed
-/// there, and its other fields what holds where nothing is said.
+/// A builder of a trait's attributes at one kind of place. Its switches say which forms are allowed
+/// there, and its other fields what holds where nothing is set.
 pub trait AttributeBuilder {
-    /// What the attribute says.
+    /// The attribute that is built.
     type Attribute: Drop;
 
-    /// The trait.
+    /// The trait whose attributes are read.
     const TRAIT: Trait;
 
     ghost TRAIT: { Trait };
@@ -36,7 +36,7 @@ pub trait AttributeBuilder {
     fn row(&self) -> Row
         ensures { result ≡ row_of self.now };
 
-    /// The attribute of these settings. Fails only where memory runs out.
+    /// The attribute of these settings. Fails only when out of memory.
     fn attribute(
         &self,
         alloc: Global,
@@ -44,8 +44,8 @@ pub trait AttributeBuilder {
     ) -> Result<Self::Attribute, AllocError>
         ensures { IfOk result (IsOf self.now settings) };
 
-    /// What a meta of the trait says of the place. It is rejected exactly where it has a cause, or
-    /// memory fails.
+    /// The attribute that a meta of the trait sets. It is rejected exactly where it has a cause, or
+    /// when out of memory.
     #[tactic(auto, using(crate::proofs::Refused::memory_of_meta))]
     final fn build_from_meta(
         &self,
@@ -71,10 +71,10 @@ pub trait AttributeBuilder {
     }
 }
 
-/// A builder of what attributes say of a type or a variant.
+/// A builder of the attributes of a type or a variant.
 pub trait TypeBuilder: AttributeBuilder {
-    /// What the attributes of a type or a variant say of the trait. They are rejected exactly where
-    /// they have a cause, or memory fails.
+    /// The attribute that the attributes of a type or a variant set for the trait. They are
+    /// rejected exactly where they have a cause, or when out of memory.
     #[tactic(auto, using(crate::proofs::Refused::memory_of_place, crate::proofs::Refused::stopped, crate::proofs::Settings::said_as))]
     final fn build_from_attributes(
         &self,
@@ -113,11 +113,11 @@ pub trait TypeBuilder: AttributeBuilder {
     }
 }
 
-/// A builder of what attributes say of a field.
+/// A builder of the attributes of a field.
 pub trait FieldBuilder: AttributeBuilder {
-    /// What the attributes of a field say of the trait; of an order that has none of its own, those
-    /// of the other one, where both are listed. They are rejected exactly where they have a cause, or
-    /// memory fails.
+    /// The attribute that the attributes of a field set for the trait; an order that has none of
+    /// its own takes those of the other one, where both are listed. They are rejected exactly where
+    /// they have a cause, or when out of memory.
     #[tactic(auto, using(crate::proofs::Refused::memory_of_place, crate::proofs::Refused::stopped, crate::proofs::Settings::field_said_as))]
     final fn build_from_attributes(
         &self,

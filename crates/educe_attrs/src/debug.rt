@@ -18,9 +18,9 @@ use std::alloc::{AllocError, Global};
 /// The name that is shown of a type or a variant (documentation of `educe`, Debug).
 #[derive(Drop)]
 pub enum TypeName {
-    /// None.
+    /// No name.
     Disable,
-    /// Its own.
+    /// The name of the type or the variant.
     Default,
     Custom(Ident),
 }
@@ -59,7 +59,7 @@ impl Duplicate for TypeName {
 /// The name that is shown of a field (documentation of `educe`, Debug).
 #[derive(Drop)]
 pub enum FieldName {
-    /// Its own name or index.
+    /// The name or the index of the field.
     Default,
     Custom(Ident),
 }
@@ -102,9 +102,9 @@ pub struct TypeAttributeBuilder {
     pub enable_name: bool,
     pub enable_named_field: bool,
     pub enable_bound: bool,
-    /// The name where none is given.
+    /// The name where none is set.
     pub name: TypeName,
-    /// Whether the names of the fields are shown where that is not given.
+    /// Whether the names of the fields are shown, where that is not set.
     pub named_field: bool,
 }
 
@@ -189,7 +189,7 @@ pub struct FieldAttributeBuilder {
     pub enable_name: bool,
     pub enable_ignore: bool,
     pub enable_method: bool,
-    /// The name where none is given.
+    /// The name where none is set.
     pub name: FieldName,
 }
 

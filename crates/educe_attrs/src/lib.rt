@@ -1,8 +1,6 @@
-//! The attributes of a definition. What the attribute of each trait says of a type, a variant or a
-//! field (documentation of `educe`, each trait's section): a module for each trait, with its builders
-//! and what they build. The crate also passes on what users of attributes name of the layers below:
-//! the table, the kinds of values, the settings of places, and what generated code takes from
-//! attributes.
+//! The attributes of a definition: for each trait a module with its builders and what they build
+//! for a type, a variant or a field (documentation of `educe`, each trait's section). Also
+//! re-exports what users of attributes need of the layers below.
 #![tactic(auto)]
 
 mod bound_only;

@@ -16,12 +16,12 @@ one_inside tokens a b (inl first) (inr second) = absurd (second.0 a first)
 one_inside tokens a b (inr first) (inl second) = absurd (first.0 b second)
 one_inside tokens a b (inr first) (inr second) = first.1 ∙ sym second.1
 
--- so does a list
+-- a list with a test of its path holds one list of metas
 one_if : (test : Bool) (tokens : List Token) (a b : List Meta) → HoldsIf test tokens a → HoldsIf test tokens b → a ≡ b
 one_if true tokens a b first second = one_inside tokens a b first second
 one_if false tokens a b first second = first ∙ sym second
 
--- and an attribute
+-- an attribute holds one list of metas
 one_represented : (meta : Meta) (a b : List Meta) → Represents meta a → Represents meta b → a ≡ b
 one_represented (said.Word path) a b first second = first ∙ sym second
 one_represented (said.List path tokens place) a b first second = one_if (is_one_word (codes "repr") path.written.tokens) tokens.tokens a b first second

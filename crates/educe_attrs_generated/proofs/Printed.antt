@@ -101,6 +101,6 @@ into_printable value =
 pub fits : (tokens : List Token) (found : List Lexeme) → lexemes tokens ≡ found → IsPrintable found → IsTrue (may_be_copied (lexemes tokens))
 fits tokens found is h = subst (λ xs. IsTrue (may_be_copied xs)) (sym is) (may_be_copied-written found h.written)
 
--- and are their copies
+-- tokens that are printed are their own copies
 pub kept : (tokens : List Token) (found : List Lexeme) → lexemes tokens ≡ found → IsPrintable found → copied (lexemes tokens) ≡ lexemes tokens
 kept tokens found is h = ap copied is ∙ copied-written found h.written ∙ sym is

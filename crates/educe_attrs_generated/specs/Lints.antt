@@ -16,7 +16,7 @@ use Rattle.educe_bound_traits.specs.OneWord.{is_one_word}
 
 -- ---- one attribute
 
--- The path is `allow`, `warn` or `deny`.
+-- The path is `allow`, `warn` or `deny`, which set the level of lints.
 abbrev pub sets_level : MetaPath → Bool
 sets_level path = is_one_word (codes "allow") path.written.tokens || is_one_word (codes "warn") path.written.tokens || is_one_word (codes "deny") path.written.tokens
 
@@ -24,26 +24,26 @@ sets_level path = is_one_word (codes "allow") path.written.tokens || is_one_word
 abbrev pub expects : MetaPath → Bool
 expects path = is_one_word (codes "expect") path.written.tokens
 
--- The attribute of the path and what stands behind it.
+-- The tokens of an attribute, given its path and what follows it.
 abbrev pub attribute : MetaPath → List Lexeme → List Lexeme
 attribute path behind = quoted (codes "# [") ++ (written_lexemes path.written ++ (behind ++ quoted (codes "]")))
 
--- `#[allow(..)]` of these lints.
+-- The tokens of `#[allow(..)]` for these lints.
 abbrev pub allowing : List Lexeme → List Lexeme
 allowing lints = quoted (codes "# [ allow (") ++ (copied lints ++ quoted (codes ") ]"))
 
--- The same of what stands in a bracket pair, whose own brackets close in order.
+-- The tokens of `#[allow(..)]` for the content of a bracket pair; none unless the brackets in it close in order.
 abbrev pub allowed : List Token → List Lexeme
 allowed tokens = if may_be_copied (lexemes (inside tokens)) then allowing (lexemes (inside tokens)) else []
 
--- The lint attribute for a list of the type.
+-- The lint attribute that a list of the type becomes.
 abbrev pub lint_of_list : MetaPath → Written → List Lexeme
 lint_of_list path list =
     if sets_level path then attribute path (written_lexemes list) else
     if expects path then allowed list.tokens else []
 
--- The lint attribute of generated items for an attribute of the type: one that sets a level, as it was written; for an
--- `expect` list one that allows the same, since generated code need not cause the warning that is expected.
+-- The lint attribute that an attribute of the type becomes: one that sets a level stays as it was written; an `expect`
+-- list becomes `allow`, since generated code need not cause the expected warning.
 abbrev pub lint_of : Meta → List Lexeme
 lint_of (said.Word path) = if sets_level path then attribute path [] else []
 lint_of (said.List path list place) = lint_of_list path list
@@ -51,7 +51,7 @@ lint_of (said.NameValue path value place) = if sets_level path then attribute pa
 lint_of (said.Doc t) = []
 lint_of (said.Unread path behind place) = if sets_level path then attribute path (written_lexemes behind) else []
 
--- ---- all of them
+-- ---- attributes of items
 
 -- The lint attributes of the type, in order.
 abbrev pub lints : List Attribute → List Lexeme

@@ -1,4 +1,4 @@
--- What the `repr` lists of a type hold, and the type of its discriminants (Rust Reference, Representations; Primitive
+-- The content of a type's `repr` lists, and the type of its discriminants (Rust Reference, Representations; Primitive
 -- representations).
 use Rattle.std.specs.Prelude.{◌≡◌, ◌⊎◌, Bool, true, false, if◌then◌else◌, List, [], ◌∷◌, ◌++◌, codes, Option, None}
 use Rattle.std.specs.Option.{unwrap_or}
@@ -17,16 +17,16 @@ use Rattle.educe_discriminants.specs.declared.discriminant_type.DiscriminantType
 use Rattle.educe_discriminants.specs.declared.discriminant_type.DiscriminantType.TheVariants.{ISize}
 use Rattle.educe_discriminants.specs.Types.{type_named}
 
--- What stands in the bracket pair is these metas; what is no list of metas holds none.
+-- The content of the bracket pair is these metas; if it is no list of metas, there are none.
 abbrev pub HoldsMetas : List Token → List Meta → Type 0
 HoldsMetas tokens held = IsWhole metas (inside tokens) held ⊎ (((found : List Meta) → ¬ IsWhole metas (inside tokens) found) × (held ≡ []))
 
--- A list with this test of its path holds these metas; one that is no `repr` list holds none.
+-- The list holds these metas if the test of its path holds, else none.
 abbrev pub HoldsIf : Bool → List Token → List Meta → Type 0
 HoldsIf true tokens held = HoldsMetas tokens held
 HoldsIf false tokens held = held ≡ []
 
--- The attribute is a `repr` list of these metas; another attribute holds none.
+-- The attribute is a `repr` list of these metas; any other attribute holds none.
 abbrev pub Represents : Meta → List Meta → Type 0
 Represents (said.Word path) held = held ≡ []
 Represents (said.List path tokens place) held = HoldsIf (is_one_word (codes "repr") path.written.tokens) tokens.tokens held
@@ -39,13 +39,13 @@ pub data AreHeld : List Attribute → List Meta → Type 0 where
   none_left : AreHeld [] []
   one_more : (a : Attribute) (more : List Attribute) (own held : List Meta) → Represents a.meta own → AreHeld more held → AreHeld (a ∷ more) (own ++ held)
 
--- The integer type of this name, where the tokens are one word.
+-- The integer type with this name, if the tokens are one word.
 abbrev pub type_of_word : List Token → Option DiscriminantType
 type_of_word [] = None
 type_of_word (t ∷ []) = if accepts AnyWord t then type_named t.spelling else None
 type_of_word (t ∷ u ∷ more) = None
 
--- The integer type that a meta names: a path of one word.
+-- The integer type that a meta names, if it is a path of one word.
 abbrev pub type_of : Meta → Option DiscriminantType
 type_of (said.Word path) = type_of_word path.written.tokens
 type_of (said.List path tokens place) = None
@@ -53,11 +53,11 @@ type_of (said.NameValue path value place) = None
 type_of (said.Doc t) = None
 type_of (said.Unread path tokens place) = None
 
--- The last integer type that the metas name; `isize` where they name none.
+-- The last integer type that the metas name, or `isize`.
 abbrev pub last_type : List Meta → DiscriminantType
 last_type held = unwrap_or (last_or None (filter_map type_of held)) ISize
 
--- The type is the last integer type that the `repr` lists name; `isize` where they name none.
+-- The type is the last integer type that the `repr` lists name, or `isize`.
 pub record IsDiscriminantType (attributes : List Attribute) (ty : DiscriminantType) : Type 0 where
   pub held : List Meta
   pub are_held : AreHeld attributes held

@@ -1,4 +1,4 @@
-//! Default values as they are written (documentation of `educe`, Default).
+//! Default values, as generated code writes them (documentation of `educe`, Default).
 ghost use Rattle.std.specs.Prelude.{◌≡◌, IfOk, OnOk};
 ghost use Rattle.std.specs.Option.{option_copied};
 ghost use Rattle.educe_tokens.specs.Appends.{Appends};
@@ -92,9 +92,9 @@ fn converted(alloc: Global, value: &Written) -> Result<Written, AllocError>
     Ok(Written::new(TokenSlice::new(alloc, tokens)?))
 }
 
-/// A default value as it is written for a field of the type: one literal or truth value is converted
-/// by `Into::into`, unless the type is that of the value itself (documentation of `educe`, Default).
-/// No type is given for the value of a whole type, which fits none.
+/// The default value for a field of the type: one literal or truth value is converted by
+/// `Into::into`, unless the type is that of the value itself (documentation of `educe`, Default).
+/// The value of a whole type has no type to compare with.
 pub fn auto_adjust_expr(alloc: Global, expr: Expr, ty: Option<&Ty>) -> Result<Expr, AllocError>
     ensures { IfOk result (λ answer. spec.IsAdjusted expr (option_copied ty.entry) answer) }
 {

@@ -1,4 +1,4 @@
-//! Whether tokens may be copied to another place.
+//! The test whether tokens may be copied to another place.
 ghost use Rattle.std.specs.Prelude.{◌≡◌, [], None, Some, IfOk, if◌then◌else◌, reverse};
 ghost use Rattle.educe_tokens.specs.Brackets.{closes as closes_behind, kinds, open_after};
 ghost use Rattle.educe_tokens.specs.Copied.{may_be_copied};

@@ -37,8 +37,8 @@ fn one_says_packed(metas: &[Meta]) -> bool
 }
 
 /// Whether the attributes of a type pack it: a `repr` list holds `packed` or `packed(..)` (Rust
-/// Reference, The alignment modifiers). A list that is no list of metas does not. Fails only where
-/// memory runs out.
+/// Reference, The alignment modifiers). A list that is no list of metas does not. Fails only when
+/// out of memory.
 pub fn is_packed(alloc: Global, attributes: &Attributes) -> Result<bool, AllocError>
     ensures { IfOk result (λ packed. IsTrue packed ↔ spec.IsPacked attributes.now) }
 {

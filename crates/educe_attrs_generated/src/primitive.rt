@@ -78,7 +78,7 @@ fn without_module(tokens: &[Token]) -> &[Token]
     }
 }
 
-/// Whether the type is the primitive one of this name: by the word, or as one of the module
+/// Whether the type is the primitive type of this name, by its name or its path in the module
 /// `primitive` of `core` or `std`.
 pub fn is_primitive(ty: &[Token], name: &str) -> bool
     ensures { result ≡ spec.is_primitive (chars name.now) ty.now }

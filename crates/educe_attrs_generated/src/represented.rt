@@ -86,9 +86,9 @@ fn last_type(metas: &[Meta]) -> DiscriminantType
         .unwrap_or(DiscriminantType::ISize)
 }
 
-/// The type of an enum's discriminants: the last integer type in its `repr` lists, and `isize`
-/// where they name none (Rust Reference, Primitive representations). A list that is no list of
-/// metas names none. Fails only where memory runs out.
+/// The type of an enum's discriminants: the last integer type in its `repr` lists, or `isize` (Rust
+/// Reference, Primitive representations). A list that is no list of metas names none. Fails only
+/// when out of memory.
 pub fn discriminant_type(
     alloc: Global,
     attributes: &Attributes,

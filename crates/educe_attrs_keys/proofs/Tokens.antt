@@ -31,7 +31,7 @@ name_written : (key : IdentOrIndex) → IsTrue (is_written (name_lexemes key))
 name_written (Ident name) = written-append (key_lexeme (Ident name) ∷ []) (quoted (codes ":")) (printable-ident name.text name.spelled).written (printable-quoted (codes ":") refl).written
 name_written (Index index) = refl
 
--- so an initializer may, where the value may
+-- an initializer may stand beside others, where its value may
 pub field_written : (key : IdentOrIndex) (value : List Lexeme) → IsTrue (is_written value) → IsTrue (is_written (field_lexemes key value))
 field_written key value h =
     written-append (name_lexemes key ++ value) (quoted (codes ",")) (written-append (name_lexemes key) value (name_written key) h) (printable-quoted (codes ",") refl).written

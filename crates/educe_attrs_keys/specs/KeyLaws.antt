@@ -1,4 +1,4 @@
--- The token of a key may stand beside others, and its text lexes as it.
+-- The laws of keys as tokens: a key may stand beside other tokens, and its text lexes as it.
 use Rattle.std.proofs.Common.{◌≡◌, ℕ, ◌<◌, ◌^◌, [], ◌∷◌, subst}
 use Rattle.std.specs.Prelude.{nat_lt}
 use Rattle.std.specs.Fmt.{decimal}
@@ -13,14 +13,14 @@ use Rattle.educe_attrs_keys.specs.declared.ident_or_index.IdentOrIndex.{IdentOrI
 use Rattle.educe_attrs_keys.specs.declared.ident_or_index.IdentOrIndex.TheVariants.{Ident, Index}
 use Rattle.educe_attrs_keys.specs.Keys.{key_lexeme, key_lexemes}
 
--- The decimal digits of an index.
+-- The decimal digits of an index are printable.
 digits_printable : (index : ℕ) → index < 2 ^ 64 → IsPrintable (key_lexeme (Index index) ∷ [])
 digits_printable index small =
     let word : Word = record { text = decimal index; spelled = decimal_is_index index small } in
     let P : TokenKind → Type 0 = λ kind. IsPrintable (record { kind = kind; spelling = decimal index } ∷ []) in
     subst P (lawful_kinds.index (decimal index) (decimal_begins index small)) (printable-word word)
 
--- The token of a key may stand beside others, and its text lexes as it.
+-- The token of a key is printable.
 pub key_printable : (key : IdentOrIndex) → IsPrintable (key_lexemes key)
 key_printable (Ident name) = printable-ident name.text name.spelled
 key_printable (Index index) =

@@ -198,7 +198,7 @@ module _ (listed : List Trait) where
     unfolding read_place
     place_decided attributes = decided_then _ _ (listed_decided attributes) (λ found. decided_map _ _ (one_decided row which found None))
 
-    -- and so is what is said at a field
+    -- what is said at a field is decided
     pub field_decided : (attributes : List Attribute) → IsDecided (read_field which row listed attributes)
     unfolding read_field
     field_decided attributes = decided_then _ _ (listed_decided attributes) (λ found. decided_then (or_other which row listed found) _ (one_decided row which found None) (or_decided found))

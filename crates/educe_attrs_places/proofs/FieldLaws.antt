@@ -179,7 +179,7 @@ module _ (which : Trait) (row : Row) (listed : List Trait) (attributes : List At
   settings_read : NoCause (OfField which row listed attributes) → read_field which row listed attributes ≡ Ok (field_settings which row listed attributes)
   settings_read none = read_by none (read_field which row listed attributes) refl (field_decided listed which row attributes)
 
-  -- so they are what the metas say
+  -- where no cause stands, the settings of a field are what the metas say
   pub settings_said : NoCause (OfField which row listed attributes) → IsFieldSaid which row listed attributes (field_settings which row listed attributes)
   settings_said none = field_said (field_settings which row listed attributes) (settings_read none)
 
@@ -189,7 +189,7 @@ module _ (which : Trait) (row : Row) (listed : List Trait) (attributes : List At
       let metas = chained (read_among which row listed) (listed_metas listed attributes) w h in
       among_only metas.0 (metas_listed listed attributes metas.0 metas.1) w metas.2 v is
 
-  -- and nothing else is
+  -- where no cause stands, the metas say nothing but the settings of a field
   pub settings_only : NoCause (OfField which row listed attributes) → (v : FieldSettings) → IsFieldSaid which row listed attributes v → v ≡ field_settings which row listed attributes
   settings_only none v is = only_read (field_settings which row listed attributes) (settings_read none) v is
 

@@ -194,7 +194,7 @@ pub name_met : (attributes : List Attribute) (found : List Meta) → AreMetas at
 name_met attributes found are path n =
     record { meta = n.meta; among = metas_into attributes found are n.attribute n.found n.stands n.own n.meta n.among; named = n.named; path_is = n.path_is }
 
--- and the other way round
+-- the name of a meta of the place is a name in one of the lists
 pub name_in : (attributes : List Attribute) (found : List Meta) → AreMetas attributes found → (m : Meta) → IsAmong m found → (path : MetaPath) → IsNamed m → path_of m ≡ Some path → IsNameIn attributes path
 name_in attributes found are m among path named path_is =
     let from = metas_from attributes found are m among in

@@ -80,7 +80,7 @@ module _ (which : Trait) (row : Row) (listed : List Trait) (attributes : List At
   settings_read : NoCause (OfPlace which row listed attributes) → read_place which row listed attributes ≡ Ok (place_settings which row listed attributes)
   settings_read none = read_by none (read_place which row listed attributes) refl (place_decided listed which row attributes)
 
-  -- so they are what the metas say
+  -- where no cause stands, the settings of a place are what the metas say
   pub settings_said : NoCause (OfPlace which row listed attributes) → IsSaid which row attributes (place_settings which row listed attributes)
   settings_said none = place_said (place_settings which row listed attributes) (settings_read none)
 
@@ -97,7 +97,7 @@ module _ (which : Trait) (row : Row) (listed : List Trait) (attributes : List At
       let said = mapped or_nothing (read_one which row metas.0 None) w metas.2 in
       one_said metas.0 l.are said.0 said.1 v is ∙ said.2
 
-  -- and nothing else is
+  -- where no cause stands, the metas say nothing but the settings of a place
   pub settings_only : NoCause (OfPlace which row listed attributes) → (v : Values) → IsSaid which row attributes v → v ≡ place_settings which row listed attributes
   settings_only none v is = only_read (place_settings which row listed attributes) (settings_read none) v is
 

@@ -93,12 +93,12 @@ module _ (tokens : List Token) where
   educe_within : (a : Attribute) → IsMetaPlaced tokens a.meta → (group : List Token) → IsEduce a group → AreWithin tokens group
   educe_within a placed group educe = subst (AreWithin tokens) (sym educe.tokens_are) (subst (IsMetaPlaced tokens) educe.is placed).1
 
-  -- so do its metas
+  -- the metas of an attribute stand among the tokens
   own_metas_placed : (a : Attribute) → IsMetaPlaced tokens a.meta → (found : List Meta) → AreOwn a found → AreMetasPlaced tokens found
   own_metas_placed a placed found (AreOwn.educe group _ educe whole) = metas_within tokens group (educe_within a placed group educe) found whole
   own_metas_placed a placed _ (AreOwn.other none) = tt
 
-  -- and those of all lists
+  -- the metas of all lists stand among the tokens
   metas_placed : (attributes : List Attribute) → AreAttributesPlaced tokens attributes → (found : List Meta) → AreMetas attributes found → AreMetasPlaced tokens found
   metas_placed _ placed _ AreMetas.none_left = tt
   metas_placed _ placed _ (AreMetas.one_more a more front found own rest) =

@@ -85,7 +85,7 @@ module _ (row : Row) where
     param_one p m n m_is n_is (Ordered.earlier b) = absurd (once n p (reset_of params m n p m_is n_is b))
     param_one p m n m_is n_is (Ordered.later b) = absurd (once m p (reset_of params n m p n_is m_is b))
 
-    -- so the list gives one thing as the parameter
+    -- a list gives one value as the parameter
     given_one : (p : Param) (o q : Option (Given p)) → IsGiven row p params o → IsGiven row p params q → o ≡ q
     given_one p None None g h = refl
     given_one p None (Some y) g h = absurd (g h.0 h.1 h.2)

@@ -1,4 +1,4 @@
--- The traits that the attributes of a type list, and why they are rejected.
+-- The traits that the attributes of a type list, and the causes for which they are rejected.
 use Rattle.std.specs.Prelude.{◌≡◌, ◌≢◌, ℕ, true, if◌then◌else◌, List, [], ◌∷◌, ◌++◌, codes, chars, Option, Some, None, Result, Ok, Err, ◌⊎◌}
 use Rattle.std.specs.List.{filter_map, IsDistinct}
 use Rattle.std.specs.Result.{result_unwrap_or}
@@ -26,7 +26,7 @@ use Rattle.educe_attrs_places.specs.Named.{trait_of, IsReused}
 
 -- ---- rejections
 
--- An `educe` attribute of a type is no list: the words are `educe` and the form that it has to have.
+-- The rejection of an `educe` attribute of a type that is no list; the words are `educe` and the required form.
 abbrev pub format_incorrect : MetaPath → EduceError
 format_incorrect path = record {
   kind = EduceFormatIncorrect;
@@ -34,17 +34,17 @@ format_incorrect path = record {
   words = chars (codes "educe") ∷ chars (codes "#[educe(Trait1, Trait2, ..., TraitN)]") ∷ [];
 }
 
--- A source that ends there lists no trait.
+-- The rejection of a type that lists no trait, in a source with this end.
 abbrev pub not_set_up : ℕ → EduceError
 not_set_up end = record { kind = DeriveAttributeNotSetUpYet; span = record { start = 0; end = end }; words = [] }
 
--- ---- the program
+-- ---- the computation
 
--- The path of an attribute without a list is not `educe`.
+-- Rejects an attribute without a list whose path is `educe`.
 abbrev pub checked_other : MetaPath → Result (Unit {0}) Stop
 checked_other path = if is_educe path then Err (Refused (format_incorrect path)) else Ok tt
 
--- An attribute that is `educe` is a list.
+-- Rejects an `educe` attribute that is no list.
 abbrev pub checked_list : Meta → Result (Unit {0}) Stop
 checked_list (said.Word path) = checked_other path
 checked_list (said.List path tokens place) = Ok tt
@@ -57,7 +57,7 @@ abbrev pub checked_lists : List Attribute → Result (Unit {0}) Stop
 checked_lists [] = Ok tt
 checked_lists (a ∷ more) = and_then (λ _. checked_lists more) (checked_list a.meta)
 
--- The traits with one more, if it is one and does not stand there yet.
+-- The traits with one more, if the path names one that is not listed yet.
 abbrev pub with_trait : List Trait → MetaPath → Option Trait → Result (List Trait) Stop
 with_trait before path None = Err (Refused (at_name UnsupportedTrait path))
 with_trait before path (Some which) = if is_listed before which then Err (Refused (at_name ReuseATrait path)) else Ok (before ++ which ∷ [])
@@ -79,23 +79,23 @@ abbrev pub traits_of : List Trait → List Meta → Result (List Trait) Stop
 traits_of before [] = Ok before
 traits_of before (m ∷ ms) = and_then (λ found. traits_of found ms) (with_listed before m)
 
--- There is one.
+-- The traits, if there is at least one.
 abbrev pub if_set_up : ℕ → List Trait → Result (List Trait) Stop
 if_set_up end [] = Err (Refused (not_set_up end))
 if_set_up end (t ∷ ts) = Ok (t ∷ ts)
 
--- What the attributes of a type list, in a source that ends there.
+-- The traits that the attributes of a type list, in a source with this end.
 unfoldable pub read_listing : List Attribute → ℕ → Result (List Trait) Stop
 read_listing attributes end =
     and_then (λ _. and_then (λ metas. and_then (if_set_up end) (traits_of [] metas)) (all_metas [] attributes)) (checked_lists attributes)
 
--- ---- what they list
+-- ---- the listed traits
 
--- The traits of the metas of a type, in their order; none where a list is no list of metas.
+-- The traits that the metas of a type name, in their order; none where a list is no list of metas.
 unfoldable pub listed_traits : List Attribute → List Trait
 listed_traits attributes = filter_map trait_of (result_unwrap_or (all_metas [] attributes) [])
 
--- The type lists these traits: those that its metas name, in their order, each once and at least one.
+-- The type lists these traits: those that its metas name, in their order, at least one and each once.
 pub record IsListing (attributes : List Attribute) (traits : List Trait) : Type 0 where
   pub found : List Meta
   pub are : AreMetas attributes found
@@ -103,7 +103,7 @@ pub record IsListing (attributes : List Attribute) (traits : List Trait) : Type 
   pub once : IsDistinct same_trait traits
   pub some_listed : traits ≢ []
 
--- ---- why they are rejected
+-- ---- causes of rejection
 
 -- The attribute is `educe` with this path, and no list.
 pub data IsBareEduce (path : MetaPath) : Meta → Type 0 where
@@ -111,8 +111,8 @@ pub data IsBareEduce (path : MetaPath) : Meta → Type 0 where
   name_value : (value : Expr) (place : Span) → is_educe path ≡ true → IsBareEduce path (said.NameValue path value place)
   unread : (tokens : Written) (place : Span) → is_educe path ≡ true → IsBareEduce path (said.Unread path tokens place)
 
--- Why what a type lists is rejected: an `educe` attribute is no list, or no list of metas; a meta is of no trait; or a trait is
--- listed twice.
+-- The causes for which a type's list is rejected: an `educe` attribute is no list, or no list of metas; a meta names no
+-- trait; or a trait is listed twice.
 pub data IsListingCause (attributes : List Attribute) : EduceError → Type 0 where
   format : (a : Attribute) (path : MetaPath) → IsAmong a attributes → IsBareEduce path a.meta → IsListingCause attributes (format_incorrect path)
   list : {e : EduceError} → IsListCause attributes e → IsListingCause attributes e
@@ -127,6 +127,6 @@ pub record IsNotSetUp (attributes : List Attribute) : Type 0 where
   pub none_listed : filter_map trait_of found ≡ []
   pub no_other : NoCause (IsListingCause attributes)
 
--- Why the attributes of a type are rejected in a source that ends there.
+-- The causes for which the attributes of a type are rejected, in a source with this end.
 abbrev pub OfListing : List Attribute → ℕ → Cause
 OfListing attributes end = λ e. IsListingCause attributes e ⊎ (IsNotSetUp attributes × (e ≡ not_set_up end))

@@ -1,4 +1,4 @@
--- The metas of the `educe` lists of a place, and why a list has none.
+-- The metas of the `educe` lists of a place, and the causes for which a list has none.
 use Rattle.std.specs.Prelude.{◌≡◌, ◌≢◌, Bool, true, if◌then◌else◌, List, [], ◌∷◌, ◌++◌, codes, Some, Result, Ok}
 use Rattle.educe_tokens.specs.declared.error.EduceError.{EduceError}
 use Rattle.educe_tokens.specs.declared.error.Kind.TheVariants.{Alloc}
@@ -20,13 +20,13 @@ use Rattle.educe_attrs_values.specs.Metas.{IsNamed}
 use Rattle.educe_attrs_rows.specs.Metas.{metas_in}
 use Rattle.educe_attrs_values.specs.Words.{path_of}
 
--- ---- the program
+-- ---- the computation
 
 -- The path is `educe`.
 abbrev pub is_educe : MetaPath → Bool
 is_educe path = is_one_word (codes "educe") path.written.tokens
 
--- The metas of an `educe` list; any other attribute of a place has none.
+-- The metas of an `educe` list; any other attribute has none.
 abbrev pub metas_of : Meta → Result (List Meta) Stop
 metas_of (said.Word path) = Ok []
 metas_of (said.List path tokens place) = if is_educe path then metas_in tokens.tokens else Ok []
@@ -34,14 +34,14 @@ metas_of (said.NameValue path value place) = Ok []
 metas_of (said.Doc t) = Ok []
 metas_of (said.Unread path tokens place) = Ok []
 
--- Those of several attributes count as one list: these, and then those of the attributes.
+-- The metas so far, followed by those of the attributes: several lists of one place count as one.
 abbrev pub all_metas : List Meta → List Attribute → Result (List Meta) Stop
 all_metas found [] = Ok found
 all_metas found (a ∷ more) = and_then (λ front. all_metas (found ++ front) more) (metas_of a.meta)
 
--- ---- what they are
+-- ---- the metas
 
--- The tokens of an `educe` list.
+-- The attribute is an `educe` list with these tokens.
 pub record IsEduce (a : Attribute) (tokens : List Token) : Type 0 where
   pub path : MetaPath
   pub written : Written
@@ -50,17 +50,17 @@ pub record IsEduce (a : Attribute) (tokens : List Token) : Type 0 where
   pub tokens_are : tokens ≡ written.tokens
   pub named : is_educe path ≡ true
 
--- The metas of an attribute: those of an `educe` list, and of any other none.
+-- The metas of an attribute: those of an `educe` list; any other attribute has none.
 pub data AreOwn (a : Attribute) : List Meta → Type 0 where
   educe : (tokens : List Token) (found : List Meta) → IsEduce a tokens → IsWhole metas (inside tokens) found → AreOwn a found
   other : ((tokens : List Token) → IsEduce a tokens → ⊥) → AreOwn a []
 
--- The metas of a place, of all its `educe` lists together.
+-- The metas of all `educe` lists of a place together.
 pub data AreMetas : List Attribute → List Meta → Type 0 where
   none_left : AreMetas [] []
   one_more : (a : Attribute) (more : List Attribute) (front found : List Meta) → AreOwn a front → AreMetas more found → AreMetas (a ∷ more) (front ++ found)
 
--- A meta of one of the lists has this name.
+-- The path is that of a meta in one of the lists.
 pub record IsNameIn (attributes : List Attribute) (path : MetaPath) : Type 0 where
   pub attribute : Attribute
   pub found : List Meta
@@ -71,7 +71,7 @@ pub record IsNameIn (attributes : List Attribute) (path : MetaPath) : Type 0 whe
   pub named : IsNamed meta
   pub path_is : path_of meta ≡ Some path
 
--- One of the lists is rejected for this, since it is no list of metas.
+-- The error with which one of the lists is rejected, since it is no list of metas.
 pub record IsListCause (attributes : List Attribute) (e : EduceError) : Type 0 where
   pub attribute : Attribute
   pub tokens : List Token

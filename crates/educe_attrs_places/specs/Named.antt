@@ -1,4 +1,4 @@
--- The traits that metas are of.
+-- The traits that metas name.
 use Rattle.std.specs.Prelude.{◌≡◌, Bool, true, false, if◌then◌else◌, List, [], ◌∷◌, ◌++◌, Option, Some, None, Result, Ok, Err}
 use Rattle.educe_tokens.specs.declared.error.Kind.TheVariants.{UnsupportedTrait, TraitNotUsed}
 use Rattle.educe_bound_traits.specs.declared.traits.Trait.{Trait}
@@ -12,7 +12,7 @@ use Rattle.educe_attrs_values.specs.declared.stop.Stop.{Stop}
 use Rattle.educe_attrs_values.specs.declared.stop.Stop.TheVariants.{Refused}
 use Rattle.educe_attrs_values.specs.Refusals.{at_name}
 
--- The trait that a meta is of.
+-- The trait that a meta names, if it names one.
 abbrev pub trait_of : Meta → Option Trait
 trait_of (said.Word path) = trait_named path
 trait_of (said.List path tokens place) = trait_named path
@@ -20,7 +20,7 @@ trait_of (said.NameValue path value place) = trait_named path
 trait_of (said.Doc t) = None
 trait_of (said.Unread path tokens place) = None
 
--- It is this trait.
+-- The optional trait is this one.
 abbrev pub is_trait : Trait → Option Trait → Bool
 is_trait which None = false
 is_trait which (Some other) = same_trait which other
@@ -29,7 +29,7 @@ is_trait which (Some other) = same_trait which other
 abbrev pub is_of : Trait → Meta → Bool
 is_of which m = is_trait which (trait_of m)
 
--- Two metas are of the trait, the second of which is this one.
+-- Two metas are of the trait, and this one is the later.
 pub record IsReused (which : Trait) (found : List Meta) (later : Meta) : Type 0 where
   pub front : List Meta
   pub earlier : Meta
@@ -39,9 +39,9 @@ pub record IsReused (which : Trait) (found : List Meta) (later : Meta) : Type 0 
   pub earlier_is : is_of which earlier ≡ true
   pub later_is : is_of which later ≡ true
 
--- ---- whether they are listed
+-- ---- the check that traits are listed
 
--- The rejection at the name of a meta, if it is none of these traits.
+-- The rejection at the name of a meta, unless it names one of the listed traits.
 abbrev pub unless_listed : List Trait → MetaPath → Option Trait → Result (Unit {0}) Stop
 unless_listed listed path None = Err (Refused (at_name UnsupportedTrait path))
 unless_listed listed path (Some which) = if is_listed listed which then Ok tt else Err (Refused (at_name TraitNotUsed path))
@@ -58,7 +58,7 @@ checked listed (said.NameValue path value place) = checked_path listed path
 checked listed (said.Doc t) = Ok tt
 checked listed (said.Unread path tokens place) = Ok tt
 
--- Each meta is of a listed trait.
+-- Rejects the first of the metas that names no listed trait.
 abbrev pub all_checked : List Trait → List Meta → Result (Unit {0}) Stop
 all_checked listed [] = Ok tt
 all_checked listed (m ∷ ms) = and_then (λ _. all_checked listed ms) (checked listed m)

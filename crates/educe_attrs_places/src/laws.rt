@@ -1,4 +1,4 @@
-//! The laws of attributes: functions that do nothing, whose contracts are the laws.
+//! The laws of attributes: each function does nothing, and its contract is the law.
 ghost use Rattle.educe_attrs_places.specs.Reports.{ReportLaws};
 ghost use Rattle.educe_attrs_places.specs.SettingLaws.{SettingLaws};
 
@@ -9,8 +9,9 @@ pub fn report_laws()
     ensures { ReportLaws }
 {}
 
-/// A meta says one thing. Where attributes have no cause, the settings are what they say, and nothing
-/// else is. The text of a method is among their tokens, or it is that of a string among these.
+/// A meta says one thing. Where attributes have no cause of rejection, the settings are exactly
+/// what they say. The tokens of a method are among those of the attributes, or are those of the
+/// text of a string among them.
 pub fn setting_laws()
     ensures { SettingLaws }
 {}

@@ -11,7 +11,7 @@ use educe_syntax::{Attribute, Meta, MetaPath};
 use educe_tokens::{EduceError, Kind, Seq, Span, Spelling};
 use std::alloc::{AllocError, Global};
 
-/// That an `educe` attribute of a type is no list.
+/// The rejection of an `educe` attribute of a type that is no list.
 fn format_incorrect(alloc: Global, path: &MetaPath) -> Result<EduceError, AllocError>
     ensures { IfOk result (λ e. e ≡ spec.format_incorrect path.now) }
 {
@@ -25,7 +25,7 @@ fn format_incorrect(alloc: Global, path: &MetaPath) -> Result<EduceError, AllocE
     })
 }
 
-/// That the path of an attribute without a list is not `educe`, or its rejection.
+/// Rejects an attribute without a list whose path is `educe`.
 fn check_other(alloc: Global, path: &MetaPath) -> Result<(), Stop>
     ensures { Gives Stop.Memory (spec.checked_other path.now) result }
 {
@@ -36,7 +36,7 @@ fn check_other(alloc: Global, path: &MetaPath) -> Result<(), Stop>
     }
 }
 
-/// That an attribute that is `educe` is a list, or its rejection.
+/// Rejects an `educe` attribute that is no list.
 fn check_list(alloc: Global, meta: &Meta) -> Result<(), Stop>
     ensures { Gives Stop.Memory (spec.checked_list meta.now) result }
 {
@@ -49,7 +49,7 @@ fn check_list(alloc: Global, meta: &Meta) -> Result<(), Stop>
     }
 }
 
-/// The same of each attribute.
+/// Rejects each `educe` attribute that is no list.
 fn check_lists(alloc: Global, attributes: &[Attribute]) -> Result<(), Stop>
     ensures { Gives Stop.Memory (spec.checked_lists attributes.now) result }
 {
@@ -74,7 +74,7 @@ fn add_named(alloc: Global, path: &MetaPath, before: Traits) -> Result<Traits, S
     Ok(traits)
 }
 
-/// The same of a meta.
+/// The traits, followed by the one that the meta names.
 fn add_listed(alloc: Global, meta: &Meta, before: Traits) -> Result<Traits, Stop>
     ensures { Gives Stop.Memory (spec.with_listed before meta.now) result }
 {
@@ -122,7 +122,7 @@ fn read_listing(alloc: Global, attributes: &[Attribute], end: u32) -> Result<Tra
 
 /// The traits that the attributes of a type list, as they are written (documentation of `educe`,
 /// Traits). `end` is the end of the last token of the source. The attributes are rejected exactly
-/// where they have a cause, or memory fails.
+/// where they have a cause, or when out of memory.
 pub fn type_listing(alloc: Global, attributes: &[Attribute], end: u32) -> Result<Traits, Stop>
     ensures listed { IfOk result (λ traits. traits ≡ spec.listed_traits attributes.now) }
     ensures listing { IfOk result (λ traits. spec.IsListing attributes.now traits) }

@@ -1,4 +1,4 @@
-//! The traits that metas are of.
+//! The traits that metas name.
 ghost use Rattle.std.specs.Prelude.{◌≡◌};
 ghost use Rattle.educe_attrs_values.specs.Chains.{Gives};
 ghost use Rattle.educe_attrs_places.specs.Named as spec;
@@ -9,7 +9,7 @@ use educe_syntax::{Meta, MetaPath};
 use educe_tokens::Kind;
 use std::alloc::Global;
 
-/// The trait that a meta is of.
+/// The trait that a meta names, if it names one.
 pub fn trait_of(meta: &Meta) -> Option<Trait>
     ensures { result ≡ spec.trait_of meta.now }
 {
@@ -32,7 +32,7 @@ pub fn is_of(which: Trait, meta: &Meta) -> bool
     }
 }
 
-/// That the path names a listed trait, or its rejection.
+/// Rejects a path that names no listed trait.
 fn check_path(alloc: Global, listed: &[Trait], path: &MetaPath) -> Result<(), Stop>
     ensures { Gives Stop.Memory (spec.checked_path listed.now path.now) result }
 {
@@ -46,7 +46,7 @@ fn check_path(alloc: Global, listed: &[Trait], path: &MetaPath) -> Result<(), St
     }
 }
 
-/// The same of a meta.
+/// Rejects a meta that names no listed trait.
 fn check_meta(alloc: Global, listed: &[Trait], meta: &Meta) -> Result<(), Stop>
     ensures { Gives Stop.Memory (spec.checked listed.now meta.now) result }
 {
@@ -59,7 +59,7 @@ fn check_meta(alloc: Global, listed: &[Trait], meta: &Meta) -> Result<(), Stop>
     }
 }
 
-/// The same of each meta.
+/// Rejects the first of the metas that names no listed trait.
 pub fn check_metas(alloc: Global, listed: &[Trait], metas: &[Meta]) -> Result<(), Stop>
     ensures { Gives Stop.Memory (spec.all_checked listed.now metas.now) result }
 {

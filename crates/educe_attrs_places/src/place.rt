@@ -11,7 +11,7 @@ use educe_bound::{Trait, is_listed};
 use educe_syntax::{Attribute, Meta};
 use std::alloc::Global;
 
-/// What the attributes of a field say of a trait.
+/// The settings of a trait at a field.
 #[derive(Drop)]
 pub struct FieldSettings {
     pub values: Values,
@@ -77,7 +77,7 @@ fn other_order(which: Trait) -> Option<Trait>
     }
 }
 
-/// The same, where both orders are listed.
+/// The other order, if both are listed.
 fn fallback(which: Trait, listed: &[Trait]) -> Option<Trait>
     ensures { result ≡ spec.fallback which listed.now }
 {

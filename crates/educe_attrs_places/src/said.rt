@@ -13,7 +13,7 @@ use educe_syntax::{Attribute, Meta, Metas};
 use educe_tokens::Kind;
 use std::alloc::Global;
 
-/// The metas of a place, each of which is of a listed trait.
+/// The metas of a place, if each names a listed trait.
 pub fn listed_metas(
     alloc: Global,
     listed: &[Trait],
@@ -45,7 +45,7 @@ fn said_once(
     }
 }
 
-/// The same of a meta of whatever trait.
+/// The values after one more meta, of any trait.
 fn next_said(
     alloc: Global,
     which: Trait,
@@ -62,7 +62,7 @@ fn next_said(
     }
 }
 
-/// What the only meta of the trait says; none where there is none.
+/// The values of the only meta of the trait, if there is one.
 pub fn read_one(
     alloc: Global,
     which: Trait,

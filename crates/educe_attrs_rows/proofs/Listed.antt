@@ -26,7 +26,7 @@ use Rattle.educe_attrs_rows.proofs.Named.{metas_named}
 pub whole_found : (tokens : List Token) (found : List Meta) → IsWhole metas tokens found → whole_metas tokens ≡ Ok found
 whole_found tokens found whole = ap (map_err Refused) (parsed_ok lawful_metas tokens found whole)
 
--- so is its error
+-- the error that a call of the parser answers is the program's
 pub whole_refused : (tokens : List Token) (e : EduceError) → IsParseCause metas tokens e → e.kind ≢ Alloc → whole_metas tokens ≡ Err (Refused e)
 whole_refused tokens e cause told = ap (map_err Refused) (parsed_err lawful_metas tokens e cause told)
 
@@ -53,7 +53,7 @@ named_answer tokens (Err s) h = tt
 pub metas_read : (tokens : List Token) (found : List Meta) → metas_in tokens ≡ Ok found → IsWhole metas (inside tokens) found
 metas_read tokens found h = whole_read (inside tokens) found h
 
--- those of the rule are read
+-- the metas of the rule are those that are read
 pub metas_back : (tokens : List Token) (found : List Meta) → IsWhole metas (inside tokens) found → metas_in tokens ≡ Ok found
 metas_back tokens found whole = whole_found (inside tokens) found whole
 

@@ -81,7 +81,7 @@ module _ (row : Row) where
       let r = chained (read_metas row name place) (metas_in tokens) v h in
       (r.0, metas_read tokens r.0 r.1, r.2)
 
-  -- those of the list are read
+  -- the metas of the list are read
   list_reads : (name : MetaPath) (tokens : List Token) (place : Span) (params : List Meta) → IsWhole metas (inside tokens) params → read_list row name tokens place ≡ read_metas row name place params
   list_reads name tokens place params h = ap (and_then (read_metas row name place)) (metas_back tokens params h)
 

@@ -178,7 +178,7 @@ module _ (row : Row) where
   give_cause : (p : Param) (path : MetaPath) (m : Meta) (e : EduceError) → give row p path m ≡ Err (Refused e) → IsValueCause (kind_of row p) path m e
   give_cause p path m e h = (lawful_kind (kind_of row p)).cause path m e (mapped_err (given_as row p m) (value_of (kind_of row p) path m) (Refused e) h)
 
-  -- and with such a cause it gives nothing
+  -- a meta that is rejected for its value gives nothing
   cause_gives : (p : Param) (path : MetaPath) (m : Meta) (e : EduceError) → IsValueCause (kind_of row p) path m e → (x : Given p) → Gives row p m x → ⊥
   cause_gives p path m e cause x gives = (lawful_kind (kind_of row p)).excludes path m e cause gives.value gives.holds
 
@@ -233,7 +233,7 @@ module _ (row : Row) (name : MetaPath) where
   added_has : (m : Meta) (v w : Values) (a : Added m v w) → given a.param w ≡ Some a.value
   added_has m v w a = ap (given a.param) a.new_is ∙ set_same a.param a.value v
 
-  -- so does each that stood there
+  -- each parameter that has a value keeps one
   added_keeps : (m : Meta) (v w : Values) → Added m v w → (p : Param) → has p v ≡ true → has p w ≡ true
   added_keeps m v w a p h = elim (set_other a.param p a.value v) [
     | inl same ↦ subst (λ q. has q w ≡ true) same (ap is_some (added_has m v w a))
@@ -286,7 +286,7 @@ module _ (row : Row) (name : MetaPath) where
         back_read = more.back_read;
       }
 
-  -- the same of a meta that is among them
+  -- a meta that is among those of the list passes
   pub passes_among : (m : Meta) (ms : List Meta) (v w : Values) (a : IsAmong m ms) → read_params row name ms v ≡ Ok w → Passes a.front m a.back v w
   passes_among m ms v w a h = passes a.front m a.back v w (subst (λ ms. read_params row name ms v ≡ Ok w) a.is h)
 

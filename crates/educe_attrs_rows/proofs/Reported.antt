@@ -40,7 +40,7 @@ list_message (said.NameValue path value place) e cause = absurd cause
 list_message (said.Doc t) e cause = absurd cause
 list_message (said.Unread path tokens place) e cause = absurd cause
 
--- those of a meta
+-- the causes of a meta have messages
 meta_message : (row : Row) (name : MetaPath) (meta : Meta) (e : EduceError) → IsMetaCause row name meta e → HasMessage e
 meta_message row name meta e (IsMetaCause.place empty) = record { kind = λ same. cc; words = refl }
 meta_message row name meta e (IsMetaCause.format some form) =
@@ -75,7 +75,7 @@ module _ {X : Type 0} (part : Values → X) (other : IsOther part) where
   shown_leaves (shown.Ident ident) values = other.name values (Some (shown.Ident ident))
   shown_leaves (shown.Bool b) values = other.ignore values (Some (not b))
 
-  -- so what stands behind `=` leaves it
+  -- a value behind `=` leaves this part of the values
   pub behind_leaves : (q : Equals) (b : Behind) → behind q ≡ Some b → Leaves b
   behind_leaves equals.Nothing b is = absurd (cc)
   behind_leaves equals.Truth b is = subst Leaves (same_Some kept b is) (λ v values. other.ignore values (Some (not v)))
@@ -132,7 +132,7 @@ module _ (tokens : List Token) where
   given_placed row params placed (Some r) gives =
       subst (λ (r : Ranked). IsBoundary tokens r.span.start) (sym gives.3.is) (meta_boundary tokens gives.0 (among_all (IsMetaPlaced tokens) gives.0 params placed gives.1))
 
-  -- so does the rank that a meta gives
+  -- the rank that a meta gives, if there is one, starts at a boundary
   pub rank_placed : (row : Row) (meta : Meta) → IsMetaPlaced tokens meta → (values : Values) → Says row meta values → RankPlaced values.rank
   rank_placed row _ placed _ (Says.bare path flag) = tt
   rank_placed row _ placed _ (Says.equals path x place b v is holds) = subst RankPlaced (sym (behind_leaves (λ (values : Values). values.rank) rank_other row.equals b is v (values_at place))) tt

@@ -1,4 +1,4 @@
--- What an attribute says, and why it is rejected.
+-- What an attribute says, and the causes for which it is rejected.
 use Rattle.std.specs.Prelude.{◌≡◌, ◌≢◌, Bool, true, false, List, [], ◌∷◌, ◌++◌, Option, Some, None, option_and_then}
 use Rattle.educe_tokens.specs.declared.error.EduceError.{EduceError}
 use Rattle.educe_tokens.specs.declared.error.Kind.TheVariants.{Alloc}
@@ -26,24 +26,24 @@ use Rattle.educe_attrs_rows.specs.Settings.{values_at, bare_values, Given, given
 
 -- ---- parameters
 
--- The parameter of the row that a meta is.
+-- The parameter of the row that the meta's path names.
 abbrev pub param_in : Row → Meta → Option Param
 param_in row m = option_and_then (param_of row) (path_of m)
 
--- The meta gives this as the parameter, since it has a value of the parameter's kind.
+-- The meta gives this value as the parameter: its own value of the parameter's kind.
 pub record Gives (row : Row) (p : Param) (m : Meta) (x : Given p) : Type 0 where
   pub value : ValueOf (kind_of row p)
   pub holds : Holds (kind_of row p) m value
   pub is : x ≡ given_as row p m value
 
--- It is what one of the metas gives that is the parameter, and none where none is.
+-- The optional value is what one of the metas gives as the parameter; it is absent where none of them is the parameter.
 abbrev pub IsGiven : Row → (p : Param) → List Meta → Option (Given p) → Type 0
 IsGiven row p params None = (m : Meta) → IsAmong m params → param_in row m ≡ Some p → ⊥
 IsGiven row p params (Some x) = (m : Meta) × IsAmong m params × (param_in row m ≡ Some p) × Gives row p m x
 
 -- ---- what a meta says
 
--- The metas in its bracket pair.
+-- The content of the meta's brackets is these metas.
 abbrev pub Lists : Meta → List Meta → Type 0
 Lists (said.Word path) params = ⊥
 Lists (said.List path tokens place) params = IsWhole metas (inside tokens.tokens) params
@@ -51,7 +51,7 @@ Lists (said.NameValue path value place) params = ⊥
 Lists (said.Doc t) params = ⊥
 Lists (said.Unread path tokens place) params = ⊥
 
--- Another meta before it in the list is the same parameter.
+-- An earlier meta of the list is the same parameter as this one.
 pub record IsReset (row : Row) (params : List Meta) (later : Meta) (p : Param) : Type 0 where
   pub front : List Meta
   pub earlier : Meta
@@ -61,13 +61,13 @@ pub record IsReset (row : Row) (params : List Meta) (later : Meta) (p : Param) :
   pub earlier_is : param_in row earlier ≡ Some p
   pub later_is : param_in row later ≡ Some p
 
--- No meta stands in the list.
+-- The list of metas is empty.
 abbrev pub is_bare : List Meta → Bool
 is_bare [] = true
 is_bare (m ∷ ms) = false
 
--- The values are what the metas of a list give: each is a parameter of the row, none stands there twice, and where the trait
--- alone may not stand, there is one.
+-- The values are those that the metas of a list give: each is a parameter of the row, none occurs twice, and the list
+-- is not empty where the trait alone is not allowed.
 pub record AreGiven (row : Row) (params : List Meta) (values : Values) : Type 0 where
   pub form : params ≡ [] → row.flag ≡ true
   pub known : (m : Meta) → IsAmong m params → param_in row m ≡ None → ⊥
@@ -75,8 +75,8 @@ pub record AreGiven (row : Row) (params : List Meta) (values : Values) : Type 0 
   pub gives : (p : Param) → IsGiven row p params (given p values)
   pub flag : values.flag ≡ is_bare params
 
--- What a meta says, by the row of its place: nothing, where it is the trait alone; what its value behind `=` means there; or
--- what the parameters in its list give. The place is that of the whole meta.
+-- What a meta says, by the row of its place: nothing, where it is the trait alone; what its value after `=` means
+-- there; or what the parameters in its list give. The span is that of the whole meta.
 pub data Says (row : Row) : Meta → Values → Type 0 where
   bare : (path : MetaPath) → row.flag ≡ true → Says row (said.Word path) (bare_values (meta_place (said.Word path)))
   equals : (path : MetaPath) (x : Expr) (place : Span) (b : Behind) (v : ValueOf b.kind) → behind row.equals ≡ Some b → Holds b.kind (said.NameValue path x place) v
@@ -84,15 +84,16 @@ pub data Says (row : Row) : Meta → Values → Type 0 where
   params : (path : MetaPath) (tokens : Written) (place : Span) (found : List Meta) (values : Values) → IsWhole metas (inside tokens.tokens) found
       → AreGiven row found values → values.span ≡ place → Says row (said.List path tokens place) values
 
--- ---- why it is rejected
+-- ---- causes of rejection
 
--- The form is none of the row: the trait alone, or an empty list; or a parameter.
+-- The form is not in the row: the trait alone or an empty list where these are not allowed, or a list with a parameter
+-- that is not.
 pub data HasWrongForm (row : Row) : Meta → Type 0 where
   bare : (path : MetaPath) → row.flag ≡ false → HasWrongForm row (said.Word path)
   empty : (meta : Meta) → Lists meta [] → row.flag ≡ false → HasWrongForm row meta
   param : (meta m : Meta) (params : List Meta) → Lists meta params → IsAmong m params → param_in row m ≡ None → HasWrongForm row meta
 
--- It has a value behind `=`.
+-- The meta has a value after `=`.
 abbrev pub HasValue : Meta → Type 0
 HasValue (said.Word path) = ⊥
 HasValue (said.List path tokens place) = ⊥
@@ -100,7 +101,7 @@ HasValue (said.NameValue path value place) = Unit {0}
 HasValue (said.Doc t) = ⊥
 HasValue (said.Unread path tokens place) = ⊥
 
--- The parser rejects what stands in its brackets so.
+-- The parser rejects the content of the meta's brackets with this error.
 abbrev pub IsListCause : Meta → EduceError → Type 0
 IsListCause (said.Word path) e = ⊥
 IsListCause (said.List path tokens place) e = IsParseCause metas (inside tokens.tokens) e × (e.kind ≢ Alloc)
@@ -108,8 +109,7 @@ IsListCause (said.NameValue path value place) e = ⊥
 IsListCause (said.Doc t) e = ⊥
 IsListCause (said.Unread path tokens place) e = ⊥
 
--- Why a meta of the trait that is named so is rejected, by the row of its place: the place allows no form; its form is not
--- allowed; a parameter is there twice; a value is rejected; or its own list is no list of metas.
+-- The causes for which a meta of the trait with this name is rejected, by the row of its place.
 pub data IsMetaCause (row : Row) (name : MetaPath) (meta : Meta) : EduceError → Type 0 where
   place : is_empty row ≡ true → IsMetaCause row name meta (incorrect_place name)
   format : is_empty row ≡ false → HasWrongForm row meta → IsMetaCause row name meta (incorrect_format row name)
@@ -121,15 +121,15 @@ pub data IsMetaCause (row : Row) (name : MetaPath) (meta : Meta) : EduceError �
   equals : {e : EduceError} (b : Behind) → is_empty row ≡ false → HasValue meta → behind row.equals ≡ Some b → IsValueCause b.kind name meta e → IsMetaCause row name meta e
   list : {e : EduceError} → is_empty row ≡ false → IsListCause meta e → IsMetaCause row name meta e
 
--- The same of the meta's own name.
+-- The causes for which a meta is rejected under its own name, by the row of its place.
 abbrev pub IsOwnCause : Row → Meta → EduceError → Type 0
 IsOwnCause row meta e = (name : MetaPath) × (path_of meta ≡ Some name) × IsMetaCause row name meta e
 
--- Why a meta is rejected, by the row of its place. Any may be rejected for out of memory.
+-- The causes for which a meta is rejected, by the row of its place. Out of memory may end any call.
 pub data IsCause (row : Row) (meta : Meta) : EduceError → Type 0 where
   own : {e : EduceError} → IsOwnCause row meta e → IsCause row meta e
   memory : IsCause row meta (placeless Alloc)
 
--- No cause stands but out of memory.
+-- The meta has no cause of rejection but out of memory.
 pub record HasNoCause (row : Row) (meta : Meta) : Type 0 where
   pub none_stands : (e : EduceError) → IsCause row meta e → e.kind ≡ Alloc

@@ -9,10 +9,10 @@ use Rattle.educe_attrs_values.specs.Chains.{map_err}
 use Rattle.educe_attrs_values.specs.Decisions.{parsed}
 use Rattle.educe_attrs_values.specs.Sources.{inside}
 
--- The metas that tokens are.
+-- The metas that the whole list of tokens is, or its rejection.
 abbrev pub whole_metas : List Token → Result (List Meta) Stop
 whole_metas tokens = map_err Refused (parsed lawful_metas tokens)
 
--- The metas in a bracket pair.
+-- The metas in a bracket pair, or their rejection.
 abbrev pub metas_in : List Token → Result (List Meta) Stop
 metas_in tokens = whole_metas (inside tokens)

@@ -18,7 +18,7 @@ word_of Method = codes "method"
 word_of Rank = codes "rank"
 word_of Bound = codes "bound"
 
--- The other word that names it, `rename` for `name` and `expr` for `expression`; otherwise the same word.
+-- The alternative word that names a parameter; the word itself where it has none.
 abbrev pub alias_of : Param → List ℕ
 alias_of Name = codes "rename"
 alias_of NamedField = codes "named_field"

@@ -1,4 +1,4 @@
--- What an attribute of a trait says.
+-- The values that an attribute of a trait sets.
 use Rattle.std.specs.Prelude.{ℤ, Bool, true, false, not, Option, Some, None, is_some, Result}
 use Rattle.educe_tokens.specs.declared.span.Span.{Span}
 use Rattle.educe_syntax.specs.Expr.{Expr}
@@ -25,9 +25,9 @@ use Rattle.educe_attrs_rows.specs.declared.row.Row.{Row}
 use Rattle.educe_attrs_rows.specs.declared.values.Rank.{Rank as Ranked}
 use Rattle.educe_attrs_rows.specs.declared.values.Values.{Values}
 
--- ---- values
+-- ---- values of attributes
 
--- Nothing yet, of an attribute at this place.
+-- The values of an attribute with this span, none of which is set yet.
 abbrev pub values_at : Span → Values
 values_at place = record {
   name = None;
@@ -42,15 +42,15 @@ values_at place = record {
   span = place;
 }
 
--- Nothing, where no attribute stands.
+-- The values where there is no attribute.
 abbrev pub no_values : Values
 no_values = values_at (record { start = 0; end = 0 })
 
--- The trait alone, or an empty list.
+-- The values of the trait alone or of an empty list.
 abbrev pub bare_values : Span → Values
 bare_values place = record (values_at place) { flag = true }
 
--- What a parameter gives.
+-- The type of the value that a parameter gives.
 abbrev pub Given : Param → Type 0
 Given Name = IdentOrBool
 Given NamedField = Bool
@@ -72,7 +72,7 @@ given Method values = values.method
 given Rank values = values.rank
 given Bound values = values.bound
 
--- The values, where the parameter gives this.
+-- The values with this one set for the parameter.
 abbrev pub set : (p : Param) → Given p → Values → Values
 set Name x values = record values { name = Some x }
 set NamedField b values = record values { named_field = Some b }
@@ -87,7 +87,7 @@ set Bound x values = record values { bound = Some x }
 abbrev pub has : Param → Values → Bool
 has p values = is_some (given p values)
 
--- ---- the value of a parameter
+-- ---- values of parameters
 
 -- The kind of the value of `name`.
 abbrev pub name_kind : Option NameKind → ValueKind
@@ -95,13 +95,13 @@ name_kind None = value.Name
 name_kind (Some named.Ident) = value.Ident
 name_kind (Some (named.Name b)) = value.Name
 
--- The name, of its value.
+-- The name or truth value that a value of `name` is.
 abbrev pub name_as : (kind : Option NameKind) → ValueOf (name_kind kind) → IdentOrBool
 name_as None x = x
 name_as (Some named.Ident) ident = shown.Ident ident
 name_as (Some (named.Name b)) x = x
 
--- The kind of a parameter's value.
+-- The kind of a parameter's value, by the row.
 abbrev pub kind_of : Row → Param → ValueKind
 kind_of row Name = name_kind row.name
 kind_of row NamedField = value.Truth
@@ -112,11 +112,11 @@ kind_of row Method = value.Path
 kind_of row Rank = value.Integer
 kind_of row Bound = value.Bound
 
--- An integer, and the place of the parameter that gives it.
+-- The rank with the place of the parameter that gives it.
 abbrev pub ranked : Meta → ℤ → Ranked
 ranked meta n = record { number = n; span = meta_place meta }
 
--- What a parameter gives, of its value.
+-- What a parameter gives, computed from its value.
 abbrev pub given_as : (row : Row) (p : Param) → Meta → ValueOf (kind_of row p) → Given p
 given_as row Name meta x = name_as row.name x
 given_as row NamedField meta b = b
@@ -127,21 +127,21 @@ given_as row Method meta x = x
 given_as row Rank meta n = ranked meta n
 given_as row Bound meta x = x
 
--- What a meta gives as this parameter.
+-- What a meta gives as this parameter, or its rejection.
 abbrev pub give : (row : Row) (p : Param) → MetaPath → Meta → Result (Given p) Stop
 give row p path meta = map_ok (given_as row p meta) (value_of (kind_of row p) path meta)
 
--- `name`.
+-- What the parameter `name` gives.
 abbrev pub name_by : Option NameKind → MetaPath → Meta → Result IdentOrBool Stop
 name_by None path meta = value_of value.Name path meta
 name_by (Some named.Ident) path meta = map_ok shown.Ident (value_of value.Ident path meta)
 name_by (Some (named.Name b)) path meta = value_of value.Name path meta
 
--- `rank`.
+-- What the parameter `rank` gives.
 abbrev pub rank_of : MetaPath → Meta → Result Ranked Stop
 rank_of path meta = map_ok (ranked meta) (value_of value.Integer path meta)
 
--- ---- the values with that of one more parameter
+-- ---- values with one more parameter set
 
 -- The settings with a name.
 abbrev pub with_name : Option NameKind → MetaPath → Meta → Values → Result Values Stop
@@ -186,39 +186,39 @@ with_param row Method path meta values = with_method path meta values
 with_param row Rank path meta values = with_rank path meta values
 with_param row Bound path meta values = with_bound path meta values
 
--- ---- the value behind `=`
+-- ---- the value after `=`
 
--- A value that may stand there: its kind, and what it says.
+-- A value that may stand after `=`: its kind, and the values that it sets.
 pub record Behind : Type 0 where
   pub kind : ValueKind
   pub says : ValueOf kind → Values → Values
 
--- The field is kept, or it is ignored.
+-- The values with the field kept or ignored.
 abbrev pub with_kept : Bool → Values → Values
 with_kept kept values = record values { ignore = Some (not kept) }
 
--- The name that is shown, or whether the field is kept.
+-- The values with the shown name set, or with the field kept or ignored.
 abbrev pub with_shown_or_kept : IdentOrBool → Values → Values
 with_shown_or_kept (shown.Ident ident) values = record values { name = Some (shown.Ident ident) }
 with_shown_or_kept (shown.Bool kept) values = with_kept kept values
 
--- Whether the field is kept.
+-- The value after `=` that says whether the field is kept.
 abbrev pub kept : Behind
 kept = record { kind = value.Truth; says = with_kept }
 
--- The name that is shown.
+-- The value after `=` that is the shown name.
 abbrev pub shown_name : Behind
 shown_name = record { kind = value.Ident; says = λ ident values. record values { name = Some (shown.Ident ident) } }
 
--- The one or the other.
+-- The value after `=` that is the shown name, or says whether the field is kept.
 abbrev pub shown_or_kept : Behind
 shown_or_kept = record { kind = value.Name; says = with_shown_or_kept }
 
--- The default value.
+-- The value after `=` that is the default value.
 abbrev pub default_value : Behind
 default_value = record { kind = value.Expr; says = λ x values. record values { expression = Some x } }
 
--- The value that may stand there, if one may.
+-- The value that may stand after `=`, if one may.
 abbrev pub behind : Equals → Option Behind
 behind equals.Nothing = None
 behind equals.Truth = Some kept
@@ -226,6 +226,6 @@ behind equals.Ident = Some shown_name
 behind equals.Name = Some shown_or_kept
 behind equals.Expr = Some default_value
 
--- What it says.
+-- The values that the value after `=` sets, or its rejection.
 abbrev pub said_behind : Behind → MetaPath → Meta → Result Values Stop
 said_behind b name meta = map_ok (λ x. b.says x (values_at (meta_place meta))) (value_of b.kind name meta)

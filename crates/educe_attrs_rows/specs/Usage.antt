@@ -1,4 +1,4 @@
--- The forms that a row allows, as a message lists them.
+-- Usage lines: the forms that a row allows, as messages list them.
 use Rattle.std.specs.Prelude.{ℕ, Bool, true, false, if◌then◌else◌, List, [], ◌∷◌, ◌++◌, codes, chars, Option, Some, None, is_some}
 use Rattle.educe_attrs_rows.specs.declared.row.Row.{Row}
 use Rattle.educe_attrs_rows.specs.declared.row.Equals.{Equals}
@@ -6,17 +6,17 @@ use Rattle.educe_attrs_rows.specs.declared.row.Equals.TheVariants as equals
 use Rattle.educe_attrs_rows.specs.declared.row.NameKind.{NameKind}
 use Rattle.educe_attrs_rows.specs.declared.row.NameKind.TheVariants as kind
 
--- A form, as it stands in an attribute.
+-- A usage line: an attribute in full.
 abbrev pub line : List ℕ → List ℕ → List ℕ
 line name rest = chars (codes "#[educe(" ++ (name ++ (rest ++ codes ")]")))
 
--- The lines with this one behind them, if the row allows the form.
+-- The lines, followed by this one if the row allows its form.
 abbrev pub with_line : List (List ℕ) → Bool → List ℕ → List ℕ → List (List ℕ)
 with_line lines allowed name rest = if allowed then lines ++ line name rest ∷ [] else lines
 
--- ---- what stands behind `=`
+-- ---- values after `=`
 
--- An identifier may.
+-- An identifier may stand after `=`.
 abbrev pub takes_name : Equals → Bool
 takes_name equals.Nothing = false
 takes_name equals.Truth = false
@@ -24,7 +24,7 @@ takes_name equals.Ident = true
 takes_name equals.Name = true
 takes_name equals.Expr = false
 
--- An expression may.
+-- An expression may stand after `=`.
 abbrev pub takes_expression : Equals → Bool
 takes_expression equals.Nothing = false
 takes_expression equals.Truth = false
@@ -32,7 +32,7 @@ takes_expression equals.Ident = false
 takes_expression equals.Name = false
 takes_expression equals.Expr = true
 
--- Whether the field is not ignored may.
+-- A truth value may stand after `=`: whether the field is not ignored.
 abbrev pub takes_truth : Equals → Bool
 takes_truth equals.Nothing = false
 takes_truth equals.Truth = true
@@ -40,7 +40,7 @@ takes_truth equals.Ident = false
 takes_truth equals.Name = true
 takes_truth equals.Expr = false
 
--- ---- truth values that lines show
+-- ---- truth values in usage lines
 
 -- The lines show `false` as the value.
 abbrev pub shows_false : Option Bool → Bool
@@ -54,7 +54,7 @@ shows_true None = false
 shows_true (Some true) = true
 shows_true (Some false) = false
 
--- The truth value that the line on `name` shows, if there is one.
+-- The truth value that the line for `name` shows, if there is one.
 abbrev pub shown : Option NameKind → Option Bool
 shown None = None
 shown (Some kind.Ident) = None
@@ -62,14 +62,14 @@ shown (Some (kind.Name b)) = Some b
 
 -- ---- the lines of a row
 
--- The trait alone, a name and an expression behind `=`.
+-- The lines, followed by those for the trait alone, and for a name and an expression after `=`.
 abbrev pub with_heads : List (List ℕ) → List ℕ → Row → List (List ℕ)
 with_heads lines name row =
     with_line (with_line (with_line lines row.flag name [])
     (takes_name row.equals) name (codes " = NewName"))
     (takes_expression row.equals) name (codes " = expr")
 
--- `name` and `named_field`.
+-- The lines, followed by those for `name` and `named_field`.
 abbrev pub with_names : List (List ℕ) → List ℕ → Row → List (List ℕ)
 with_names lines name row =
     with_line (with_line (with_line (with_line (with_line lines (is_some row.name) name (codes "(name(NewName))"))
@@ -78,7 +78,7 @@ with_names lines name row =
     (shows_false row.named_field) name (codes "(named_field = false)"))
     (shows_true row.named_field) name (codes "(named_field = true)")
 
--- A truth value behind `=`, and the other parameters.
+-- The lines, followed by those for a truth value after `=` and for the other parameters.
 abbrev pub with_params : List (List ℕ) → List ℕ → Row → List (List ℕ)
 with_params lines name row =
     with_line (with_line (with_line (with_line (with_line (with_line (with_line lines row.new name (codes "(new)"))
@@ -89,6 +89,6 @@ with_params lines name row =
     row.rank name (codes "(rank = integer)"))
     row.bound name (codes "(bound(where_predicates))")
 
--- The words, and behind them a line for each form that the row allows, with `bound = false` at the end.
+-- The words, followed by a line for each form of the row.
 abbrev pub with_usage : List (List ℕ) → List ℕ → Row → List (List ℕ)
 with_usage words name row = with_line (with_params (with_names (with_heads words name row) name row) name row) row.bound name (codes "(bound = false)")

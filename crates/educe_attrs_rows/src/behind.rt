@@ -10,7 +10,7 @@ use educe_attrs_values::{
 use educe_syntax::{Meta, MetaPath};
 use std::alloc::Global;
 
-/// Whether the field is kept: it is ignored if not.
+/// Whether the field is kept: `false` ignores it.
 pub fn read_kept(alloc: Global, name: &MetaPath, meta: &Meta) -> Result<Values, Stop>
     ensures { Gives Stop.Memory (spec.said_behind spec.kept name.now meta.now) result }
 {

@@ -1,4 +1,4 @@
-//! The forms of a trait's attribute that each place allows, as rows, and the one reader of an
+//! Rows, the forms of a trait's attribute that each place allows, and the one reader of an
 //! attribute by its row.
 #![tactic(auto)]
 

@@ -45,7 +45,7 @@ impl Param {
         }
     }
 
-    /// The other word that names it; the same one where it has no other.
+    /// The alternative word that names the parameter; the word itself where it has none.
     #[tactic(auto, using(crate::proofs::Texts::chars_rename, crate::proofs::Texts::chars_expr))]
     pub fn alias(self) -> &'static str
         ensures { chars result.now ≡ spec.alias_of self }

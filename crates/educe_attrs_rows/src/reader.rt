@@ -130,7 +130,8 @@ fn read_list(
     }
 }
 
-/// What an attribute says, by the row of its place: the program of which `read_meta` has the laws.
+/// The values of an attribute, by the row of its place: the program of which `read_meta` has the
+/// laws.
 pub fn read_form(alloc: Global, row: &Row, meta: &Meta) -> Result<Values, Stop>
     requires { IsNamed meta.now }
     ensures { Gives Stop.Memory (spec.read_meta row.now meta.now) result }
@@ -150,8 +151,8 @@ pub fn read_form(alloc: Global, row: &Row, meta: &Meta) -> Result<Values, Stop>
     }
 }
 
-/// What an attribute says, by the row of its place. It is rejected exactly where it has a cause, or
-/// memory fails.
+/// The values of an attribute, by the row of its place. It is rejected exactly where it has a
+/// cause, or when out of memory.
 pub fn read_meta(alloc: Global, row: &Row, meta: &Meta) -> Result<Values, EduceError>
     requires { IsNamed meta.now }
     ensures said { IfOk result (λ values. Says row.now meta.now values) }

@@ -1,4 +1,4 @@
-//! The errors of attributes that their row does not allow.
+//! The rejections of attributes that their row does not allow.
 ghost use Rattle.std.specs.Prelude.{◌≡◌, IfOk};
 ghost use Rattle.educe_attrs_rows.specs.Refusals as spec;
 
@@ -9,21 +9,21 @@ use educe_syntax::MetaPath;
 use educe_tokens::{EduceError, Kind, Seq};
 use std::alloc::{AllocError, Global};
 
-/// The error of an attribute where the row is empty.
+/// The rejection of a trait's attribute where no form of it is allowed.
 pub fn incorrect_place(alloc: Global, path: &MetaPath) -> Result<EduceError, AllocError>
     ensures { IfOk result (λ e. e ≡ spec.incorrect_place path.now) }
 {
     at_name(alloc, Kind::AttributeIncorrectPlace, path)
 }
 
-/// The error of a parameter, the path, that stands earlier in the same list.
+/// The rejection of a parameter, the path, that is given earlier in the same list.
 pub fn parameter_reset(alloc: Global, path: &MetaPath) -> Result<EduceError, AllocError>
     ensures { IfOk result (λ e. e ≡ spec.parameter_reset path.now) }
 {
     at_name(alloc, Kind::ParameterReset, path)
 }
 
-/// The error of a form that the row does not allow; the allowed forms are further words.
+/// The rejection of a form that is not in the row; the words list the forms of the row.
 pub fn incorrect_format(alloc: Global, row: &Row, path: &MetaPath) -> Result<EduceError, AllocError>
     ensures { IfOk result (λ e. e ≡ spec.incorrect_format row.now path.now) }
 {

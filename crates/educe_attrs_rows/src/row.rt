@@ -1,4 +1,4 @@
-//! The forms that a place allows.
+//! Rows: the forms of a trait's attribute that a place allows.
 ghost use Rattle.std.specs.Prelude.{◌≡◌, find};
 ghost use Rattle.educe_attrs_rows.specs.Rows as spec;
 
@@ -6,7 +6,7 @@ use crate::param::Param;
 use educe_attrs_values::is_one_word;
 use educe_syntax::MetaPath;
 
-/// What may stand behind `=`.
+/// What may stand after `=`.
 #[derive(Clone, Copy, Debug, PartialEq, Eq)]
 pub enum Equals {
     Nothing,
@@ -25,7 +25,7 @@ pub enum Equals {
 pub enum NameKind {
     /// An identifier.
     Ident,
-    /// An identifier or a truth value, of which the usage line shows this one.
+    /// An identifier, or a truth value, of which the usage line shows this one.
     Name(bool),
 }
 
@@ -48,7 +48,7 @@ pub struct Row {
 }
 
 impl Row {
-    /// No form at all; a row is this one with what it allows.
+    /// The row that allows no form; other rows extend it.
     pub const EMPTY: Row = Row {
         flag: false,
         equals: Equals::Nothing,
@@ -62,7 +62,7 @@ impl Row {
         bound: false,
     };
 
-    /// Whether the parameter may stand in the list.
+    /// Whether the parameter is allowed in the list.
     fn allows(&self, param: Param) -> bool
         ensures { result ≡ spec.allows self.now param }
     {
@@ -78,21 +78,21 @@ impl Row {
         }
     }
 
-    /// Whether no form of a name may stand there.
+    /// Whether neither `name` nor `named_field` is allowed in the list.
     fn has_no_name(&self) -> bool
         ensures { result ≡ spec.has_no_name self.now }
     {
         self.name.is_none() && self.named_field.is_none()
     }
 
-    /// Whether no parameter of another kind may stand there.
+    /// Whether no parameter but `name` and `named_field` is allowed in the list.
     fn has_no_param(&self) -> bool
         ensures { result ≡ spec.has_no_param self.now }
     {
         !self.new && !self.expression && !self.ignore && !self.method && !self.rank && !self.bound
     }
 
-    /// Whether no form may stand there.
+    /// Whether no form is allowed at the place.
     pub fn is_empty(&self) -> bool
         ensures { result ≡ spec.is_empty self.now }
     {
@@ -102,7 +102,7 @@ impl Row {
             && self.has_no_param()
     }
 
-    /// Whether the path is a word of the parameter, and the row allows it.
+    /// Whether the path is a word of the parameter, and the row allows the parameter.
     fn names(&self, path: &MetaPath, param: Param) -> bool
         ensures { result ≡ spec.names self.now path.now param }
     {
@@ -123,7 +123,7 @@ impl Row {
         None
     }
 
-    /// The parameter of the row that a path names.
+    /// The parameter of the row that the path names.
     pub fn param_of(&self, path: &MetaPath) -> Option<Param>
         ensures { result ≡ spec.param_of self.now path.now }
     {

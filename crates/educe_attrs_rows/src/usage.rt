@@ -1,4 +1,4 @@
-//! The forms that a row allows, as a message lists them.
+//! Usage lines: the forms that a row allows, as messages list them.
 ghost use Rattle.std.specs.Prelude.{◌≡◌, IfOk};
 ghost use Rattle.educe_attrs_rows.specs.Usage as spec;
 
@@ -6,7 +6,7 @@ use crate::row::{Equals, NameKind, Row};
 use educe_tokens::{Spelling, Texts};
 use std::alloc::{AllocError, Global};
 
-/// A form, as it stands in an attribute.
+/// A usage line: an attribute in full.
 fn line(alloc: Global, name: &str, rest: &str) -> Result<Spelling, AllocError>
     ensures { IfOk result (λ text. text ≡ spec.line name.now rest.now) }
 {
@@ -113,7 +113,7 @@ fn with_params(alloc: Global, lines: Texts, name: &str, row: &Row) -> Result<Tex
     with_line(alloc, lines, row.bound, name, "(bound(where_predicates))")
 }
 
-/// The words with a line for each form of the row behind them.
+/// The words, followed by a line for each form of the row.
 pub fn with_usage(alloc: Global, words: Texts, name: &str, row: &Row) -> Result<Texts, AllocError>
     ensures { IfOk result (λ all. all ≡ spec.with_usage words name.now row.now) }
 {

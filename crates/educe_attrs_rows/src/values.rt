@@ -1,4 +1,4 @@
-//! What an attribute says.
+//! The values that an attribute sets.
 ghost use Rattle.std.specs.Prelude.{◌≡◌};
 ghost use Rattle.educe_attrs_rows.specs.Settings as spec;
 
@@ -14,7 +14,7 @@ pub struct Rank {
     pub span: Span,
 }
 
-/// What an attribute of a trait says: the value of each parameter, none where it says nothing of it.
+/// The values that an attribute of a trait sets, one for each parameter that it gives.
 #[derive(Drop)]
 pub struct Values {
     pub name: Option<IdentOrBool>,
@@ -27,19 +27,19 @@ pub struct Values {
     pub bound: Option<WherePredicatesOrBool>,
     /// The attribute is the trait alone, or an empty list.
     pub flag: bool,
-    /// The place of the whole attribute; 0 to 0 where none stands.
+    /// The span of the whole attribute; 0 to 0 where there is none.
     pub span: Span,
 }
 
 impl Values {
-    /// Nothing, where no attribute stands.
+    /// The values where there is no attribute.
     pub fn none() -> Values
         ensures { result ≡ spec.no_values }
     {
         Values::at(Span::NONE)
     }
 
-    /// Nothing yet, of an attribute at this place.
+    /// The values of an attribute with this span, none of which is set yet.
     pub fn at(span: Span) -> Values
         ensures { result ≡ spec.values_at span }
     {

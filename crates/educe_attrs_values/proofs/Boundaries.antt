@@ -37,12 +37,12 @@ each_taken P zero (x ∷ xs) all = tt
 each_taken P (suc n) [] all = tt
 each_taken P (suc n) (x ∷ xs) all = (all.0, each_taken P n xs all.1)
 
--- and of those behind the first
+-- what holds of each holds of those behind the first
 each_behind : {X : Type 0} (P : X → Type 0) (xs : List X) → AllByRecursion P xs → AllByRecursion P (drop 1 xs)
 each_behind P [] all = tt
 each_behind P (x ∷ xs) all = all.1
 
--- and of the one at an index
+-- what holds of each holds of the one at an index
 each_get : {X : Type 0} (P : X → Type 0) (xs : List X) (n : ℕ) (x : X) → AllByRecursion P xs → slice_get xs n ≡ Some x → P x
 each_get P [] n x all is = absurd (cc)
 each_get P (y ∷ ys) zero x all is = subst P (same_Some y x is) all.0
@@ -76,7 +76,7 @@ module _ (tokens : List Token) where
     meta_within (said.Doc t) is = part_has t.span is
     meta_within (said.Unread path rest place) is = (tokens_within path.written.tokens is.0, tokens_within rest.tokens is.1, span_within place is.2)
 
-    -- so does what stands between its first token and its last
+    -- what stands between the first token and the last of a part stands among the list
     pub inside_within : AreWithin tokens (inside part)
     inside_within = each_taken (λ (t : Token). HasPlace tokens t.span) (length part - 2) (drop 1 part) (each_behind (λ (t : Token). HasPlace tokens t.span) part within)
 
@@ -127,11 +127,11 @@ module _ (tokens : List Token) where
   path_within (said.Doc t) placed path is = absurd (cc)
   path_within (said.Unread p rest place) placed path is = subst (λ (p : MetaPath). AreWithin tokens p.written.tokens) (same_Some p path is) placed.0
 
-  -- and starts at a boundary
+  -- the name of a meta starts at a boundary
   pub name_boundary : (m : Meta) → IsMetaPlaced tokens m → (path : MetaPath) → path_of m ≡ Some path → Starts (place_of path.written.tokens)
   name_boundary m placed path is = first_boundary path.written.tokens (path_within m placed path is)
 
-  -- so does the meta
+  -- a meta starts at a boundary
   pub meta_boundary : (m : Meta) → IsMetaPlaced tokens m → Starts (meta_place m)
   meta_boundary (said.Word path) placed = first_boundary path.written.tokens placed
   meta_boundary (said.List path group place) placed = span_boundary place placed.2
@@ -155,7 +155,7 @@ module _ (tokens : List Token) where
   else_within others [] first second = first
   else_within others (t ∷ ts) first second = second
 
-  -- and the place at which it is rejected starts at a boundary
+  -- the place at which a value is rejected starts at a boundary
   pub value_boundary : (m : Meta) → IsMetaPlaced tokens m → Starts (value_place m)
   value_boundary (said.Word path) placed = IsBoundary.beginning
   value_boundary (said.List path group place) placed =

@@ -57,7 +57,7 @@ module _ {A : Type 0} {g : Rule A} (laws : RuleLaws g) where
     abbrev limited : Bool → Result Opened Fault
     limited b = if b then map_ok of_string (map_err (fault_of true) (lexed text)) else Err fault.Wrong
 
-    -- and where it has these tokens or none
+    -- what is read for the text, where it has these tokens or none
     abbrev lexed_to : Result (List Token) EduceError → Result A Fault
     lexed_to r = and_then (found laws) (map_ok of_string (map_err (fault_of true) r))
 
@@ -107,7 +107,7 @@ module _ (k : ValueKind) (s : Source) where
   pub carried_standing : only_text s.tokens ≡ None → IsCarried k s
   carried_standing none text e o u = let both : None ≡ Some text = sym none ∙ o.is in cc
 
-  -- nor where the kind reads none
+  -- no text is read where the kind reads none
   pub carried_closed : opens_strings k ≡ false → IsCarried k s
   carried_closed closed text e o u = let both : false ≡ true = sym closed ∙ o.opens in cc
 
@@ -130,7 +130,7 @@ module _ (k : ValueKind) (s : Source) where
     carried_lexed inner reading =
         carried_text (λ e u. let alloc : kind.NotCarried ≡ kind.Alloc = sym u.kind ∙ lawful_lexing.uncaused text inner reading e u.cause in cc)
 
-    -- and one with another cause has none of this kind
+    -- a text with another cause has no unsupported literal as its cause
     carried_other : (e : EduceError) → IsLexicalCause text e → e.kind ≢ kind.Alloc → e.kind ≢ kind.NotCarried → IsCarried k s
     carried_other e cause told other =
         carried_text (λ f u. other (ap (λ (e : EduceError). e.kind) (lawful_lexing.one_cause text e f cause u.cause told (λ alloc. let both : kind.NotCarried ≡ kind.Alloc = sym u.kind ∙ alloc in cc)) ∙ u.kind))

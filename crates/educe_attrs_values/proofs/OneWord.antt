@@ -55,7 +55,7 @@ truth_none tokens none = by (truth_in tokens) refl
     by None is = is
     by (Some b) is = absurd (none (b, truth_is tokens b is))
 
--- and there is none where none is read
+-- there is no truth value where none is read
 pub no_truth : (tokens : List Token) → truth_in tokens ≡ None → ¬ IsTruth tokens
 no_truth tokens none t = let some : Some t.0 ≡ None = sym (truth_read tokens t.0 t.1) ∙ none in cc
 
@@ -89,7 +89,7 @@ star_is (t ∷ u ∷ ts) h = absurd (cc)
 pub star_read : (tokens : List Token) → IsStar tokens → is_star tokens ≡ true
 star_read tokens star = ap is_star star.1 ∙ star.2
 
--- and then no truth value
+-- the token `*` is no truth value
 pub star_no_truth : (tokens : List Token) → IsStar tokens → truth_in tokens ≡ None
 star_no_truth tokens star =
     truth_none tokens (λ truth. false≢true (sym (no_sign star.0 kind.Ident (word_kind_is tokens star.0 star.1 truth) refl) ∙ star.2))

@@ -1,4 +1,4 @@
--- Why the value of a parameter is rejected.
+-- The causes for which the value of a parameter is rejected.
 use Rattle.std.specs.Prelude.{◌≡◌, ℕ, ◌<◌, ◌≤◌, IsTrue, List, [], ◌∷◌, ◌++◌, length, encode_utf8_all, Some, None}
 use Rattle.educe_tokens.specs.declared.error.EduceError.{EduceError}
 use Rattle.educe_tokens.specs.declared.error.Kind.TheVariants.{TooDeep, NotCarried, Alloc}
@@ -21,36 +21,36 @@ use Rattle.educe_attrs_values.specs.Texts.{only_text}
 use Rattle.educe_attrs_values.specs.Values.{HasNoValue}
 use Rattle.educe_attrs_values.specs.Words.{path_of}
 
--- More openers count at a token than the limit allows.
+-- At the token more openers count than the limit on nesting allows.
 pub record IsTooDeep (tokens : List Token) (t : Token) : Type 0 where
   pub front : List Token
   pub rest : List Token
   pub is : tokens ≡ front ++ t ∷ rest
   pub many : depth_limit < counted (front ++ t ∷ [])
 
--- The text that is read for a string, which is the whole value: it is no longer than a source.
+-- The text of a string that is the whole value and is parsed as the value; it is no longer than a source.
 pub record IsOpened (k : ValueKind) (s : Source) (text : List ℕ) : Type 0 where
   pub opens : IsTrue (opens_strings k)
   pub is : only_text s.tokens ≡ Some text
   pub within : length (encode_utf8_all text) ≤ SOURCE_LIMIT
 
--- The text nests too deep: in its brackets; or at a token of it more openers count than the limit allows.
+-- The text nests too deep: its brackets do, or at a token of it more openers count than the limit allows.
 pub data IsTextTooDeep (text : List ℕ) : Type 0 where
   brackets : (e : EduceError) → IsLexicalCause text e → e.kind ≡ TooDeep → IsTextTooDeep text
   openers : (inner : List Token) (t : Token) → IsReading text inner → IsTooDeep inner t → IsTextTooDeep text
 
--- The text has a literal that is not supported, by this cause.
+-- The text has an unsupported literal, which is the cause.
 pub record IsUncarried (text : List ℕ) (e : EduceError) : Type 0 where
   pub cause : IsLexicalCause text e
   pub kind : e.kind ≡ NotCarried
 
--- No text that is read has such a literal.
+-- No text that is parsed as the value has an unsupported literal.
 abbrev pub IsCarried : ValueKind → Source → Type 0
 IsCarried k s = (text : List ℕ) (e : EduceError) → IsOpened k s text → IsUncarried text e → ⊥
 
--- Why the value of a parameter is rejected: it is missing; or it is none of the kind, and no literal is to blame; or it is
--- none, and more openers count at a token of it, or of the text that is read for it, than the limit allows; or that text
--- has a literal that is not supported.
+-- The causes of rejection of a parameter's value: it is missing; or it is not of the kind, and no literal is to blame;
+-- or it is not, and it nests deeper than the limit allows, as it stands or in the text of a string; or that text has an
+-- unsupported literal.
 pub data IsValueCause (k : ValueKind) (path : MetaPath) (meta : Meta) : EduceError → Type 0 where
   missing : value_source meta ≡ None → bare k ≡ None → IsValueCause k path meta (refusals.missing k path)
   wrong : (s : Source) → value_source meta ≡ Some s → HasNoValue k s → IsCarried k s → IsValueCause k path meta (refusals.wrong k path (value_place meta))
@@ -60,13 +60,13 @@ pub data IsValueCause (k : ValueKind) (path : MetaPath) (meta : Meta) : EduceErr
   not_carried : (s : Source) (text : List ℕ) (e : EduceError) → value_source meta ≡ Some s → HasNoValue k s → IsOpened k s text → IsUncarried text e
       → IsValueCause k path meta (refusals.not_carried (value_place meta) e.words)
 
--- ---- of a meta alone
+-- ---- values of metas
 
--- Why a call that reads a meta as a value of the kind rejects it.
+-- The causes for which a call that reads a meta as a value of the kind rejects it.
 pub data IsReaderCause (k : ValueKind) (meta : Meta) : EduceError → Type 0 where
   value : (path : MetaPath) (e : EduceError) → path_of meta ≡ Some path → IsValueCause k path meta e → IsReaderCause k meta e
   memory : IsReaderCause k meta (placeless Alloc)
 
--- None of these causes is present, out of memory aside.
+-- The call has no cause of rejection but out of memory.
 abbrev pub HasNoReaderCause : ValueKind → Meta → Type 0
 HasNoReaderCause k meta = (e : EduceError) → IsReaderCause k meta e → e.kind ≡ Alloc

@@ -1,4 +1,4 @@
--- What the laws of lexing and of rules decide, as results.
+-- Results that the laws of lexing and of rules decide.
 use Rattle.std.specs.Prelude.{◌≡◌, ◌⊎◌, ℕ, List, Result, Ok, Err}
 use Rattle.std.proofs.Common.{inl, inr}
 use Rattle.educe_tokens.specs.declared.error.EduceError.{EduceError}
@@ -12,7 +12,7 @@ use Rattle.educe_syntax.specs.Rules.{Rule}
 use Rattle.educe_syntax.specs.Steps.{Tokens}
 use Rattle.educe_syntax.specs.TokenLaws.{lawful_lexing}
 
--- There is one value, or one cause why there is none, and never both; out of memory aside.
+-- Exactly one of a value and a cause exists, and at most one of each; out of memory aside.
 pub record Decision {A : Type 0} (Is : A → Type 0) (IsCause : EduceError → Type 0) : Type 0 where
   pub decided : ((x : A) × Is x) ⊎ HasCause IsCause
   pub one : (x y : A) → Is x → Is y → x ≡ y
@@ -24,7 +24,7 @@ abbrev pub answer_of : {A : Type 0} {Is : A → Type 0} {IsCause : EduceError �
 answer_of (inl found) = Ok found.0
 answer_of (inr cause) = Err cause.error
 
--- Of a text: its tokens.
+-- The decision between the tokens of a text and its lexical cause.
 abbrev pub of_text : (text : List ℕ) → Decision (IsReading text) (IsLexicalCause text)
 of_text text = record {
   decided = lawful_lexing.decided text;
@@ -33,7 +33,7 @@ of_text text = record {
   single = lawful_lexing.one_cause text;
 }
 
--- Of tokens by a rule: their value.
+-- The decision between the value of tokens by a rule and the cause why they have none.
 abbrev pub by_rule : {A : Type 0} {g : Rule A} → RuleLaws g → (tokens : Tokens) → Decision (IsWhole g tokens) (IsParseCause g tokens)
 by_rule laws tokens = record {
   decided = laws.decided tokens;
@@ -42,7 +42,7 @@ by_rule laws tokens = record {
   single = laws.one_cause tokens;
 }
 
--- The tokens of a text, or the cause why it has none.
+-- The tokens of a text, or its lexical cause.
 unfoldable pub lexed : List ℕ → Result (List Token) EduceError
 lexed text = answer_of (of_text text).decided
 

@@ -1,4 +1,4 @@
--- The kinds of values, and the messages where a value is missing or none of its kind (documentation of `educe`, Traits).
+-- The kinds of values, and the messages for missing and wrong values (documentation of `educe`, Traits).
 use Rattle.std.specs.Prelude.{ℕ, ℤ, Bool, true, false, List, ◌++◌, codes, Option, Some, None}
 use Rattle.educe_syntax.specs.Expr.{Expr}
 use Rattle.educe_syntax.specs.ExprPath.{ExprPath}
@@ -8,8 +8,7 @@ use Rattle.educe_attrs_values.specs.declared.choices.WherePredicatesOrBool.{Wher
 use Rattle.educe_attrs_values.specs.declared.kind.ValueKind.{ValueKind}
 use Rattle.educe_attrs_values.specs.declared.kind.ValueKind.TheVariants as kind
 
--- What a value of the kind is: a name, a name or a truth value, a truth value, a path, an integer, an expression, or predicates,
--- a truth value or `*`.
+-- The type of the values of a kind.
 abbrev pub ValueOf : ValueKind → Type 0
 ValueOf kind.Ident = Ident
 ValueOf kind.Name = IdentOrBool
@@ -20,7 +19,7 @@ ValueOf kind.Integer = ℤ
 ValueOf kind.Expr = Expr
 ValueOf kind.Bound = WherePredicatesOrBool
 
--- What the parameter without a value means: `true` for a flag, and for other kinds nothing.
+-- The value that the parameter alone means, if the kind has one.
 abbrev pub bare : (k : ValueKind) → Option (ValueOf k)
 bare kind.Ident = None
 bare kind.Name = None
@@ -31,7 +30,7 @@ bare kind.Integer = None
 bare kind.Expr = None
 bare kind.Bound = None
 
--- A string may hold the value, of which the text is read: that of names, paths and predicates.
+-- A string may stand for the value: its text is parsed as the value.
 abbrev pub opens_strings : ValueKind → Bool
 opens_strings kind.Ident = true
 opens_strings kind.Name = true
@@ -42,7 +41,7 @@ opens_strings kind.Integer = false
 opens_strings kind.Expr = false
 opens_strings kind.Bound = true
 
--- How a value of the kind is written in a message.
+-- The sample of the kind that messages show.
 abbrev pub sample : ValueKind → List ℕ
 sample kind.Ident = codes "Ident"
 sample kind.Name = codes "Ident"
@@ -53,16 +52,16 @@ sample kind.Integer = codes "integer"
 sample kind.Expr = codes "Expr"
 sample kind.Bound = codes "false"
 
--- That a value was expected behind `=` or in brackets, in bytes.
+-- The message for a missing value, in bytes: it was expected after `=` or in brackets.
 abbrev pub missing_one : List ℕ → List ℕ → List ℕ
 missing_one name one = codes "expected `" ++ (name ++ (codes " = " ++ (one ++ (codes "` or `" ++ (name ++ (codes "(" ++ (one ++ codes ")`")))))))
 
--- The same where the value is a name or `false`.
+-- The message for a missing value that is a name or `false`, in bytes.
 abbrev pub missing_name : List ℕ → List ℕ
 missing_name name =
     codes "expected `" ++ (name ++ (codes " = Ident`, `" ++ (name ++ (codes "(Ident)`, `" ++ (name ++ (codes " = false`, or `" ++ (name ++ codes "(false)`")))))))
 
--- The message where the value of a parameter is missing, in bytes.
+-- The message for a missing value of the kind, in bytes.
 abbrev pub missing_text : ValueKind → List ℕ → List ℕ
 missing_text kind.Ident name = missing_one name (sample kind.Ident)
 missing_text kind.Name name = missing_name name
@@ -73,15 +72,15 @@ missing_text kind.Integer name = missing_one name (sample kind.Integer)
 missing_text kind.Expr name = missing_one name (sample kind.Expr)
 missing_text kind.Bound name = codes "expected `bound = \"where_predicates\"`, `bound(where_predicates)`, `bound(*)`, `bound = false`, or `bound(false)`"
 
--- That another value was expected behind `=`, in bytes.
+-- The message for a wrong value, in bytes: another was expected after `=`.
 abbrev pub wrong_one : List ℕ → List ℕ → List ℕ
 wrong_one name one = codes "expected `" ++ (name ++ (codes " = " ++ (one ++ codes "`")))
 
--- The same where the value is a name or `false`.
+-- The message for a wrong value where a name or `false` was expected, in bytes.
 abbrev pub wrong_name : List ℕ → List ℕ
 wrong_name name = codes "expected `" ++ (name ++ (codes " = Ident` or `" ++ (name ++ codes " = false`")))
 
--- The message where it is no value of the kind, in bytes.
+-- The message for a value that is not of the kind, in bytes.
 abbrev pub wrong_text : ValueKind → List ℕ → List ℕ
 wrong_text kind.Ident name = wrong_one name (sample kind.Ident)
 wrong_text kind.Name name = wrong_name name

@@ -2,7 +2,7 @@
 use Rattle.educe_syntax.specs.Meta.{Meta}
 use Rattle.educe_syntax.specs.Meta.TheVariants as said
 
--- A path alone, one with a bracket pair, or one with a value.
+-- The meta has a name: it is a path alone, a list, or a path with a value.
 abbrev pub IsNamed : Meta → Type 0
 IsNamed (said.Word path) = Unit {0}
 IsNamed (said.List path tokens place) = Unit {0}

@@ -16,27 +16,27 @@ use Rattle.educe_attrs_values.specs.Words.{place_of, text_of}
 abbrev pub refusal : Kind → Span → List (List ℕ) → EduceError
 refusal kind place words = record { kind = kind; span = place; words = words }
 
--- At the name of a meta, which is the word.
+-- The rejection at the name of a meta, which is the word.
 abbrev pub at_name : Kind → MetaPath → EduceError
 at_name kind path = refusal kind (place_of path.written.tokens) (text_of path ∷ [])
 
--- A value, with this message.
+-- The rejection of a value at this place, with this message.
 abbrev pub expected : Span → List ℕ → EduceError
 expected place text = refusal ExpectedValue place (text ∷ [])
 
--- The value of the parameter is missing.
+-- The rejection of a parameter whose value is missing.
 abbrev pub missing : ValueKind → MetaPath → EduceError
 missing k path = expected (place_of path.written.tokens) (chars (missing_text k (encode_utf8_all (text_of path))))
 
--- What stands at this place is no value of the kind.
+-- The rejection of a value at this place that is not of the kind.
 abbrev pub wrong : ValueKind → MetaPath → Span → EduceError
 wrong k path place = expected place (chars (wrong_text k (encode_utf8_all (text_of path))))
 
--- The text of the string at this place has literals that are not supported: these words.
+-- The rejection of the string at this place, whose text has an unsupported literal with these words.
 abbrev pub not_carried : Span → List (List ℕ) → EduceError
 not_carried place words = refusal NotCarried place words
 
--- The rejection, or the error for out of memory.
+-- The error of a stop: its rejection, or the error for out of memory.
 abbrev pub error_of : Stop → EduceError
 error_of Memory = placeless Alloc
 error_of (Refused e) = e

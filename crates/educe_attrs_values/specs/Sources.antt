@@ -1,4 +1,4 @@
--- Where the value of a parameter stands.
+-- The tokens of a parameter's value.
 use Rattle.std.specs.Prelude.{◌-◌, true, false, List, [], ◌∷◌, length, take, drop, Option, Some, None}
 use Rattle.educe_tokens.specs.declared.span.Span.{Span}
 use Rattle.educe_tokens.specs.declared.token.Token.{Token}
@@ -7,12 +7,11 @@ use Rattle.educe_syntax.specs.Meta.TheVariants as said
 use Rattle.educe_attrs_values.specs.declared.source.Source.{Source}
 use Rattle.educe_attrs_values.specs.Words.{place_of}
 
--- The tokens between the first and the last.
+-- The tokens without the first and the last.
 abbrev pub inside : List Token → List Token
 inside tokens = take (length tokens - 2) (drop 1 tokens)
 
--- The tokens of a meta's value, and whether they stand in brackets: those behind `=`, or in the brackets; none where neither
--- stands there.
+-- The tokens of the value, after `=` or in brackets; none where the meta has neither.
 abbrev pub value_source : Meta → Option Source
 value_source (said.Word path) = None
 value_source (said.List path tokens place) = Some (record { tokens = inside tokens.tokens; enclosed = true })
@@ -20,16 +19,16 @@ value_source (said.NameValue path value place) = Some (record { tokens = value.w
 value_source (said.Doc t) = None
 value_source (said.Unread path tokens place) = None
 
--- The tokens, or these where there are none.
+-- The first tokens, or the second where the first are none.
 abbrev pub or_else : List Token → List Token → List Token
 or_else others [] = others
 or_else others (t ∷ ts) = t ∷ ts
 
--- The tokens at which a wrong value in brackets is rejected: its own, or the empty brackets.
+-- The tokens at which a wrong value in brackets is reported: its own, or the empty brackets.
 abbrev pub shown : List Token → List Token
 shown tokens = or_else tokens (inside tokens)
 
--- The place at which a wrong value is rejected.
+-- The place at which a wrong value is reported.
 abbrev pub value_place : Meta → Span
 value_place (said.Word path) = record { start = 0; end = 0 }
 value_place (said.List path tokens place) = place_of (shown tokens.tokens)

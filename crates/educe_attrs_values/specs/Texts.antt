@@ -6,7 +6,7 @@ use Rattle.educe_tokens.specs.TokenKind.{TokenKind}
 use Rattle.educe_tokens.specs.TokenKind.TheVariants as token
 use Rattle.educe_tokens.specs.declared.token.Token.{Token}
 
--- The text of a token that is a string; any other has none, documentation neither.
+-- The text of a string with this kind and spelling; any other token has none, documentation neither.
 abbrev pub text_of_kind : TokenKind → List ℕ → Option (List ℕ)
 text_of_kind (token.Literal Str) spelling = Some (literal_text spelling)
 text_of_kind (token.Literal Int) spelling = None
@@ -24,7 +24,7 @@ text_of_kind token.Doc spelling = None
 abbrev pub text_in : Token → Option (List ℕ)
 text_in t = text_of_kind t.kind t.spelling
 
--- The text of the one string that the tokens are.
+-- The text of the string that is the only token.
 abbrev pub only_text : List Token → Option (List ℕ)
 only_text [] = None
 only_text (t ∷ []) = text_in t

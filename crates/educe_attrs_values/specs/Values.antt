@@ -1,4 +1,4 @@
--- What tokens are as a value of a kind, and what a parameter says (documentation of `educe`, Traits).
+-- The values of each kind that tokens are, and the values that parameters have (documentation of `educe`, Traits).
 use Rattle.std.specs.Prelude.{◌≡◌, ℕ, ℤ, pos, neg_ℤ, ◌<◌, ◌≤◌, ◌^◌, Bool, true, false, IsTrue, List, [], ◌∷◌, drop, length, encode_utf8_all, Option, Some, None}
 use Rattle.std.specs.Str.Parse.{IsNumeral, digits_value, starts_with_minus, without_leading_plus}
 use Rattle.educe_tokens.specs.declared.span.TheConstants.{SOURCE_LIMIT}
@@ -31,30 +31,32 @@ use Rattle.educe_attrs_values.specs.Words.{truth_word}
 
 -- ---- integers
 
--- The text, in bytes, is an optional sign and at least one decimal digit, and writes this number, from -2^63 to 2^63 - 1.
+-- The text, given in bytes, is an optional sign and at least one decimal digit, and writes this number, from -2^63 to
+-- 2^63 - 1.
 pub data IsDecimal (text : List ℕ) : ℤ → Type 0 where
   plain : starts_with_minus text ≡ false → IsNumeral 10 (without_leading_plus text) → digits_value 10 (without_leading_plus text) < 2 ^ 63
       → IsDecimal text (pos (digits_value 10 (without_leading_plus text)))
   negated : starts_with_minus text ≡ true → IsNumeral 10 (drop 1 text) → digits_value 10 (drop 1 text) ≤ 2 ^ 63
       → IsDecimal text (neg_ℤ (pos (digits_value 10 (drop 1 text))))
 
--- The tokens are an integer literal, `-` and one, or a string of a decimal number; from -2^63 to 2^63 - 1.
+-- The tokens are an integer literal, `-` and a literal, or a string of a decimal number; the number is from -2^63 to
+-- 2^63 - 1.
 pub data IsInteger : List Token → ℤ → Type 0 where
   plain : (number : Token) (n : ℕ) → int_value (lexeme_of number) ≡ Some n → n < 2 ^ 63 → IsInteger (number ∷ []) (pos n)
   negated : (minus number : Token) (n : ℕ) → IsTrue (accepts (Sign 45) minus) → int_value (lexeme_of number) ≡ Some n → n ≤ 2 ^ 63
       → IsInteger (minus ∷ number ∷ []) (neg_ℤ (pos n))
   quoted : (tokens : List Token) (text : List ℕ) (n : ℤ) → only_text tokens ≡ Some text → IsDecimal (encode_utf8_all text) n → IsInteger tokens n
 
--- ---- by a rule
+-- ---- values by a rule
 
--- A text is this value by a rule: it is no longer than a source, and its tokens are the value.
+-- The text has this value by the rule: it is no longer than a source, and its tokens are the value.
 pub record ReadsText {A : Type 0} (g : Rule A) (text : List ℕ) (x : A) : Type 0 where
   pub within : length (encode_utf8_all text) ≤ SOURCE_LIMIT
   pub inner : List Token
   pub reading : IsReading text inner
   pub whole : IsWhole g inner x
 
--- The text that is all of the tokens is the value by a rule, or without such a text the tokens are.
+-- The value is that of the text by the rule, where the tokens are a string; else that of the tokens.
 abbrev pub ReadsBy : {A : Type 0} → Rule A → Option (List ℕ) → List Token → A → Type 0
 ReadsBy g None tokens x = IsWhole g tokens x
 ReadsBy g (Some text) tokens x = ReadsText g text x
@@ -69,7 +71,7 @@ ReadsPlain g tokens x = ReadsBy g (only_text tokens) tokens x
 abbrev pub IsTruth : List Token → Type 0
 IsTruth tokens = (b : Bool) × IsOneWord tokens (truth_word b)
 
--- A truth value; a string without text, which says `false`; or else a name or a string of one.
+-- A truth value; an empty string, which means `false`; or else a name, or a string of one.
 pub data IsName (tokens : List Token) : IdentOrBool → Type 0 where
   truth : (b : Bool) → IsOneWord tokens (truth_word b) → IsName tokens (named.Bool b)
   empty : only_text tokens ≡ Some [] → IsName tokens (named.Bool false)
@@ -79,7 +81,7 @@ pub data IsName (tokens : List Token) : IdentOrBool → Type 0 where
 abbrev pub IsStar : List Token → Type 0
 IsStar tokens = (star : Token) × (tokens ≡ star ∷ []) × IsTrue (accepts (Sign 42) star)
 
--- A truth value; in brackets `*`; or else a string of predicates, or in brackets predicates.
+-- A truth value; `*` in brackets; or else predicates in brackets, or a string of predicates.
 pub data IsBound (s : Source) : WherePredicatesOrBool → Type 0 where
   truth : (b : Bool) → IsOneWord s.tokens (truth_word b) → IsBound s (bound.Bool b)
   all : IsTrue s.enclosed → IsStar s.tokens → IsBound s bound.All
@@ -87,7 +89,7 @@ pub data IsBound (s : Source) : WherePredicatesOrBool → Type 0 where
   standing : (found : List WherePredicate) → IsTrue s.enclosed → ¬ IsTruth s.tokens → ¬ IsStar s.tokens → only_text s.tokens ≡ None → IsWhole predicates s.tokens found
       → IsBound s (bound.WherePredicates found)
 
--- ---- kinds
+-- ---- values of each kind
 
 -- The tokens are this value of the kind.
 abbrev pub Reads : (k : ValueKind) → Source → ValueOf k → Type 0
@@ -104,11 +106,11 @@ Reads kind.Bound s x = IsBound s x
 abbrev pub HasNoValue : ValueKind → Source → Type 0
 HasNoValue k s = (v : ValueOf k) → Reads k s v → ⊥
 
--- Among these tokens, if there are any, stands this value; without any it is what the parameter alone means.
+-- The value is that of these tokens, if there are any; else what the parameter alone means.
 abbrev pub HoldsAmong : (k : ValueKind) → Option Source → ValueOf k → Type 0
 HoldsAmong k None v = bare k ≡ Some v
 HoldsAmong k (Some s) v = Reads k s v
 
--- The meta has this value of the kind: its tokens behind `=` or in brackets are the value, or there are none and `bare` is.
+-- The parameter has this value of the kind.
 abbrev pub Holds : (k : ValueKind) → Meta → ValueOf k → Type 0
 Holds k meta v = HoldsAmong k (value_source meta) v

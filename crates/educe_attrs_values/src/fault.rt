@@ -1,4 +1,4 @@
-//! Why tokens are no value of a kind.
+//! Faults: why tokens are no value of a kind.
 ghost use Rattle.std.specs.Prelude.{◌≡◌};
 ghost use Rattle.educe_attrs_values.specs.Readings as spec;
 
@@ -10,13 +10,13 @@ use std::alloc::AllocError;
 pub enum Fault {
     /// Out of memory.
     Memory,
-    /// They have no reading as this kind.
+    /// The tokens are not of the kind.
     Wrong,
-    /// They have none, and nest too deep at this token.
+    /// The tokens nest too deep, at this token.
     TooDeep(Span),
-    /// The text of the string that they are nests too deep.
+    /// The text of the string nests too deep.
     TooDeepText,
-    /// A literal in the text of the string that they are, the one word, is not supported.
+    /// The text of the string has an unsupported literal, the one word.
     NotCarried(Texts),
 }
 
@@ -31,8 +31,7 @@ impl From<AllocError> for Fault {
     }
 }
 
-/// Why tokens are no value, where the call that reads them answers this error; in the text of a
-/// string, or as they stand.
+/// The fault for an error of the parser, in the tokens as they stand or in the text of a string.
 #[tactic(auto, using(crate::proofs::Faults::other_wrong))]
 pub fn fault_of(quoted: bool, error: EduceError) -> Fault
     ensures { result ≡ spec.fault_of quoted error }

@@ -9,7 +9,7 @@ use educe_tokens::{Spelling, Token, int_value};
 /// The magnitude of the least integer of 64 bits.
 const LIMIT: u128 = 1 << 63;
 
-/// The integer of this magnitude, negated or not, where it is an `i64`.
+/// The integer with this magnitude, negated or not, if it is an `i64`.
 fn integer_of(negated: bool, magnitude: u128) -> Option<i64>
     ensures { result ≡ spec.integer_of negated magnitude }
 {
@@ -26,7 +26,7 @@ fn integer_of(negated: bool, magnitude: u128) -> Option<i64>
     }
 }
 
-/// The integer that a literal writes, negated or not; none where it is no `i64`, or the token is no
+/// The value of an integer literal, negated or not; none where it is no `i64`, or the token is no
 /// integer (Rust Reference, Integer literals).
 fn integer_value(negated: bool, token: &Token) -> Option<i64>
     ensures { result ≡ spec.integer_value negated (lexeme_of token.now) }
@@ -35,7 +35,7 @@ fn integer_value(negated: bool, token: &Token) -> Option<i64>
     integer_of(negated, magnitude)
 }
 
-/// The integer that tokens write: a literal, or `-` and one.
+/// The integer that tokens write: a literal, or `-` and a literal.
 pub fn signed_in(tokens: &[Token]) -> Option<i64>
     ensures { result ≡ spec.signed_in tokens.now }
 {

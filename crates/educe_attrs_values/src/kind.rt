@@ -7,11 +7,11 @@ ghost use Rattle.educe_attrs_values.specs.Kinds as spec;
 pub enum ValueKind {
     /// A name, or a string of one.
     Ident,
-    /// The same, `true`, `false`, or a string without text.
+    /// A name, a string of one, `true`, `false`, or an empty string.
     Name,
     /// `true` or `false`
     Truth,
-    /// The same; the parameter alone means `true`.
+    /// `true` or `false`; the parameter alone means `true`.
     Flag,
     /// A path of an expression, or a string of one.
     Path,
@@ -24,7 +24,7 @@ pub enum ValueKind {
 }
 
 impl ValueKind {
-    /// How a value of the kind is written in a message.
+    /// The sample of the kind that messages show.
     pub fn sample(self) -> &'static str
         ensures { result.now ≡ spec.sample self }
     {

@@ -2,7 +2,7 @@
 ghost use Rattle.educe_attrs_values.specs.Laws.{ValueLaws};
 ghost use Rattle.educe_attrs_values.specs.declared.kind.ValueKind.{ValueKind};
 
-/// Each meta says one value of a kind or has a cause why it is rejected, and never both.
+/// For each kind, every meta gives exactly one value or has a cause of rejection.
 pub fn value_laws()
     ensures { (k : ValueKind) → ValueLaws k }
 {}

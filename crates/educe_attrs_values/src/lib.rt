@@ -1,5 +1,5 @@
-//! The values that parameters of `educe` attributes have: what the tokens behind `=` or in brackets
-//! are as a value of a kind, and why a value is rejected (documentation of `educe`, Traits).
+//! The values of the parameters of `educe` attributes: their kinds, and the causes for which a
+//! value is rejected (documentation of `educe`, Traits).
 #![tactic(auto)]
 
 mod choices;

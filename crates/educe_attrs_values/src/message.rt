@@ -1,4 +1,4 @@
-//! The messages for values that are missing or none of their kind.
+//! The messages for missing and wrong values.
 ghost use Rattle.std.specs.Prelude.{◌≡◌, IfOk};
 ghost use Rattle.std.specs.String.{string_bytes};
 ghost use Rattle.educe_attrs_values.specs.Kinds as spec;
@@ -6,7 +6,7 @@ ghost use Rattle.educe_attrs_values.specs.Kinds as spec;
 use crate::kind::ValueKind;
 use std::alloc::{AllocError, Global};
 
-/// The message where the value of a parameter is missing.
+/// The message for a missing value of the kind.
 pub fn missing_text(alloc: Global, kind: ValueKind, name: &str) -> Result<String, AllocError>
     ensures { IfOk result (λ text. string_bytes text ≡ spec.missing_text kind name.now) }
 {
@@ -20,14 +20,14 @@ pub fn missing_text(alloc: Global, kind: ValueKind, name: &str) -> Result<String
     }
 }
 
-/// That a value was expected behind `=` or in brackets.
+/// The message for a missing value: it was expected after `=` or in brackets.
 fn missing_one(alloc: Global, name: &str, sample: &str) -> Result<String, AllocError>
     ensures { IfOk result (λ text. string_bytes text ≡ spec.missing_one name.now sample.now) }
 {
     format!(in alloc; "expected `{name} = {sample}` or `{name}({sample})`")
 }
 
-/// The same where the value is a name or `false`.
+/// The message for a missing value that is a name or `false`.
 fn missing_name(alloc: Global, name: &str) -> Result<String, AllocError>
     ensures { IfOk result (λ text. string_bytes text ≡ spec.missing_name name.now) }
 {
@@ -36,7 +36,7 @@ fn missing_name(alloc: Global, name: &str) -> Result<String, AllocError>
     )
 }
 
-/// The message where it is no value of the kind.
+/// The message for a value that is not of the kind.
 pub fn wrong_text(alloc: Global, kind: ValueKind, name: &str) -> Result<String, AllocError>
     ensures { IfOk result (λ text. string_bytes text ≡ spec.wrong_text kind name.now) }
 {
@@ -50,14 +50,14 @@ pub fn wrong_text(alloc: Global, kind: ValueKind, name: &str) -> Result<String, 
     }
 }
 
-/// That another value was expected behind `=`.
+/// The message for a wrong value: another was expected after `=`.
 fn wrong_one(alloc: Global, name: &str, sample: &str) -> Result<String, AllocError>
     ensures { IfOk result (λ text. string_bytes text ≡ spec.wrong_one name.now sample.now) }
 {
     format!(in alloc; "expected `{name} = {sample}`")
 }
 
-/// The same where the value is a name or `false`.
+/// The message for a wrong value where a name or `false` was expected.
 fn wrong_name(alloc: Global, name: &str) -> Result<String, AllocError>
     ensures { IfOk result (λ text. string_bytes text ≡ spec.wrong_name name.now) }
 {

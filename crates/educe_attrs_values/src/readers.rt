@@ -29,7 +29,7 @@ fn named_path(meta: &Meta) -> &MetaPath
     }
 }
 
-/// What was read, or the error of what stopped it.
+/// The value, or the error of what stopped its reading.
 fn told<T>(alloc: Global, read: Result<T, Stop>) -> Result<T, EduceError>
     ensures { result ≡ map_err refusals.error_of read }
 {
@@ -39,7 +39,7 @@ fn told<T>(alloc: Global, read: Result<T, Stop>) -> Result<T, EduceError>
     }
 }
 
-/// The name that the meta has as its value, or why it has none.
+/// The name that the meta has as its value, or its rejection.
 pub fn meta_2_ident(alloc: Global, meta: &Meta) -> Result<Ident, EduceError>
     requires { IsNamed meta.now }
     ensures said { IfOk result (λ v. Holds ValueKind.Ident meta.now v) }
@@ -49,7 +49,7 @@ pub fn meta_2_ident(alloc: Global, meta: &Meta) -> Result<Ident, EduceError>
     told(alloc, read_ident(alloc, named_path(meta), meta))
 }
 
-/// The truth value that the meta has as its value, or why it has none.
+/// The truth value that the meta has as its value, or its rejection.
 pub fn meta_2_bool(alloc: Global, meta: &Meta) -> Result<bool, EduceError>
     requires { IsNamed meta.now }
     ensures said { IfOk result (λ v. Holds ValueKind.Truth meta.now v) }
@@ -59,8 +59,7 @@ pub fn meta_2_bool(alloc: Global, meta: &Meta) -> Result<bool, EduceError>
     told(alloc, read_truth(alloc, named_path(meta), meta))
 }
 
-/// The truth value that the meta has as its value, `true` where it has none; or why that is no truth
-/// value.
+/// The truth value that the meta has as its value, `true` where it has none; or its rejection.
 pub fn meta_2_bool_allow_path(alloc: Global, meta: &Meta) -> Result<bool, EduceError>
     requires { IsNamed meta.now }
     ensures said { IfOk result (λ v. Holds ValueKind.Flag meta.now v) }
@@ -70,8 +69,8 @@ pub fn meta_2_bool_allow_path(alloc: Global, meta: &Meta) -> Result<bool, EduceE
     told(alloc, read_flag(alloc, named_path(meta), meta))
 }
 
-/// The name or truth value that the meta has as its value, where a string without text is `false`; or
-/// why it has none.
+/// The name or truth value that the meta has as its value, where an empty string is `false`; or its
+/// rejection.
 pub fn meta_2_ident_and_bool(alloc: Global, meta: &Meta) -> Result<IdentOrBool, EduceError>
     requires { IsNamed meta.now }
     ensures said { IfOk result (λ v. Holds ValueKind.Name meta.now v) }
@@ -81,7 +80,7 @@ pub fn meta_2_ident_and_bool(alloc: Global, meta: &Meta) -> Result<IdentOrBool, 
     told(alloc, read_name(alloc, named_path(meta), meta))
 }
 
-/// The path of an expression that the meta has as its value, or why it has none.
+/// The path of an expression that the meta has as its value, or its rejection.
 pub fn meta_2_path(alloc: Global, meta: &Meta) -> Result<ExprPath, EduceError>
     requires { IsNamed meta.now }
     ensures said { IfOk result (λ v. Holds ValueKind.Path meta.now v) }
@@ -91,7 +90,7 @@ pub fn meta_2_path(alloc: Global, meta: &Meta) -> Result<ExprPath, EduceError>
     told(alloc, read_path(alloc, named_path(meta), meta))
 }
 
-/// The integer of 64 bits that the meta has as its value, or why it has none.
+/// The integer of 64 bits that the meta has as its value, or its rejection.
 pub fn meta_2_isize(alloc: Global, meta: &Meta) -> Result<i64, EduceError>
     requires { IsNamed meta.now }
     ensures said { IfOk result (λ v. Holds ValueKind.Integer meta.now v) }
@@ -101,7 +100,7 @@ pub fn meta_2_isize(alloc: Global, meta: &Meta) -> Result<i64, EduceError>
     told(alloc, read_integer(alloc, named_path(meta), meta))
 }
 
-/// The expression that the meta has as its value, or why it has none.
+/// The expression that the meta has as its value, or its rejection.
 pub fn meta_2_expr(alloc: Global, meta: &Meta) -> Result<Expr, EduceError>
     requires { IsNamed meta.now }
     ensures said { IfOk result (λ v. Holds ValueKind.Expr meta.now v) }

@@ -1,4 +1,4 @@
-//! What tokens are as a value of a kind.
+//! The values of each kind that tokens are.
 ghost use Rattle.std.specs.Prelude.{◌≡◌, IfOk, Some};
 ghost use Rattle.educe_attrs_values.specs.Chains.{Gives};
 ghost use Rattle.educe_attrs_values.specs.Integers as integers;
@@ -39,7 +39,7 @@ fn or_wrong<T>(found: Option<T>) -> Result<T, Fault>
     }
 }
 
-/// The truth value that tokens are, or that they are none.
+/// The truth value that tokens are, or the fault that they are none.
 pub fn truth(tokens: &[Token]) -> Result<bool, Fault>
     ensures { result ≡ spec.or_wrong (spec.truth_in tokens.now) }
 {
@@ -56,7 +56,7 @@ fn integer_in(alloc: Global, tokens: &[Token]) -> Result<Option<i64>, AllocError
     }
 }
 
-/// The same, or that they write none.
+/// The integer that tokens or the text of a string write, or the fault that they write none.
 pub fn integer(alloc: Global, tokens: &[Token]) -> Result<i64, Fault>
     ensures { Gives Fault.Memory (spec.or_wrong (integers.integer_in tokens.now)) result }
 {
@@ -70,7 +70,7 @@ fn is_empty(text: &Spelling) -> bool
     is_spelled(text, "")
 }
 
-/// The same of a text that may be there.
+/// Whether there is a text, and it has no character.
 fn is_empty_text(text: &Option<Spelling>) -> bool
     ensures { result ≡ spec.is_empty_text text.now }
 {
@@ -90,8 +90,7 @@ fn named(alloc: Global, tokens: &TokenSlice) -> Result<IdentOrBool, Fault>
     }
 }
 
-/// The name or truth value that tokens or the text of a string are; a string without text is
-/// `false`.
+/// The name or truth value that tokens or the text of a string are; an empty string is `false`.
 pub fn name_in(alloc: Global, tokens: &TokenSlice) -> Result<IdentOrBool, Fault>
     ensures { Gives Fault.Memory (spec.name_in tokens.now) result }
 {
@@ -137,8 +136,8 @@ fn may_be_predicates(alloc: Global, source: &Source) -> Result<bool, AllocError>
     }
 }
 
-/// The truth value, `*` or predicates that a value is; the last two only in brackets, but for the
-/// predicates that the text of a string is.
+/// The truth value, `*` or predicates of a value: `*` only in brackets, predicates only in brackets
+/// or as the text of a string.
 pub fn bound_in(alloc: Global, source: &Source) -> Result<WherePredicatesOrBool, Fault>
     ensures { Gives Fault.Memory (spec.bound_in source.now) result }
 {

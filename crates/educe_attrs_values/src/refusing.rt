@@ -25,7 +25,7 @@ fn expected(alloc: Global, span: Span, text: &str) -> Result<EduceError, AllocEr
     EduceError::with_word(alloc, Kind::ExpectedValue, span, word)
 }
 
-/// That the value of the parameter is missing.
+/// The rejection of a parameter whose value is missing.
 pub fn missing(alloc: Global, kind: ValueKind, path: &MetaPath) -> Result<EduceError, AllocError>
     ensures { IfOk result (λ e. e ≡ spec.missing kind path.now) }
 {
@@ -35,7 +35,7 @@ pub fn missing(alloc: Global, kind: ValueKind, path: &MetaPath) -> Result<EduceE
     expected(alloc, place, text.as_str())
 }
 
-/// That what stands at this place is no value of the kind.
+/// The rejection of a value at this place that is not of the kind.
 pub fn wrong(
     alloc: Global,
     kind: ValueKind,
@@ -49,7 +49,8 @@ pub fn wrong(
     expected(alloc, place, text.as_str())
 }
 
-/// That the text of the string at this place has literals that are not supported: these words.
+/// The rejection of the string at this place, whose text has an unsupported literal with these
+/// words.
 pub fn not_carried(place: Span, words: Texts) -> EduceError
     ensures { result ≡ spec.not_carried place words }
 {

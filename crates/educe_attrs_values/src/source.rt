@@ -1,4 +1,4 @@
-//! Where the value of a parameter stands.
+//! The tokens of a parameter's value.
 ghost use Rattle.std.specs.Prelude.{◌≡◌, IfOk};
 ghost use Rattle.educe_attrs_values.specs.Sources as spec;
 
@@ -14,7 +14,7 @@ pub struct Source {
     pub enclosed: bool,
 }
 
-/// The tokens between the first and the last, which share the list.
+/// The tokens without the first and the last. The list is shared.
 pub fn inside(tokens: &TokenSlice) -> Result<TokenSlice, AllocError>
     ensures { IfOk result (λ part. part ≡ spec.inside tokens.now) }
 {
@@ -25,7 +25,7 @@ pub fn inside(tokens: &TokenSlice) -> Result<TokenSlice, AllocError>
     tokens.part(1, len - 1)
 }
 
-/// The tokens of the value: those behind `=`, or in the brackets; none where neither stands there.
+/// The tokens of the value, after `=` or in brackets; none where the meta has neither.
 pub fn value_source(meta: &Meta) -> Result<Option<Source>, AllocError>
     ensures { IfOk result (λ source. source ≡ spec.value_source meta.now) }
 {
@@ -50,7 +50,7 @@ pub fn value_source(meta: &Meta) -> Result<Option<Source>, AllocError>
     }
 }
 
-/// The tokens at which a wrong value is rejected: its own, or the empty brackets.
+/// The tokens at which a wrong value is reported: its own, or the empty brackets.
 fn shown<'a>(tokens: &'a [Token]) -> &'a [Token]
     ensures { result.now ≡ spec.shown tokens.now }
 {
@@ -60,7 +60,7 @@ fn shown<'a>(tokens: &'a [Token]) -> &'a [Token]
     }
 }
 
-/// The place at which a wrong value is rejected.
+/// The place at which a wrong value is reported.
 pub fn value_place(meta: &Meta) -> Span
     ensures { result ≡ spec.value_place meta.now }
 {

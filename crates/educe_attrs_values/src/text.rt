@@ -37,7 +37,7 @@ fn spelled_text(alloc: Global, token: &Token) -> Result<Option<Spelling>, AllocE
     }
 }
 
-/// The text of the one string that the tokens are.
+/// The text of the string that is the only token.
 pub fn only_text(alloc: Global, tokens: &[Token]) -> Result<Option<Spelling>, AllocError>
     ensures { IfOk result (λ text. text ≡ spec.only_text tokens.now) }
 {

@@ -1,4 +1,4 @@
-//! What parameters say.
+//! The values that parameters have.
 ghost use Rattle.std.specs.Prelude.{◌≡◌};
 ghost use Rattle.educe_attrs_values.specs.Chains.{Gives};
 ghost use Rattle.educe_attrs_values.specs.Readings as spec;
@@ -75,7 +75,7 @@ pub fn read_truth(alloc: Global, path: &MetaPath, meta: &Meta) -> Result<bool, S
     or_refused(alloc, kind, path, value_place(meta), read)
 }
 
-/// The same, where the parameter alone means `true`.
+/// The truth value that a parameter has as its value, where the parameter alone means `true`.
 pub fn read_flag(alloc: Global, path: &MetaPath, meta: &Meta) -> Result<bool, Stop>
     ensures { Gives Stop.Memory (spec.value_of ValueKind.Flag path.now meta.now) result }
 {

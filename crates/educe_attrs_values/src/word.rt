@@ -7,7 +7,7 @@ use educe_syntax::{Meta, MetaPath, path_to_string};
 use educe_tokens::{Span, Spelling, Token};
 use std::alloc::{AllocError, Global};
 
-/// From the first of the tokens to the last; 0 to 0 where there is none.
+/// The span from the first of the tokens to the last; 0 to 0 where there is none.
 pub fn place_of(tokens: &[Token]) -> Span
     ensures { result ≡ spec.place_of tokens.now }
 {
@@ -20,7 +20,7 @@ pub fn place_of(tokens: &[Token]) -> Span
     }
 }
 
-/// The text of a path, without blanks.
+/// The text of a path, without white space.
 pub fn name_of(alloc: Global, path: &MetaPath) -> Result<Spelling, AllocError>
     ensures { IfOk result (λ name. name ≡ spec.text_of path.now) }
 {
@@ -28,7 +28,7 @@ pub fn name_of(alloc: Global, path: &MetaPath) -> Result<Spelling, AllocError>
     Spelling::from_str(alloc, text.as_str())
 }
 
-/// The path that a meta begins with; documentation has none.
+/// The path of a meta; documentation has none.
 pub fn path_of(meta: &Meta) -> Option<&MetaPath>
     ensures { option_copied result ≡ spec.path_of meta.now }
 {
@@ -41,7 +41,7 @@ pub fn path_of(meta: &Meta) -> Option<&MetaPath>
     }
 }
 
-/// The place of a meta, from its path to its end.
+/// The span of a meta, from its path to its end.
 pub fn meta_place(meta: &Meta) -> Span
     ensures { result ≡ spec.meta_place meta.now }
 {

@@ -147,7 +147,7 @@ joins_last (kind.Start b) = refl
 joins_last (kind.Stop b) = refl
 joins_last kind.Doc = refl
 
--- nor one that need not be before more
+-- a token that need not be joint before more tokens need not be joint
 joins_front : (k : TokenKind) (front rest : Tokens) → joins k (next_kind (front ++ rest)) ≡ false → joins k (next_kind front) ≡ false
 unfolding next_kind
 joins_front k [] rest e = joins_last k
@@ -242,7 +242,7 @@ no_pair c d (kind.Start b) next h none = refl
 no_pair c d (kind.Stop b) next h none = refl
 no_pair c d kind.Doc next h none = refl
 
--- the same operators stand in a copy
+-- an operator of two puncts stays in a copy
 pub pair_same : (c d : ℕ) (ts us : Tokens) → opens_comment c d ≡ false → Copy ts us → begins_pair c d us ≡ begins_pair c d ts
 unfolding begins_pair next_kind
 pair_same c d [] [] none copy = refl
@@ -256,7 +256,7 @@ pair_same c d (t ∷ s ∷ ts) (u ∷ v ∷ us) none copy = elim copy.0.kind_is 
   | inr e ↦ (ap (λ b. b && is_sign d v.kind) (ap (is_joint c) e.0 ∙ joint_unjoined c t.kind) ∙ sym (no_pair c d t.kind s.kind e.1 none))
 ]
 
--- and the same puncts alone
+-- one punct stays in a copy
 pub lone_same : (c d : ℕ) (ts us : Tokens) → opens_comment c d ≡ false → Copy ts us → begins_lone c d us ≡ begins_lone c d ts
 unfolding begins_lone
 lone_same c d [] [] none copy = refl

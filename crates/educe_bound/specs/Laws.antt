@@ -1,4 +1,4 @@
--- The laws of predicates: those that bounds ask for are readings of their tokens.
+-- The law of predicates: those that bounds ask for are readings of their tokens.
 use Rattle.std.specs.Prelude.{◌≡◌, ℕ, List, ◌∷◌, ◌++◌}
 use Rattle.educe_tokens.specs.TokenKind.TheVariants as kind
 use Rattle.educe_tokens.specs.Lexes.{lexemes}
@@ -19,15 +19,15 @@ use Rattle.educe_bound_traits.specs.declared.traits.Trait.{Trait}
 use Rattle.educe_bound.specs.Bounds.{bound_of}
 use Rattle.educe_bound.specs.Predicates.{behind, AreRead, IsReadBound}
 
--- What holds of the predicates that bounds ask for.
+-- Laws of the predicates that bounds ask for.
 pub record PredicateLaws : Type 0 where
-  -- What such a type needs: its tokens, as they are copied, `:` and the path of the trait.
+  -- A predicate on a type consists of the copied tokens of the type, `:` and the path of the trait.
   pub types : (params : List GenericParam) (ex : Exceptions) (self : List ℕ) (which : Trait) (ty : Ty) (p : WherePredicate) → IsAskedType params ex self ty
       → lexemes p.written.tokens ≡ written_lexemes (out-Ty ty).written ++ behind which → IsReadPredicate p
-  -- What is asked of a parameter: its name, `:` and the path of the trait.
+  -- A predicate on a parameter consists of its name, `:` and the path of the trait.
   pub params : (which : Trait) (text : List ℕ) (p : WherePredicate) → IsName text
       → lexemes p.written.tokens ≡ record { kind = kind.Ident; spelling = text } ∷ behind which → IsReadPredicate p
-  -- Those of a list that is read.
+  -- The predicates of a parsed list are readings of their tokens.
   pub lists : (tokens : Tokens) (found : List WherePredicate) → IsWhole predicates tokens found → AreRead found
-  -- Those that a bound lists.
+  -- The predicates that a bound lists are readings of their tokens.
   pub bounds : (value : WherePredicatesOrBool) (s : Source) → IsBound s value → IsReadBound (bound_of value)

@@ -1,4 +1,4 @@
--- Predicates of where clauses by their tokens, and what the bound of a trait asks for.
+-- Predicates of where clauses as tokens, and the predicates that the bound of a trait asks for.
 use Rattle.std.specs.Prelude.{◌≡◌, ℕ, Bool, true, false, not, List, [], ◌++◌, map, filter, codes}
 use Rattle.std.specs.List.{AllByRecursion, filter_map}
 use Rattle.educe_tokens.specs.Lexes.{Lexeme}
@@ -22,19 +22,19 @@ use Rattle.educe_bound_traits.specs.declared.traits.Trait.TheVariants as trait
 
 -- ---- predicates
 
--- A predicate by its tokens: the spans, and whether puncts are joint, aside.
+-- A predicate as its tokens, spans and jointness aside.
 abbrev pub Key : Type 0
 Key = List Lexeme
 
--- That of a predicate.
+-- The tokens of a predicate, spans and jointness aside.
 abbrev pub key_of : WherePredicate → Key
 key_of predicate = lexemes_aside predicate.written.tokens
 
--- Those of predicates.
+-- The tokens of each predicate, spans and jointness aside.
 abbrev pub keys_of : List WherePredicate → List Key
 keys_of predicates = map key_of predicates
 
--- The numbers by which it is found again.
+-- The numbers by which a predicate is looked up.
 abbrev pub number_of : WherePredicate → List ℕ
 number_of predicate = tokens_key predicate.written.tokens
 
@@ -44,15 +44,15 @@ AreRead predicates = AllByRecursion IsReadPredicate predicates
 
 -- ---- what a trait asks for
 
--- What stands behind the type in a predicate that asks for the trait, jointness included.
+-- The tokens after the type in a predicate that asks for the trait, jointness included.
 abbrev pub behind : Trait → List Lexeme
 behind which = quoted (codes ":") ++ quoted (trait_path which)
 
--- The same, jointness aside.
+-- The tokens after the type in a predicate that asks for the trait, jointness aside.
 abbrev pub asks_for : Trait → List Lexeme
 asks_for which = map unjoin (behind which)
 
--- The types that a trait treats otherwise than others.
+-- The types that the trait treats specially.
 abbrev pub exceptions_of : Trait → Exceptions
 exceptions_of trait.Debug = debug_exceptions
 exceptions_of trait.Clone = clone_exceptions
@@ -66,13 +66,13 @@ exceptions_of trait.Default = default_exceptions
 
 -- ---- parameters
 
--- A lifetime parameter.
+-- The parameter is a lifetime.
 abbrev pub is_lifetime : GenericParam → Bool
 is_lifetime (param.Lifetime p) = true
 is_lifetime (param.TypeParam p) = false
 is_lifetime (param.Const p) = false
 
--- The parameters in the order in which an impl has them: lifetimes first (Rust Reference, Generic parameters).
+-- The parameters in the order of an impl: lifetimes first (Rust Reference, Generic parameters).
 abbrev pub lifetimes_first : List GenericParam → List GenericParam
 lifetimes_first params = filter is_lifetime params ++ filter (λ p. not (is_lifetime p)) params
 
@@ -85,13 +85,13 @@ IsReadBound Auto = Unit {0}
 IsReadBound All = Unit {0}
 IsReadBound (Custom predicates) = AreRead predicates
 
--- `Param : Trait` for each type parameter.
+-- The predicate `Param : Trait` for each type parameter.
 abbrev pub on_each_param : List GenericParam → Trait → List Key
 on_each_param params which = map (param_of (asks_for which)) (filter_map type_name params)
 
--- The predicates that a bound asks for by itself, for types of a definition of this name with these parameters, by these
--- exceptions: none; what the types need, in the order of first need, none twice; one for each type parameter; or those of the
--- list.
+-- The predicates that a bound asks for, given the types of fields, the exceptions, and the name and parameters of the
+-- definition: none; what the types need, in the order of first need and each once; one for each type parameter; or
+-- those of the list.
 abbrev pub AreByBound : Bound → Exceptions → List GenericParam → List ℕ → Trait → List Ty → List Key → Type 0
 AreByBound Disabled ex params self which types own = own ≡ []
 AreByBound Auto ex params self which types own = AreOwn ex params self (asks_for which) types own
@@ -105,15 +105,15 @@ SufficeBy Auto ex params self which types own = Suffices ex params self (asks_fo
 SufficeBy All ex params self which types own = Unit {0}
 SufficeBy (Custom predicates) ex params self which types own = Unit {0}
 
--- And none of them can be dropped.
+-- Under the automatic bound none of the predicates can be dropped.
 abbrev pub AreMinimalBy : Bound → Exceptions → List GenericParam → List ℕ → Trait → List Ty → List Key → Type 0
 AreMinimalBy Disabled ex params self which types own = Unit {0}
 AreMinimalBy Auto ex params self which types own = AreMinimal ex params self (asks_for which) types own
 AreMinimalBy All ex params self which types own = Unit {0}
 AreMinimalBy (Custom predicates) ex params self which types own = Unit {0}
 
--- The predicates by which fields of these types may be copied out of a packed struct: `Copy`, by the same bound; none where the
--- predicates are listed.
+-- The predicates by which fields of these types may be copied out of a packed struct: `Copy`, by the same bound; none
+-- where the bound lists its predicates.
 abbrev pub AreCopies : Bound → List GenericParam → List ℕ → List Ty → List Key → Type 0
 AreCopies Disabled params self types found = found ≡ []
 AreCopies Auto params self types found = AreOwn copy_exceptions params self (asks_for trait.Copy) types found

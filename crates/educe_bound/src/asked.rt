@@ -22,7 +22,7 @@ use educe_syntax::{GenericParam, Ident, Params, Predicates, ToTokens, Ty, WhereP
 use educe_tokens::{Seq, TokenSlice, TokenStream, Written, quote};
 use std::alloc::{AllocError, Global};
 
-/// The types that the trait treats otherwise than others (documentation of `educe`, Bounds).
+/// The types that the trait treats specially (documentation of `educe`, Bounds).
 pub fn exceptions_of(which: Trait) -> BoundExceptions
     ensures { result ≡ spec.exceptions_of which }
 {

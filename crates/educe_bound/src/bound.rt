@@ -1,4 +1,4 @@
-//! The bounds that the parameter `bound` of a trait asks for (documentation of `educe`, Bounds).
+//! The bounds that the parameter `bound` of a trait sets (documentation of `educe`, Bounds).
 ghost use Rattle.std.specs.Prelude.{◌≡◌, IfOk, IfErr, Some};
 ghost use Rattle.educe_attrs_values.specs.Causes.{HasNoReaderCause, IsReaderCause};
 ghost use Rattle.educe_attrs_values.specs.Metas.{IsNamed};
@@ -13,13 +13,13 @@ use std::alloc::Global;
 /// Which predicates an impl has besides those of the type (documentation of `educe`, Bounds).
 #[derive(Drop)]
 pub enum Bound {
-    /// None.
+    /// No predicates besides those of the type.
     Disabled,
-    /// What the types of the fields need.
+    /// The predicates that the types of the fields need.
     Auto,
-    /// One for each type parameter.
+    /// One predicate for each type parameter.
     All,
-    /// These.
+    /// The listed predicates.
     Custom(Predicates),
 }
 
@@ -47,8 +47,8 @@ impl Bound {
         }
     }
 
-    /// The bound that the meta has as its value, or why it has none. Messages call the parameter
-    /// `bound`, whatever the path of the meta.
+    /// The bound that the meta sets, or its rejection. Messages call the parameter `bound`,
+    /// whatever the path of the meta.
     pub fn from_meta(alloc: Global, meta: &Meta) -> Result<Bound, EduceError>
         requires { IsNamed meta.now }
         ensures said { IfOk result (λ bound. spec.SaysBound meta.now bound) }

@@ -1,4 +1,4 @@
-//! The laws of predicates: a function that does nothing, with a contract that is the law.
+//! The law of predicates: a function that does nothing, whose contract is the law.
 ghost use Rattle.educe_bound.specs.Laws.{PredicateLaws};
 
 /// The predicates that bounds ask for are readings of their tokens.

@@ -1,5 +1,5 @@
-//! The bounds that attributes ask for, and the predicates of each (documentation of the crate `educe`,
-//! Bounds). The traits and the value of `bound` are passed on.
+//! The bounds that attributes set, and the predicates of each (documentation of the crate `educe`,
+//! Bounds). The traits and the value of `bound` are re-exported.
 #![tactic(auto)]
 
 mod asked;

@@ -24,8 +24,8 @@ impl Bound {
     ghost use Rattle.std.specs.Borrow.{Bor};
     ghost use Rattle.educe_syntax.specs.Ty.{Ty};
 
-    /// The predicates that the bound asks for, where fields of these types are touched (documentation
-    /// of `educe`, Bounds). Those of a list stand as they were written.
+    /// The predicates that the bound asks for, where the impl uses fields of these types
+    /// (documentation of `educe`, Bounds). Those of a list stay as they were written.
     pub fn into_where_predicates_by_generic_parameters_check_types(
         &self,
         alloc: Global,
@@ -36,7 +36,7 @@ impl Bound {
         exceptions: &BoundExceptions,
     ) -> Result<Predicates, AllocError>
         ensures keys { IfOk result (λ found. spec.AreByBound self.now exceptions.now params.now self_ident.now.text bound_trait (map (λ (t : Bor Ty). t.now) types.now) (spec.keys_of found)) }
-        // Under the automatic bound they suffice, and none can be dropped.
+        // Under the automatic bound the predicates suffice, and none can be dropped.
         ensures suffice { IfOk result (λ found. spec.SufficeBy self.now exceptions.now params.now self_ident.now.text bound_trait (map (λ (t : Bor Ty). t.now) types.now) (spec.keys_of found)) }
         ensures minimal { AllByRecursion IsReadType (map (λ (t : Bor Ty). t.now) types.now) → IfOk result (λ found. spec.AreMinimalBy self.now exceptions.now params.now self_ident.now.text bound_trait (map (λ (t : Bor Ty). t.now) types.now) (spec.keys_of found)) }
         ensures read { spec.IsReadBound self.now → AreNames params.now → AllByRecursion IsReadType (map (λ (t : Bor Ty). t.now) types.now) → IfOk result spec.AreRead }
@@ -51,7 +51,7 @@ impl Bound {
         }
     }
 
-    /// The predicates that allow to read the fields of these types of a packed struct, by copies
+    /// The predicates by which fields of these types may be copied out of a packed struct
     /// (documentation of `educe`, Bounds).
     pub fn packed_copy_predicates(
         &self,
@@ -106,8 +106,8 @@ fn append_new(alloc: Global, own: &mut Predicates, extra: &Predicates) -> Result
     Ok(())
 }
 
-/// Appends, one after the other, those predicates that are not there yet, by their tokens. Where there
-/// are none to append, the own ones are not gone through.
+/// Appends those predicates that are not in the list yet, compared by their tokens. Where there are
+/// none to append, no key is computed.
 pub fn extend_where_predicates(
     alloc: Global,
     own: &mut Predicates,
@@ -123,7 +123,7 @@ pub fn extend_where_predicates(
     }
 }
 
-/// The generics with these predicates behind their own.
+/// The generics with these predicates after their own.
 pub fn with_predicates(
     alloc: Global,
     generics: &Generics,
@@ -144,8 +144,7 @@ fn is_lifetime(param: &GenericParam) -> bool
     matches!(param, GenericParam::Lifetime(_))
 }
 
-/// The parameters in the order in which an impl has them: lifetimes first (Rust Reference, Generic
-/// parameters).
+/// The parameters in the order of an impl: lifetimes first (Rust Reference, Generic parameters).
 pub fn lifetimes_first(alloc: Global, params: &Params) -> Result<Params, AllocError>
     ensures { IfOk result (λ found. found ≡ spec.lifetimes_first params.now) }
 {

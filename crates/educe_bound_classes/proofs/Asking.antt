@@ -181,7 +181,7 @@ module _ (ex : Exceptions) (params : List GenericParam) (self : List ℕ) where
 pub adds_no_names : (old : List Asked) → AddsNames [] old old
 adds_no_names old = record { keys = λ bound. sym (append-nil (keys_of bound old)); read = λ ex params self names asked. asked }
 
--- those of others that were added behind
+-- names that are added after others
 pub adds_more_names : (names more : List (List ℕ)) (old mid new : List Asked) → AddsNames names old mid → AddsNames more mid new → AddsNames (names ++ more) old new
 adds_more_names names more old mid new first second = record {
   keys = λ bound.

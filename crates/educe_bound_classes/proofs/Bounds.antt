@@ -11,7 +11,7 @@ has_left [] ls k h = absurd h
 has_left (j ∷ ks) ls k (inl is) = inl is
 has_left (j ∷ ks) ls k (inr h) = inr (has_left ks ls k h)
 
--- so is one of the second
+-- one of the second list is one of both
 has_right : {K : Type 0} (ks ls : List K) (k : K) → Has ls k → Has (ks ++ ls) k
 has_right [] ls k h = h
 has_right (j ∷ ks) ls k h = inr (has_right ks ls k h)
@@ -34,7 +34,7 @@ extends_known k (Extends.done known) h = h
 extends_known k (Extends.held known j is e) h = extends_known k e h
 extends_known k (Extends.added known j new e) h = extends_known k e (has_left known (j ∷ []) k h)
 
--- so is what was added
+-- what was added is there
 extends_more : {K : Type 0} {known more all : List K} (k : K) → Extends known more all → Has more k → Has all k
 extends_more k (Extends.done known) h = absurd h
 extends_more k (Extends.held known j has e) (inl is) = extends_known k e (has_same known j k is has)
@@ -42,7 +42,7 @@ extends_more k (Extends.held known j has e) (inr h) = extends_more k e h
 extends_more k (Extends.added known j new e) (inl is) = extends_known k e (has_right known (j ∷ []) k (inl is))
 extends_more k (Extends.added known j new e) (inr h) = extends_more k e h
 
--- and nothing else
+-- nothing but what was there and what was added is there
 extends_only : {K : Type 0} {known more all : List K} (k : K) → Extends known more all → Has all k → Has known k ⊎ Has more k
 extends_only k (Extends.done known) h = inl h
 extends_only k (Extends.held known j has e) h = elim (extends_only k e h) [ inl old ↦ inl old | inr new ↦ inr (inr new) ]
@@ -60,7 +60,7 @@ distinct_last (j ∷ ks) k apart new = (
   distinct_last ks k apart.1 (λ h. new (inr h)),
 )
 
--- those of distinct ones with new ones are distinct
+-- distinct predicates with new ones behind them are distinct
 pub extends_distinct : {K : Type 0} {known more all : List K} → AreDistinct known → Extends known more all → AreDistinct all
 extends_distinct apart (Extends.done known) = apart
 extends_distinct apart (Extends.held known j has e) = extends_distinct apart e
@@ -132,14 +132,14 @@ module _ {X N K : Type 0} (class : X → Class X N) (own : X → K) (param : N �
     abbrev IsAsked : K → Type 0
     IsAsked k = ((x : X) × IsRead x × (class x ≡ other) × (own x ≡ k)) ⊎ ((n : N) × IsParam n × (param n ≡ k))
 
-    -- so is the predicate of each name
+    -- the predicate of each name is what a parameter is asked
     names_asked : (names : List N) (k : K) → AllByRecursion IsParam names → Has (map param names) k → IsAsked k
     names_asked [] k all h = absurd h
     names_asked (n ∷ names) k all (inl is) = inr (n, all.0, is)
     names_asked (n ∷ names) k all (inr h) = names_asked names k all.1 h
 
     mutual
-      -- so is each that a type needs
+      -- each predicate that a type needs is one that a type or a parameter is asked
       needs_asked : {x : X} {ks : List K} (k : K) → Needs class own param x ks → IsRead x → Has ks k → IsAsked k
       needs_asked k (Needs.nothing x asks) read h = absurd h
       needs_asked k (Needs.forwards x parts is needs) read h = all_asked k needs (by_text.parts_read x parts read is) h

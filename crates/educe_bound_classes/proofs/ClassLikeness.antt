@@ -149,7 +149,7 @@ begins_same test {x = x} {y = y} is =
     let p = parts_alike is in
     λ i. not (p.leading i) && passes_same test (slice_get (out-Path x).segments 0) (slice_get (out-Path y).segments 0) p.first i
 
--- and end alike
+-- the last segments of paths that are alike are alike
 overfull_same : {x y : Segment} → AlikeSegments x y → is_overfull x ≡ is_overfull y
 overfull_same is = λ i.
     (bytes_eq (codes "HashMap") (names_same is i) && nat_lt 2 (type_counts_same (args_alike is) i))

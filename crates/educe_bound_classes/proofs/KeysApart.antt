@@ -93,7 +93,7 @@ unfolding head_of words_from
 head_back (Itself ty) = words_back ty.now.written.tokens
 head_back (Param name) = ap words_from (sym (append-nil (word_key kind.Ident name.now.text))) ∙ word_back kind.Ident name.now.text []
 
--- what is kept by one function of it is kept by another that tells the same apart
+-- what is kept by one function of it is kept by another that distinguishes the same
 module _ {K L : Type 0} (g : K → L) (Is : K → Type 0) (apart : (a b : K) → Is a → Is b → g a ≡ g b → a ≡ b) where
   has_to : (ks : List K) (k : K) → Has ks k → Has (map g ks) (g k)
   has_to [] k h = absurd h
@@ -163,7 +163,7 @@ are_keys : (asked : List Asked) → AllByRecursion IsKey (all_keys asked)
 are_keys [] = tt
 are_keys (a ∷ asked) = (is_key a, are_keys asked)
 
--- ---- lists that are told apart by their tokens
+-- ---- lists that differ in their tokens
 
 tokens_is_key : (tokens : List Token) → IsKey (tokens_key tokens)
 tokens_is_key tokens = ap (flat_map lexeme_key) (words_back tokens) ∙ lexemes_key tokens

@@ -45,7 +45,7 @@ ident_aside kind.Doc h = cc
 name_in : (text : List ℕ) → is_name kind.Ident text ≡ true → word_in segment_words text ≡ true
 name_in text h = ap (λ b. b || list_any (λ (word : Keyword). bytes_eq (text_of word) text) (SelfValue ∷ SelfType ∷ Super ∷ Crate ∷ [])) h
 
--- so may the token of one
+-- the token of a name may be a segment
 pub name_accepted : (t : Token) → t.kind ≡ kind.Ident → is_name kind.Ident t.spelling ≡ true → IsTrue (accepts terminal.PathSegment t)
 unfolding accepts
 name_accepted t ident name = ap (λ k. token_in (set_of terminal.PathSegment) k t.spelling) ident ∙ name_in t.spelling name
@@ -101,7 +101,7 @@ module _ (budget : ℕ) where
   no_arguments a (inr (inl h)) = absurd (not_empty (known budget) (made round_read round_args) budget refl a h)
   no_arguments a (inr (inr h)) = h.1
 
-  -- and no bounds
+  -- no tokens are no bounds
   no_bounds : (ts : Tokens) (xs : List BoundRead) → ts ≡ [] → Listed (Parses parts budget bound) (accepts (terminal.Sign 43)) ts xs → some_bounds xs ≡ true → ⊥
   unfolding computed
   no_bounds ts xs empty Listed.none some = false≢true some

@@ -35,7 +35,7 @@ alike false false into back = refl
 pub same_text : (xs ys : List ℕ) → IsUtf8 xs → IsUtf8 ys → chars xs ≡ chars ys → xs ≡ ys
 same_text xs ys first second same = sym (encodes-chars xs first) ∙ ap encodes same ∙ encodes-chars ys second
 
--- texts are told apart by their characters
+-- texts differ where their characters do
 apart_by_chars : (xs ys : List ℕ) → IsUtf8 xs → IsUtf8 ys → bytes_eq xs ys ≡ bytes_eq (chars xs) (chars ys)
 apart_by_chars xs ys first second =
     alike (bytes_eq xs ys) (bytes_eq (chars xs) (chars ys)) (λ same. (bytes_eq-Decides (chars xs) (chars ys)).1 (ap chars ((bytes_eq-Decides xs ys).0 same)))
@@ -100,7 +100,7 @@ insert_adds test (k ∷ keys) text = added_by test (text_cmp text k) keys k text
 
 -- ---- texts of several lists
 
--- those of two lists, added one behind the other
+-- texts of two lists, added one after the other
 pub adds_more_texts : (some more old mid new : List (List ℕ)) → AddsTexts some old mid → AddsTexts more mid new → AddsTexts (some ++ more) old new
 adds_more_texts some more old mid new first second text =
     second text ∙ ap (λ b. b || has_text more text) (first text) ∙ sym (behind (has_text old text) (has_text some text) (has_text more text))

@@ -1,4 +1,4 @@
--- What a trait asks of a type.
+-- The classes of types: what a trait asks for a type.
 use Rattle.std.specs.Prelude.{ℕ, ◌-◌, nat_lt, Bool, true, false, not, ◌&&◌, ◌||◌, if◌then◌else◌, List, [], length, filter, count_by, Option, Some, None, is_some, slice_get, codes}
 use Rattle.std.specs.List.{list_any, filter_map}
 use Rattle.std.specs.Str.{bytes_eq}
@@ -22,49 +22,49 @@ use Rattle.educe_bound_classes.specs.Questions.{uses_params, mention_of}
 
 -- ---- arguments
 
--- The text is one of the names.
+-- The text is in the list of names.
 abbrev pub is_one_of : List (List ℕ) → List ℕ → Bool
 is_one_of names text = list_any (λ name. bytes_eq name text) names
 
--- The type that an argument in angle brackets is, if it is one.
+-- The type that a generic argument is, if it is one.
 abbrev pub plain_of : AngleArg → Option Ty
 plain_of (arg.Plain' f w) = Some (record { form = f; written = w })
 plain_of (arg.Lifetime l) = None
 plain_of (arg.Binding' i f w) = None
 plain_of (arg.Constant w) = None
 
--- The argument is a type.
+-- The generic argument is a type.
 unfoldable pub is_plain : AngleArg → Bool
 is_plain a = is_some (plain_of a)
 
--- The arguments in angle brackets.
+-- The arguments in angle brackets; none where there are no angle brackets.
 abbrev pub angle_of : Args → List AngleArg
 angle_of args.None = []
 angle_of (args.Angle' s row) = items-the_row-AngleArg _ row
 angle_of (args.Round' s inputs output) = []
 
--- There is an angle list.
+-- The arguments are in angle brackets.
 abbrev pub has_angle : Args → Bool
 has_angle args.None = false
 has_angle (args.Angle' s row) = true
 has_angle (args.Round' s inputs output) = false
 
--- How many of them are types.
+-- The number of types among the arguments in angle brackets.
 abbrev pub type_count : Args → ℕ
 type_count a = count_by is_plain (angle_of a)
 
 -- ---- paths
 
--- The last segment.
+-- The last segment of a path.
 abbrev pub last_segment : Path → Option Segment
 last_segment p = slice_get (out-Path p).segments (length (out-Path p).segments - 1)
 
--- The arguments of a segment, where there is one.
+-- The arguments of a segment, if there is one.
 abbrev pub args_at : Option Segment → Args
 args_at None = args.None
 args_at (Some s) = s.args
 
--- The segment is there, and has this name.
+-- There is a segment, and it has this name.
 abbrev pub is_named_at : List ℕ → Option Segment → Bool
 is_named_at name None = false
 is_named_at name (Some s) = bytes_eq name s.ident.text
@@ -73,26 +73,26 @@ is_named_at name (Some s) = bytes_eq name s.ident.text
 abbrev pub is_overfull : Segment → Bool
 is_overfull s = (bytes_eq (codes "HashMap") s.ident.text && nat_lt 2 (type_count s.args)) || (bytes_eq (codes "HashSet") s.ident.text && nat_lt 1 (type_count s.args))
 
--- The segment is there, and has one of the names.
+-- There is a segment, and its name is in the list.
 abbrev pub matches_at : List (List ℕ) → Option Segment → Bool
 matches_at names None = false
 matches_at names (Some s) = not (is_overfull s) && is_one_of names s.ident.text
 
--- The types among the arguments of the last segment.
+-- The types among the arguments of the last segment of a path.
 abbrev pub last_types : Path → List Ty
 last_types p = filter_map plain_of (angle_of (args_at (last_segment p)))
 
--- Those of the path that a form is.
+-- The types among the arguments of the last segment of the path that a form is.
 abbrev pub types_behind : TypeForm → List Ty
 types_behind (form.Path' self_type p) = last_types p
 types_behind _ = []
 
--- The path of a type that is one without a self type.
+-- The path that a form is, if it has no self type.
 abbrev pub path_of_form : TypeForm → Option Path
 path_of_form (form.Path' args.Args-Round-1-None' p) = Some p
 path_of_form _ = None
 
--- The name of a type parameter.
+-- The name of a type parameter; other parameters have none here.
 abbrev pub type_name : GenericParam → Option (List ℕ)
 type_name (param.Lifetime p) = None
 type_name (param.TypeParam p) = Some p.ident.text
@@ -109,12 +109,13 @@ module _ (params : List GenericParam) where
   matches names p = not (begins_with (is_type_param params) p) && matches_at names (last_segment p)
 
   module _ (ex : Exceptions) where
-    -- A path of a type of which nothing is asked.
+    -- The path is of a type for which nothing is asked.
     abbrev pub is_unconditional_path : Path → Bool
     is_unconditional_path p =
         (not (begins_with (is_type_param params) p) && is_named_at (codes "PhantomData") (last_segment p)) || matches ex.unconditional p
 
-    -- Nothing is asked of a type of this form: a pointer, a reference that is an exception, such a path without a self type.
+    -- Nothing is asked for a type of this form: a pointer, a reference that is an exception, or the path of such a type
+    -- without a self type.
     abbrev pub is_unconditional_form : TypeForm → Bool
     is_unconditional_form (form.Pointer' s ty) = true
     is_unconditional_form (form.FnPtr' s inputs output) = true
@@ -122,39 +123,37 @@ module _ (params : List GenericParam) where
     is_unconditional_form (form.Path' args.Args-Round-1-None' p) = is_unconditional_path p
     is_unconditional_form _ = false
 
-    -- Nothing is asked of the type, whatever stands in it: a raw or function pointer, `PhantomData`, a path with one of the
-    -- names, or `&T` where the exceptions say so.
+    -- Nothing is asked for the type, whatever its arguments are.
     abbrev pub is_unconditional : Ty → Bool
     is_unconditional ty = is_unconditional_form ty.form
 
-    -- ---- parts
+    -- ---- forwarding
 
-    -- The path hands on what is asked to its arguments.
+    -- The path is of a type that forwards to its arguments what is asked.
     abbrev pub forwards : Path → Bool
     forwards p = matches ex.forwarding p && has_angle (args_at (last_segment p))
 
-    -- The types to which a path hands on what is asked, where there is a path and it does.
+    -- The types to which a path forwards, if there is a path and it forwards.
     abbrev pub parts_by : Option Path → Option (List Ty)
     parts_by None = None
     parts_by (Some p) = if forwards p then Some (last_types p) else None
 
-    -- There is a path, and it hands on what is asked.
+    -- There is a path, and it forwards to its arguments.
     abbrev pub forwards_at : Option Path → Bool
     forwards_at None = false
     forwards_at (Some p) = forwards p
 
-    -- The type hands on what is asked.
+    -- The type forwards to its arguments.
     abbrev pub is_forwarding : Ty → Bool
     is_forwarding ty = forwards_at (path_of_form ty.form)
 
-    -- The types to which a type hands on what is asked: those among the arguments of a path that matches a forwarding name and
-    -- has an angle list.
+    -- The types to which a type forwards; none where it does not forward.
     abbrev pub parts_of : Ty → Option (List Ty)
     parts_of ty = parts_by (path_of_form ty.form)
 
     -- ---- names
 
-    -- Does the parameter of this name begin a path?
+    -- The question whether a path begins with the parameter of this name.
     abbrev pub name_of : List ℕ → Question
     name_of name = record {
       at_path = λ behind p. begins_with (λ text. bytes_eq name text) p;
@@ -175,7 +174,7 @@ module _ (params : List GenericParam) where
       abbrev pub mentions : Ty → Bool
       mentions ty = mentions_named params self ty
 
-      -- The first class that fits, by whether each does.
+      -- The first class that applies, given which apply.
       abbrev pub class_by : Bool → Bool → Option (List Ty) → Bool → List (List ℕ) → Class Ty (List ℕ)
       class_by true uses parts mentions names = unconditional
       class_by false false parts mentions names = without_parameters
@@ -183,6 +182,6 @@ module _ (params : List GenericParam) where
       class_by false true None true names = mentioning names
       class_by false true None false names = other
 
-      -- The class of a type, the first that fits: unconditional, without parameters, forwarding, mentioning, other.
+      -- The class of a type: the first that applies.
       abbrev pub class_of : Ty → Class Ty (List ℕ)
       class_of ty = class_by (is_unconditional ty) (uses_params params ty) (parts_of ty) (mentions ty) (names_in ty)

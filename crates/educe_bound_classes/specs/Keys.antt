@@ -1,4 +1,4 @@
--- Numbers by which tokens are told apart, spans and jointness aside.
+-- Keys of token lists: numbers that are equal exactly where the tokens are, spans and jointness aside.
 use Rattle.std.specs.Prelude.{◌≡◌, ℕ, suc, Bool, List, [], ◌∷◌, ◌++◌, map}
 use Rattle.std.specs.List.{flat_map, list_any}
 use Rattle.std.specs.Str.{bytes_eq}
@@ -34,7 +34,7 @@ kind_number (kind.Stop Square) = 12
 kind_number (kind.Stop Curly) = 13
 kind_number kind.Doc = 14
 
--- The character of a punct, and 0 of any other kind.
+-- The character of a punct, and 0 for any other kind.
 abbrev pub kind_char : TokenKind → ℕ
 kind_char (kind.Punct c joint) = c
 kind_char kind.Ident = 0
@@ -44,35 +44,35 @@ kind_char (kind.Start b) = 0
 kind_char (kind.Stop b) = 0
 kind_char kind.Doc = 0
 
--- The kind, and the characters, each as the number behind its own, which a 0 ends.
+-- The key of a word: its kind, and its characters, each increased by 1, with a final 0.
 abbrev pub word_key : TokenKind → List ℕ → List ℕ
 word_key k text = kind_number k ∷ kind_char k ∷ (map suc text ++ 0 ∷ [])
 
--- Those of a token.
+-- The key of a token.
 unfoldable pub token_key : Token → List ℕ
 token_key t = word_key t.kind t.spelling
 
--- Those of tokens, one behind the other.
+-- The key of tokens: the keys of each in sequence.
 abbrev pub tokens_key : List Token → List ℕ
 tokens_key tokens = flat_map token_key tokens
 
--- Those of what a predicate is asked of.
+-- The key of the type or the parameter of a predicate.
 abbrev pub asked_key : Asked → List ℕ
 asked_key (Itself ty) = tokens_key ty.now.written.tokens
 asked_key (Param name) = word_key kind.Ident name.now.text
 
--- Those of all that is asked.
+-- The keys of all predicates that are asked for.
 abbrev pub all_keys : List Asked → List (List ℕ)
 all_keys asked = map asked_key asked
 
--- One of the keys is this.
+-- The key is in the list.
 abbrev pub has_key : List (List ℕ) → List ℕ → Bool
 has_key keys key = list_any (λ k. bytes_eq k key) keys
 
--- Keys in their order.
+-- The order of keys.
 abbrev pub key_cmp : Vec ℕ Global → Vec ℕ Global → Ordering
 key_cmp x y = slice_cmp nat_cmp x.items y.items
 
--- The set has these keys and no others.
+-- The set contains exactly these keys.
 abbrev pub Holds : BTreeSet (Vec ℕ Global) → List (List ℕ) → Type 0
 Holds seen keys = (key : Vec ℕ Global) → contains key_cmp seen key ≡ has_key keys key.items

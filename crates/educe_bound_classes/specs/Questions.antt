@@ -1,4 +1,4 @@
--- What is asked of the places of a type.
+-- The questions that are asked about types.
 use Rattle.std.specs.Prelude.{ℕ, Bool, false, not, ◌&&◌, ◌||◌, List, codes}
 use Rattle.std.specs.List.{list_any}
 use Rattle.std.specs.Str.{bytes_eq}
@@ -12,7 +12,7 @@ use Rattle.educe_bound_classes.specs.Params.{is_param, is_type_param}
 use Rattle.educe_bound_classes.specs.Paths.{begins_with}
 use Rattle.educe_bound_classes.specs.Walk.{Question, in_type}
 
--- The word of a token of this kind is a parameter.
+-- The token of this kind and spelling is a word that is the name of a parameter.
 abbrev pub is_param_at : List GenericParam → TokenKind → List ℕ → Bool
 is_param_at params kind.Ident text = is_param params text
 is_param_at params kind.Lifetime text = false
@@ -22,11 +22,11 @@ is_param_at params (kind.Start b) text = false
 is_param_at params (kind.Stop b) text = false
 is_param_at params kind.Doc text = false
 
--- The token is a word that is a parameter.
+-- The token is a word that is the name of a parameter.
 abbrev pub is_param_word : List GenericParam → Token → Bool
 is_param_word params t = is_param_at params t.kind t.spelling
 
--- Does it use a type parameter or a const parameter?
+-- The question whether a type uses a type or const parameter.
 abbrev pub use_of : List GenericParam → Question
 use_of params = record {
   at_path = λ behind p. begins_with (is_param params) p;
@@ -36,8 +36,7 @@ use_of params = record {
   passes_path = λ p. false;
 }
 
--- The type uses parameters: a type or const parameter begins a path without leading `::` in it, or is a word of an array length
--- or of a constant.
+-- The type uses a type or const parameter.
 abbrev pub uses_params : List GenericParam → Ty → Bool
 uses_params params ty = in_type (use_of params) ty
 
@@ -48,7 +47,7 @@ mentions_at params self behind p =
     not behind && (not (begins_with (is_type_param params) p)
     && (list_any (λ s. bytes_eq self s.ident.text) (out-Path p).segments || begins_with (λ text. bytes_eq (codes "Self") text) p))
 
--- Does it mention the derived type of this name?
+-- The question whether a type mentions the derived type of this name.
 abbrev pub mention_of : List GenericParam → List ℕ → Question
 mention_of params self = record {
   at_path = λ behind p. mentions_at params self behind p;

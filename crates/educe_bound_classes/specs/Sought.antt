@@ -1,4 +1,4 @@
--- What is sought in a type, as a question.
+-- What is searched for in a type, as a question.
 use Rattle.std.specs.Prelude.{Bool, false, List}
 use Rattle.std.specs.List.{list_any}
 use Rattle.educe_tokens.specs.declared.token.Token.{Token}
@@ -11,17 +11,17 @@ use Rattle.educe_bound_classes.specs.Paths.{begins_with}
 use Rattle.educe_bound_classes.specs.Walk.{Question}
 use Rattle.educe_bound_classes.specs.Questions.{is_param_word, mentions_at}
 
--- A path, which may stand behind a self type, is what is sought.
+-- The path, which may follow a self type, is what is searched for.
 abbrev pub sought_at : Sought → Bool → Path → Bool
 sought_at (Parameter names) behind p = begins_with (is_param (params_of names)) p
 sought_at (Derived names self) behind p = mentions_at (params_of names) self.now behind p
 
--- It is among the words of these tokens.
+-- A word of the tokens is what is searched for.
 abbrev pub sought_in : Sought → List Token → Bool
 sought_in (Parameter names) tokens = list_any (λ t. is_param_word (params_of names) t) tokens
 sought_in (Derived names self) tokens = false
 
--- The question whether it stands there.
+-- The question whether it occurs in a type.
 abbrev pub sought_by : Sought → Question
 sought_by sought = record {
   at_path = λ behind p. sought_at sought behind p;

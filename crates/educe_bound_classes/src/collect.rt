@@ -1,4 +1,4 @@
-//! The type parameters that a type names, found in one walk.
+//! The type parameters that a type names, collected in one pass.
 ghost use Rattle.std.specs.Prelude.{◌≡◌, false, not, ◌&&◌, OnOk, OnErr};
 ghost use Rattle.std.specs.Str.{bytes_eq};
 ghost use Rattle.educe_bound_classes.specs.Classes.{names_in};
@@ -16,7 +16,7 @@ use educe_tokens::Boxed;
 use educe_tree::{AngleArg, AngleArgs, Args, Params, Path, Paths, Segment, Ty, TypeForm, Types};
 use std::alloc::{AllocError, Global};
 
-/// Whether a reference is passed over, with `mut` or without.
+/// Whether references are skipped, with `mut` or without it.
 fn passes_reference(exceptions: &BoundExceptions, mutable: bool) -> bool
     ensures { result ≡ (not mutable && exceptions.now.shared_references) }
 {
@@ -37,7 +37,7 @@ fn collect_type<'a>(
     collect_form(exceptions, names, &ty.form, set)
 }
 
-/// The same of a form.
+/// Adds the type parameters that the form of a type names.
 #[cycle(collect)]
 fn collect_form<'a>(
     exceptions: &BoundExceptions,
@@ -70,7 +70,7 @@ fn collect_form<'a>(
     }
 }
 
-/// The same of types.
+/// Adds the type parameters that the types name.
 #[cycle(collect)]
 fn collect_types<'a>(
     exceptions: &BoundExceptions,
@@ -87,7 +87,7 @@ fn collect_types<'a>(
     Ok(())
 }
 
-/// The same of a type, where there is one.
+/// Adds the type parameters that the type names, if there is one.
 #[cycle(collect)]
 fn collect_optional<'a>(
     exceptions: &BoundExceptions,
@@ -104,7 +104,7 @@ fn collect_optional<'a>(
     }
 }
 
-/// The same of a path.
+/// Adds the type parameters that the path names.
 #[cycle(collect)]
 fn collect_path<'a>(
     exceptions: &BoundExceptions,
@@ -159,7 +159,7 @@ fn collect_segments<'a>(
     Ok(())
 }
 
-/// The same of paths.
+/// Adds the type parameters that the paths name.
 #[cycle(collect)]
 fn collect_paths<'a>(
     exceptions: &BoundExceptions,
@@ -176,7 +176,7 @@ fn collect_paths<'a>(
     Ok(())
 }
 
-/// The same of the arguments of a segment.
+/// Adds the type parameters that the arguments of a segment name.
 #[cycle(collect)]
 fn collect_args<'a>(
     exceptions: &BoundExceptions,
@@ -197,7 +197,7 @@ fn collect_args<'a>(
     }
 }
 
-/// The same of arguments in angle brackets.
+/// Adds the type parameters that the arguments in angle brackets name.
 #[cycle(collect)]
 fn collect_angle<'a>(
     exceptions: &BoundExceptions,
@@ -214,7 +214,7 @@ fn collect_angle<'a>(
     Ok(())
 }
 
-/// The same of one argument.
+/// Adds the type parameters that one generic argument names.
 #[cycle(collect)]
 fn collect_arg<'a>(
     exceptions: &BoundExceptions,
@@ -246,9 +246,9 @@ pub(crate) fn add_idents<'a>(
     collect_type(exceptions, names, ty, set)
 }
 
-/// Adds the texts of the type parameters that a type names outside of what needs no predicate by
-/// these exceptions: of these a type asks that mentions the derived type (documentation of the crate
-/// `educe`, Bounds).
+/// Adds the names of the type parameters that a type names outside of what needs no predicate by
+/// these exceptions: for these a type asks that mentions the derived type (documentation of the
+/// crate `educe`, Bounds).
 pub fn find_idents_in_type<'a>(
     alloc: Global,
     set: &mut IdentSet<'a>,

@@ -1,4 +1,4 @@
-//! Types of which a trait asks nothing, and types that hand on what is asked to their arguments.
+//! Types for which a trait asks nothing, and types that forward to their arguments what is asked.
 ghost use Rattle.std.specs.Prelude.{◌≡◌, IfOk, IfSome, IfNone, Some, None, chars};
 ghost use Rattle.std.specs.List.{list_any};
 ghost use Rattle.std.specs.Option.{option_copied};
@@ -16,15 +16,14 @@ use educe_tree::{Params, Path, Segment, Ty, TypeForm, is_spelled};
 use std::alloc::{AllocError, Global};
 use std::marker::Model;
 
-/// The names of types that a trait treats otherwise than others (documentation of the crate `educe`,
-/// Bounds).
+/// The names of types that a trait treats specially (documentation of the crate `educe`, Bounds).
 #[derive(Drop)]
 pub struct BoundExceptions {
-    /// Of these the trait asks nothing.
+    /// The types for which the trait asks nothing.
     pub unconditional_types: &'static [&'static str],
-    /// These hand on to their arguments what the trait asks.
+    /// The types that forward to their arguments what the trait asks.
     pub forwarding_types: &'static [&'static str],
-    /// Whether the trait asks nothing of `&T`, whatever `T` is.
+    /// Whether the trait asks nothing for `&T`, whatever `T` is.
     pub shared_reference_is_unconditional: bool,
 }
 
@@ -95,7 +94,7 @@ fn ends_with(path: &Path, name: &str) -> bool
 }
 
 impl BoundExceptions {
-    /// Whether it is a path of a type of which nothing is asked.
+    /// Whether the path is of a type for which nothing is asked.
     #[tactic(auto, using(crate::proofs::ClassLaws::chars_PhantomData))]
     pub(crate) fn is_unconditional_path(&self, path: &Path, names: Names<'_, '_>) -> bool
         ensures { result ≡ spec.is_unconditional_path (params_of names.entry) self.now path.now }
@@ -104,15 +103,15 @@ impl BoundExceptions {
             || matches(names, self.unconditional_types, path)
     }
 
-    /// Whether nothing is asked of the type, whatever stands in it (documentation of the crate
-    /// `educe`, Bounds).
+    /// Whether nothing is asked for the type, whatever its arguments are (documentation of the
+    /// crate `educe`, Bounds).
     pub fn type_is_unconditional(&self, ty: &Ty, params: &Params) -> bool
         ensures { result ≡ spec.is_unconditional params.now self.now ty.now }
     {
         self.is_unconditional(ty, Names::Listed(params))
     }
 
-    /// Whether nothing is asked of the type, whatever stands in it.
+    /// Whether nothing is asked for the type, whatever its arguments are.
     #[tactic(auto, using(crate::proofs::ClassLaws::class_laws))]
     pub(crate) fn is_unconditional(&self, ty: &Ty, names: Names<'_, '_>) -> bool
         ensures { result ≡ spec.is_unconditional (params_of names.entry) self.now ty.now }
@@ -128,7 +127,7 @@ impl BoundExceptions {
         }
     }
 
-    /// Whether the type hands on what is asked to its arguments.
+    /// Whether the type forwards to its arguments what is asked.
     #[tactic(auto, using(crate::proofs::ClassLaws::class_laws))]
     pub(crate) fn is_forwarding(&self, ty: &Ty, names: Names<'_, '_>) -> bool
         ensures { result ≡ spec.is_forwarding (params_of names.entry) self.now ty.now }
@@ -139,7 +138,7 @@ impl BoundExceptions {
         }
     }
 
-    /// The types among the arguments to which the type hands on what is asked, whether it uses
+    /// The types among the arguments to which the type forwards what is asked, whether it uses
     /// parameters or not. None where it is no path with one of the names and an angle list
     /// (documentation of the crate `educe`, Bounds).
     pub fn forwarding_type_arguments<'a>(
@@ -158,7 +157,7 @@ impl BoundExceptions {
         Ok(Some(parts))
     }
 
-    /// Whether the path hands on what is asked to its arguments.
+    /// Whether the path forwards to its arguments what is asked.
     fn forwards(&self, path: &Path, names: Names<'_, '_>) -> bool
         ensures { result ≡ spec.forwards (params_of names.entry) self.now path.now }
     {

@@ -9,7 +9,7 @@ use std::alloc::{AllocError, Global};
 use std::collections::BTreeSet;
 use std::marker::Model;
 
-/// An ordered set of texts, which are lent. A contract sees the texts as a list.
+/// An ordered set of borrowed texts. A contract sees the texts as a list.
 #[derive(Drop)]
 pub struct IdentSet<'a> {
     texts: BTreeSet<&'a str>,

@@ -1,8 +1,9 @@
-//! Laws of bounds that hold with no call: the functions do nothing, and their contracts are the laws.
+//! Laws of bounds that don't depend on a call: each function does nothing, and its contract is the
+//! law.
 ghost use Rattle.educe_bound_classes.specs.Needs.{AlwaysSuffice, AreAlwaysMinimal, AreAlwaysDistinct};
 
-/// From the predicates that are asked each type can be derived, and once one of them is dropped, one
-/// of the types can not. No two of them are equal.
+/// Each type can be derived from the predicates of the automatic mode, and without any one of them
+/// one of the types can't. They are pairwise distinct.
 pub fn automatic_laws()
     ensures suffice { AlwaysSuffice }
     ensures minimal { AreAlwaysMinimal }

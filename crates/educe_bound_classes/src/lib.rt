@@ -1,4 +1,4 @@
-//! What a derived trait asks of the types of fields: the bounds that are found automatically
+//! What a derived trait asks for the types of fields: the bounds of the automatic mode
 //! (documentation of the crate `educe`, Bounds).
 #![tactic(auto)]
 

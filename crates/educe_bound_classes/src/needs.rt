@@ -25,8 +25,8 @@ pub enum Asked<'a> {
     Param(&'a Ident),
 }
 
-/// Who asks: a trait with some exceptions, derived for a type of some name and parameters
-/// (documentation of the crate `educe`, Bounds).
+/// The context of a derivation: the exceptions of a trait, and the name and parameters of the type
+/// it is derived for (documentation of the crate `educe`, Bounds).
 #[derive(Drop)]
 pub struct Asker<'a> {
     alloc: Global,
@@ -36,7 +36,8 @@ pub struct Asker<'a> {
 }
 
 impl<'a> Asker<'a> {
-    /// The trait with these exceptions, derived for the type of this name with these parameters.
+    /// The context of a trait with these exceptions, derived for the type of this name with these
+    /// parameters.
     pub fn new(
         alloc: Global,
         exceptions: &'a BoundExceptions,
@@ -217,8 +218,8 @@ fn append_all<'a>(
     Ok(())
 }
 
-/// The subjects that the types need, those of one behind those of the other (documentation of the
-/// crate `educe`, Bounds).
+/// The subjects of the predicates that the types need, in sequence (documentation of the crate
+/// `educe`, Bounds).
 pub fn needs_of<'a>(
     alloc: Global,
     asker: &Asker<'a>,

@@ -1,4 +1,5 @@
-//! Subjects of predicates, each once: an ordered set knows one by numbers that stand for its tokens.
+//! Subjects of predicates without repetitions: an ordered set compares them by the keys of their
+//! tokens.
 ghost use Rattle.std.specs.Prelude.{◌≡◌, ℕ, suc, List, [], ◌++◌, map, IfOk, OnOk, chars};
 ghost use Rattle.educe_bound_classes.specs.Deriving.{Extends};
 ghost use Rattle.educe_bound_classes.specs.Keys as spec;
@@ -12,7 +13,7 @@ use educe_tree::Ty;
 use std::alloc::{AllocError, Global};
 use std::collections::BTreeSet;
 
-/// The number of a kind, jointness aside.
+/// The number of a kind; jointness makes no difference.
 fn kind_number(kind: TokenKind) -> u32
     ensures { result ≡ spec.kind_number kind }
 {
@@ -79,8 +80,8 @@ fn append_token(token: &Token, key: &mut Vec<u32>) -> Result<(), AllocError>
     append_word(token.kind, &token.spelling, key)
 }
 
-/// The numbers by which lists of tokens are told apart, spans and whether puncts are joint aside:
-/// predicates of equal tokens are the same (documentation of the crate `educe`, Bounds).
+/// The key of a list of tokens, spans and jointness aside: predicates of equal tokens are the same
+/// (documentation of the crate `educe`, Bounds).
 pub fn key_of_tokens(alloc: Global, tokens: &[Token]) -> Result<Vec<u32>, AllocError>
     ensures { IfOk result (λ key. key.items ≡ spec.tokens_key tokens.now) }
 {
@@ -100,7 +101,7 @@ fn key_of_word(alloc: Global, text: &Spelling) -> Result<Vec<u32>, AllocError>
     Ok(key)
 }
 
-/// The numbers by which subjects of predicates are told apart.
+/// The key of the subject of a predicate.
 fn key_of(alloc: Global, asked: &Asked<'_>) -> Result<Vec<u32>, AllocError>
     ensures { IfOk result (λ key. key.items ≡ spec.asked_key asked.now) }
 {

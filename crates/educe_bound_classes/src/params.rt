@@ -1,4 +1,4 @@
-//! Generic parameters by their names.
+//! Generic parameters by name.
 ghost use Rattle.std.specs.Prelude.{◌≡◌, IfOk, OnOk};
 ghost use Rattle.educe_bound_classes.specs.Collects.{AddsWhere};
 ghost use Rattle.educe_bound_classes.specs.Names.{params_of};
@@ -14,8 +14,7 @@ use std::alloc::{AllocError, Global};
 use std::collections::{BTreeMap, BTreeSet};
 use std::marker::Model;
 
-/// The parameters of a definition, with their names in order: so one is found without a walk over the
-/// list.
+/// The parameters of a definition, with sorted names, so that a lookup takes no pass over the list.
 #[derive(Drop)]
 pub struct ParamNames<'a> {
     params: &'a Params,
@@ -39,16 +38,16 @@ impl<'a> Model for ParamNames<'a> {
     ghost invariant = { λ names. IsSetOf (is_type_param names.params.now) names.types × IsSetOf (is_param names.params.now) names.words × ArePlaced names.params.now names.places };
 }
 
-/// Parameters among which one is sought by its name.
+/// Parameters that are searched by name.
 #[derive(Clone, Copy)]
 pub enum Names<'n, 'a> {
-    /// As they are declared.
+    /// The parameters as they are declared, searched one by one.
     Listed(&'n Params),
-    /// With their names in order.
+    /// The parameters with sorted names.
     Sorted(&'n ParamNames<'a>),
 }
 
-/// Whether it is a type parameter or a const parameter of this name.
+/// Whether the parameter is a type or const parameter of this name.
 fn is_named(name: &Spelling, param: &GenericParam) -> bool
     ensures { result ≡ spec.is_named name.now param.now }
 {
@@ -59,7 +58,7 @@ fn is_named(name: &Spelling, param: &GenericParam) -> bool
     }
 }
 
-/// Whether it is a type parameter of this name.
+/// Whether the parameter is a type parameter of this name.
 fn is_type_named(name: &Spelling, param: &GenericParam) -> bool
     ensures { result ≡ spec.is_type_named name.now param.now }
 {
@@ -131,7 +130,7 @@ fn all_names<'a>(alloc: Global, params: &'a Params) -> Result<IdentSet<'a>, Allo
 }
 
 impl<'a> ParamNames<'a> {
-    /// The parameters, with their names in order.
+    /// The parameters with their sorted names.
     pub fn new(alloc: Global, params: &'a Params) -> Result<ParamNames<'a>, AllocError>
         ensures { IfOk result (λ names. names.now ≡ params.now) }
     {
@@ -153,7 +152,7 @@ impl<'a> ParamNames<'a> {
         self.params
     }
 
-    /// The places of the type parameters that were found, in order.
+    /// The places of the type parameters that were found, in ascending order.
     pub fn found_places(
         &self,
         alloc: Global,
@@ -179,7 +178,7 @@ impl<'a> ParamNames<'a> {
     }
 }
 
-/// Whether one of these is a type parameter or a const parameter of this name.
+/// Whether a type or const parameter has this name.
 pub fn is_param(names: Names<'_, '_>, name: &Spelling) -> bool
     ensures { result ≡ spec.is_param (params_of names.entry) name.now }
 {
@@ -189,7 +188,7 @@ pub fn is_param(names: Names<'_, '_>, name: &Spelling) -> bool
     }
 }
 
-/// Whether one of these is a type parameter of this name.
+/// Whether a type parameter has this name.
 pub fn is_type_param(names: Names<'_, '_>, name: &Spelling) -> bool
     ensures { result ≡ spec.is_type_param (params_of names.entry) name.now }
 {

@@ -1,4 +1,4 @@
-//! How paths begin and end.
+//! Tests on the segments of paths.
 ghost use Rattle.std.specs.Prelude.{◌≡◌, chars};
 ghost use Rattle.std.specs.List.{list_any};
 ghost use Rattle.std.specs.Str.{bytes_eq};

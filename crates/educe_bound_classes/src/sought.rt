@@ -1,4 +1,4 @@
-//! What is sought in a type.
+//! What is searched for in a type.
 ghost use Rattle.std.specs.Prelude.{◌≡◌};
 ghost use Rattle.std.specs.List.{list_any};
 ghost use Rattle.educe_bound_classes.specs.Names.{params_of};
@@ -10,12 +10,12 @@ use crate::paths::{begins_with_param, begins_with_type_param, begins_with_word, 
 use educe_tokens::{Spelling, Token, TokenKind, Written};
 use educe_tree::Path;
 
-/// What is sought in a type.
+/// What is searched for in a type.
 #[derive(Clone, Copy)]
 pub enum Sought<'n, 'a> {
     /// A type parameter or a const parameter.
     Parameter(Names<'n, 'a>),
-    /// The derived type of this name, where the parameters are these.
+    /// The derived type of this name, given its parameters.
     Derived(Names<'n, 'a>, &'n Spelling),
 }
 
@@ -29,7 +29,7 @@ fn is_param_word(names: Names<'_, '_>, token: &Token) -> bool
     }
 }
 
-/// Whether a word of the tokens is a parameter.
+/// Whether a word of the tokens is the name of a parameter.
 pub fn uses_in_words(names: Names<'_, '_>, written: &Written) -> bool
     ensures { result ≡ list_any (λ t. words.is_param_word (params_of names.entry) t) written.now.tokens }
 {
@@ -40,7 +40,7 @@ pub fn uses_in_words(names: Names<'_, '_>, written: &Written) -> bool
         .any(|token| is_param_word(names, token))
 }
 
-/// Whether a path, which may stand behind a self type, is what is sought.
+/// Whether the path, which may follow a self type, is what is searched for.
 #[tactic(auto, using(crate::proofs::ClassLaws::chars_Self))]
 pub fn is_sought_at(sought: Sought<'_, '_>, behind: bool, path: &Path) -> bool
     ensures { result ≡ spec.sought_at sought.entry behind path.now }
@@ -55,7 +55,7 @@ pub fn is_sought_at(sought: Sought<'_, '_>, behind: bool, path: &Path) -> bool
     }
 }
 
-/// Whether it stands among the words of the tokens.
+/// Whether a word of the tokens is what is searched for.
 pub fn is_sought_in(sought: Sought<'_, '_>, written: &Written) -> bool
     ensures { result ≡ spec.sought_in sought.entry written.now.tokens }
 {

@@ -1,4 +1,4 @@
-//! What stands in types: paths, and the words of array lengths and of constants.
+//! The search in types: for paths, and for words in array lengths and constants.
 ghost use Rattle.std.specs.Prelude.{◌≡◌};
 ghost use Rattle.educe_bound_classes.specs.Names.{params_of};
 ghost use Rattle.educe_bound_classes.specs.Questions.{uses_params as uses_params_of};
@@ -20,7 +20,7 @@ pub fn in_type(sought: Sought<'_, '_>, ty: &Ty) -> bool
     in_form(sought, &ty.form)
 }
 
-/// The same of a form.
+/// Whether the answer is yes somewhere in the form of a type.
 #[cycle(walk)]
 #[tactic(auto, using(crate::proofs::Walks::walk_laws))]
 fn in_form(sought: Sought<'_, '_>, form: &TypeForm) -> bool
@@ -44,7 +44,7 @@ fn in_form(sought: Sought<'_, '_>, form: &TypeForm) -> bool
     }
 }
 
-/// The same of types.
+/// Whether the answer is yes somewhere in one of the types.
 #[cycle(walk)]
 #[tactic(auto, using(crate::proofs::Walks::walk_laws))]
 fn in_types(sought: Sought<'_, '_>, types: &Types) -> bool
@@ -58,7 +58,7 @@ fn in_types(sought: Sought<'_, '_>, types: &Types) -> bool
     false
 }
 
-/// The same of a type, where there is one.
+/// Whether the answer is yes somewhere in the type, if there is one.
 #[cycle(walk)]
 #[tactic(auto, using(crate::proofs::Walks::walk_laws))]
 fn in_optional(sought: Sought<'_, '_>, found: &Option<Boxed<Ty>>) -> bool
@@ -70,7 +70,7 @@ fn in_optional(sought: Sought<'_, '_>, found: &Option<Boxed<Ty>>) -> bool
     }
 }
 
-/// The same of a path, which may stand behind a self type.
+/// Whether the answer is yes somewhere in the path, which may follow a self type.
 #[cycle(walk)]
 #[tactic(auto, using(crate::proofs::Walks::walk_laws))]
 fn in_path(sought: Sought<'_, '_>, behind: bool, path: &Path) -> bool
@@ -87,7 +87,7 @@ fn in_path(sought: Sought<'_, '_>, behind: bool, path: &Path) -> bool
     false
 }
 
-/// The same of paths.
+/// Whether the answer is yes somewhere in one of the paths.
 #[cycle(walk)]
 #[tactic(auto, using(crate::proofs::Walks::walk_laws))]
 fn in_paths(sought: Sought<'_, '_>, paths: &Paths) -> bool
@@ -101,7 +101,7 @@ fn in_paths(sought: Sought<'_, '_>, paths: &Paths) -> bool
     false
 }
 
-/// The same of the arguments of a segment.
+/// Whether the answer is yes somewhere in the arguments of a segment.
 #[cycle(walk)]
 #[tactic(auto, using(crate::proofs::Walks::walk_laws))]
 fn in_args(sought: Sought<'_, '_>, args: &Args) -> bool
@@ -114,7 +114,7 @@ fn in_args(sought: Sought<'_, '_>, args: &Args) -> bool
     }
 }
 
-/// The same of arguments in angle brackets.
+/// Whether the answer is yes somewhere in the arguments in angle brackets.
 #[cycle(walk)]
 #[tactic(auto, using(crate::proofs::Walks::walk_laws))]
 fn in_angle(sought: Sought<'_, '_>, angle: &AngleArgs) -> bool
@@ -128,7 +128,7 @@ fn in_angle(sought: Sought<'_, '_>, angle: &AngleArgs) -> bool
     false
 }
 
-/// The same of one argument.
+/// Whether the answer is yes somewhere in one generic argument.
 #[cycle(walk)]
 #[tactic(auto, using(crate::proofs::Walks::walk_laws))]
 fn in_arg(sought: Sought<'_, '_>, arg: &AngleArg) -> bool

@@ -1,4 +1,4 @@
--- Traits are told apart by their places and by their names.
+-- Traits differ in their places and in their names.
 use Rattle.std.proofs.Common.{◌≡◌, ℕ, Bool, true, false, cond, ◌||◌, IsTrue, List, [], ◌∷◌, refl, sym, ap, ◌∙◌, subst, Option, Some}
 use Rattle.std.specs.Prelude.{◌↔◌, find, slice_index_or, IfSome}
 use Rattle.std.specs.List.{list_any}
@@ -96,7 +96,7 @@ pub named_is : (path : MetaPath) → IfSome (trait_named path) (λ which. IsOneW
 named_is path =
     find_has (names_trait path) (λ which. IsOneWord path.written.tokens (text_of which)) (λ which h. one_word_to (text_of which) path.written.tokens h) variants
 
--- and of no other
+-- a path that is the name of a trait names that trait and no other
 pub named_only : (path : MetaPath) (which : Trait) → IsOneWord path.written.tokens (text_of which) → trait_named path ≡ Some which
 named_only path which h =
     find_only (names_trait path) which

@@ -29,5 +29,5 @@ chars_hash = ascii_chars (codes "Hash") refl
 pub chars_default : chars (codes "Default") ≡ codes "Default"
 chars_default = ascii_chars (codes "Default") refl
 
--- those of each name
+-- the characters of the names of all traits
 pub ruleset trait_names = (chars_debug, chars_clone, chars_copy, chars_partial_eq, chars_eq, chars_partial_ord, chars_ord, chars_hash, chars_default)

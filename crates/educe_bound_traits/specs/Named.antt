@@ -9,6 +9,6 @@ use Rattle.educe_bound_traits.specs.OneWord.{is_one_word}
 abbrev pub names_trait : MetaPath → Trait → Bool
 names_trait path which = is_one_word (text_of which) path.written.tokens
 
--- The trait whose name a path is.
+-- The trait whose name the path is, if there is one.
 abbrev pub trait_named : MetaPath → Option Trait
 trait_named path = find (names_trait path) variants

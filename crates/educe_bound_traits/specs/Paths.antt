@@ -3,7 +3,7 @@ use Rattle.std.specs.Prelude.{ℕ, List, codes}
 use Rattle.educe_bound_traits.specs.declared.traits.Trait.{Trait}
 use Rattle.educe_bound_traits.specs.declared.traits.Trait.TheVariants as trait
 
--- The path of a trait, as generated code writes it.
+-- The path of the trait, as generated code writes it.
 abbrev pub trait_path : Trait → List ℕ
 trait_path trait.Debug = codes ":: core :: fmt :: Debug"
 trait_path trait.Clone = codes ":: core :: clone :: Clone"

@@ -1,5 +1,5 @@
-//! The traits that can be derived, lists of them, their paths, and the trait that a path names by a
-//! word as it is spelled (documentation of the crate `educe`, Traits).
+//! The traits that can be derived, their names and paths, and lists of them (documentation of the
+//! crate `educe`, Traits).
 #![tactic(auto)]
 
 mod named;

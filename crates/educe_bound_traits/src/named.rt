@@ -13,7 +13,7 @@ fn names_trait(path: &MetaPath, which: Trait) -> bool
     is_one_word(path.written.tokens().as_slice(), which.name())
 }
 
-/// The first of these traits that the path names.
+/// The first of these traits whose name the path is.
 pub fn first_named(traits: &[Trait], path: &MetaPath) -> Option<Trait>
     ensures { result ≡ find (spec.names_trait path.now) traits.now }
 {

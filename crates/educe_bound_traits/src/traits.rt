@@ -23,7 +23,7 @@ pub enum Trait {
     Default,
 }
 
-/// Traits in their order (documentation of `educe`, Traits).
+/// A list of traits, in the order in which they are given (documentation of `educe`, Traits).
 pub type Traits = Seq<Trait>;
 
 impl Trait {
@@ -58,7 +58,7 @@ impl Trait {
         }
     }
 
-    /// The trait whose name the path is, as it is spelled: `r#Debug` and `::Debug` name none.
+    /// The trait whose name the path is, compared by spelling: `r#Debug` and `::Debug` name none.
     #[tactic(auto, using(crate::proofs::Apart::named_only))]
     pub fn from_path(path: &MetaPath) -> Option<Trait>
         ensures value { result ≡ trait_named path.now }
@@ -86,7 +86,7 @@ impl Trait {
     }
 }
 
-/// Whether both are one trait.
+/// Whether both are the same trait.
 #[tactic(auto, using(crate::proofs::Apart::same_is))]
 pub fn same_trait(a: Trait, b: Trait) -> bool
     ensures value { result ≡ spec.same_trait a b }
@@ -95,7 +95,7 @@ pub fn same_trait(a: Trait, b: Trait) -> bool
     a.place() == b.place()
 }
 
-/// How often the trait stands there.
+/// The number of times that the trait occurs in the list.
 fn count_of(which: Trait, names: &[Trait]) -> usize
     ensures { result ≡ spec.count_of which names.now }
 {
@@ -105,35 +105,35 @@ fn count_of(which: Trait, names: &[Trait]) -> usize
         .count()
 }
 
-/// Whether the trait stands there at most once.
+/// Whether the trait occurs at most once in the list.
 fn is_single(which: Trait, names: &[Trait]) -> bool
     ensures { result ≡ nat_le (spec.count_of which names.now) 1 }
 {
     count_of(which, names) <= 1
 }
 
-/// Whether each of the traits stands in the list at most once.
+/// Whether each of the traits occurs at most once in the list.
 fn are_single(traits: &[Trait], names: &[Trait]) -> bool
     ensures { result ≡ list_all (λ which. nat_le (spec.count_of which names.now) 1) traits.now }
 {
     traits.iter().all(|which| is_single(*which, names))
 }
 
-/// Whether no trait stands there twice.
+/// Whether no trait occurs twice in the list.
 pub fn each_once(names: &[Trait]) -> bool
     ensures { result ≡ spec.each_once names.now }
 {
     are_single(&Trait::VARIANTS, names)
 }
 
-/// Whether the trait stands in the list.
+/// Whether the trait occurs in the list.
 pub fn is_listed(listed: &[Trait], which: Trait) -> bool
     ensures { result ≡ spec.is_listed listed.now which }
 {
     listed.iter().any(|name| same_trait(which, *name))
 }
 
-/// Whether each trait stands in the list.
+/// Whether each of the traits occurs in the list.
 pub fn all_listed(listed: &[Trait], names: &[Trait]) -> bool
     ensures { result ≡ spec.all_listed listed.now names.now }
 {

@@ -30,7 +30,7 @@ use Rattle.educe_grammar.specs.Attributes.{attributes, span_of}
 unfoldable pub mod_path : Rule (Unit {0})
 mod_path = unit (simple_path terminal.PathSegment)
 
--- Lookahead that tells the scope of a visibility from a type in brackets.
+-- Lookahead that distinguishes the scope of a visibility from a type in brackets.
 abbrev pub at_scope : Look
 at_scope = (start Round ∷ one terminal.Scope ∷ stop Round ∷ []) ∷ (start Round ∷ one (terminal.Word keyword.In) ∷ []) ∷ []
 

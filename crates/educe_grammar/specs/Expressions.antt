@@ -129,7 +129,7 @@ is_macro_group p = self_begins_paths p.1
 unfoldable pub macro_group : Rule (Unit {0})
 macro_group = unit (checked is_macro_group (sliced group))
 
--- Lookahead that tells a field with a value from a field that is its name alone.
+-- Lookahead that distinguishes a field with a value from a field that is its name alone.
 abbrev pub at_value : Look
 at_value = (one terminal.NameOrIndex ∷ lone 58 58 ∷ []) ∷ []
 

@@ -104,14 +104,14 @@ has_word-end (u ∷ tokens) (suc i) word past has = has_word-end tokens i word (
 
 -- ---- what the tests tell
 
--- a text is told by its bytes
+-- a text is determined by its bytes
 same_text : (a b text : List ℕ) (found : Bool) → found ≡ bytes_eq a b → chars a ≡ text → a ≡ encode_utf8_all text → IsUtf8 b → IsTrue found ↔ (text ≡ chars b)
 same_text a b text found is spelled bytes utf8 = (
   (λ h. sym spelled ∙ ap chars ((bytes_eq-Decides a b).0 (sym is ∙ h))),
   (λ e. is ∙ (bytes_eq-Decides a b).1 (bytes ∙ ap encode_utf8_all e ∙ encodes-chars b utf8)),
 )
 
--- a name is told by its text
+-- a name is determined by its text
 pub ident_tells : (token : Token) (a b : List ℕ) (found : Bool) → token.kind ≡ Ident → found ≡ bytes_eq a b → chars a ≡ unraw token.spelling → a ≡ encode_utf8_all (unraw token.spelling) → IsUtf8 b
     → IsTrue found ↔ IsWordOf (chars b) (lexeme_of token)
 ident_tells token a b found kind is spelled bytes utf8 =
@@ -120,14 +120,14 @@ ident_tells token a b found kind is spelled bytes utf8 =
     subst (λ (k : TokenKind). IsWordOf (chars b) (record { kind = k; spelling = token.spelling }) ↔ (unraw token.spelling ≡ chars b)) (sym kind) (ident_word (chars b) token.spelling) in
     ((λ h. word.1 (told.0 h)), (λ h. told.1 (word.0 h)))
 
--- a lifetime is told by its text
+-- a lifetime is determined by its text
 pub lifetime_tells : (token : Token) (word : List ℕ) (found : Bool) → token.kind ≡ Lifetime → IsTrue found ↔ (token.spelling ≡ 39 ∷ word) → IsTrue found ↔ IsWordOf word (lexeme_of token)
 lifetime_tells token word found kind told =
     let own : IsWordOf word (lexeme_of token) ↔ (token.spelling ≡ 39 ∷ word) =
     subst (λ (k : TokenKind). IsWordOf word (record { kind = k; spelling = token.spelling }) ↔ (token.spelling ≡ 39 ∷ word)) (sym kind) (lifetime_word word token.spelling) in
     ((λ h. own.1 (told.0 h)), (λ h. told.1 (own.0 h)))
 
--- the name behind a `'` is told by its text
+-- the name behind a `'` is determined by its text
 pub behind_mark : (bytes name word text : List ℕ) (found : Bool) → IsUtf8 bytes → chars bytes ≡ text → bytes ≡ encode_utf8_all text → bytes ≡ 39 ∷ name → IsUtf8 word → found ≡ bytes_eq name word
     → IsTrue found ↔ (text ≡ 39 ∷ chars word)
 behind_mark bytes name word text found utf8 spelled encoded mark own is =
@@ -140,7 +140,7 @@ behind_mark bytes name word text found utf8 spelled encoded mark own is =
           is ∙ (bytes_eq-Decides name word).1 (ap (drop 1) same)),
     )
 
--- a string or documentation is told by its runs
+-- a string or documentation is determined by its runs
 pub value_tells : {E : Type 0} (token : Token) (word value : List ℕ) (r : Result Bool E) → IsStringValue (lexeme_of token) value → IfOk r (λ found. IsTrue found ↔ IsRunOf word value)
     → IfOk r (λ found. IsTrue found ↔ IsWordOf word (lexeme_of token))
 value_tells token word value (Ok found) holds told = let own = value_word word value (lexeme_of token) holds in ((λ h. own.1 (told.0 h)), (λ h. told.1 (own.0 h)))

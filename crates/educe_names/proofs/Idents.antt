@@ -80,7 +80,7 @@ closes_ends inside Close = ends_behind (42 ∷ []) (47 ∷ []) (one_break 47 (47
 closes_ends inside (Other c more opens closes h) = ends_behind (c ∷ []) more (closes_ends more h)
 closes_ends inside (Block inner more h k) = ends_behind (47 ∷ 42 ∷ inner) more (closes_ends more k)
 
--- so the block does
+-- a block comment ends in `/`
 block_ends : (text inside : List ℕ) → IsBlockOf text inside → EndsInBreak text
 block_ends text inside b = subst EndsInBreak (sym b.is) (ends_behind (47 ∷ 42 ∷ []) inside (closes_ends inside b.closes))
 
@@ -96,7 +96,7 @@ no_touch : (also : ℕ → Bool) (more : List ℕ) → not (begins (λ c. is_xid
 no_touch also [] h = refl
 no_touch also (c ∷ cs) h = ap not (or_parts (is_xid_continue c) (also c) (not-true _ h)).0
 
--- so none goes on behind an identifier
+-- no character behind an identifier continues it
 ident_ends : (s more : List ℕ) → may_precede (TokenPiece Ident) s more ≡ true → ends_word_before more ≡ true
 ident_ends s more may = no_touch (λ c. (c == 34) || (c == 39) || (c == 35)) more may
 

@@ -45,7 +45,7 @@ unraw_run (c ∷ d ∷ cs) h =
     let other : (d == 35) ≡ false = ne_eqb d 35 (λ e. false≢true (sym (is_xid_continue-ascii 35 (omega arith)) ∙ ap is_xid_continue (sym e) ∙ goes)) in
     cond-false ((c == 114) && (d == 35)) cs (c ∷ d ∷ cs) (and_right (c == 114) (d == 35) other)
 
--- nor has a word
+-- a word has no `r#`
 pub unraw_word : (text : List ℕ) → IsWord text → unraw text ≡ text
 unraw_word text word = unraw_run text (all_continue text word)
 

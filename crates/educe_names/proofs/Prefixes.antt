@@ -41,7 +41,7 @@ letter-underscored : (count : ℕ) (name : List ℕ) → first_letter (underscor
 letter-underscored zero name = refl
 letter-underscored (suc count) name = letter-underscored count name
 
--- nor does what stands behind it
+-- what stands behind a name changes no first letter
 letter-append : (name rest : List ℕ) (c : ℕ) → first_letter name ≡ Some c → first_letter (name ++ rest) ≡ Some c
 letter-append [] rest c h = absurd (none-some c h)
 letter-append (d ∷ name) rest c h = split (d == 95) refl (letter-append name rest c)
@@ -63,7 +63,7 @@ letters_differ (Some c) (Some d) xs ys apart left right same =
 prefix_letter : (words : List (List ℕ)) (name prefix key : List ℕ) (c : ℕ) → IsPrefix words name prefix → first_letter name ≡ Some c → first_letter (prefix ++ key) ≡ Some c
 prefix_letter words name prefix key c chosen letter = letter-append prefix key c (ap first_letter chosen.is ∙ letter-underscored chosen.count name ∙ letter)
 
--- so a name with one prefix is none with another, where the first letters of the two differ
+-- a name with one prefix is none with another, where the first letters of the two differ
 pub prefixes_apart : (words held : List (List ℕ)) (name other prefix mark key word : List ℕ) → IsPrefix words name prefix → IsPrefix held other mark → are_letters_apart name other ≡ true → prefix ++ key ≢ mark ++ word
 prefixes_apart words held name other prefix mark key word one two apart =
     letters_differ (first_letter name) (first_letter other) (prefix ++ key) (mark ++ word) apart

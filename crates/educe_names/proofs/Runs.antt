@@ -54,7 +54,7 @@ first_continues (c ∷ cs) = split (goes_on c) refl (first_continues cs)
     split true h rest = ap (list_all is_xid_continue) (cond-true (goes_on c) (c ∷ first_part cs) [] h) ∙ and_from (is_xid_continue c) (list_all is_xid_continue (first_part cs)) h rest
     split false h rest = rw h refl
 
--- and what follows it doesn't
+-- what follows the first part doesn't continue a word
 first_ends : (text : List ℕ) → ends_word_before (rest_of text) ≡ true
 first_ends [] = refl
 first_ends (c ∷ cs) = split (goes_on c) refl (first_ends cs)
@@ -113,7 +113,7 @@ is_among word texts = list_any (λ part. bytes_eq part word) texts
 later_past : (c : ℕ) (cs : List ℕ) → goes_on c ≡ true → later_parts (c ∷ cs) ≡ later_parts cs
 later_past c cs h = cond-true (goes_on c) (later_parts cs) (first_part cs ∷ later_parts cs) h
 
--- and behind another one
+-- the other parts behind a character that doesn't continue a word
 later_from : (c : ℕ) (cs : List ℕ) → goes_on c ≡ false → later_parts (c ∷ cs) ≡ first_part cs ∷ later_parts cs
 later_from c cs h = cond-false (goes_on c) (later_parts cs) (first_part cs ∷ later_parts cs) h
 

@@ -64,7 +64,7 @@ somes_held ((d ∷ ds) ∷ ps) c cs = ap (λ b. bytes_eq (d ∷ ds) (c ∷ cs) |
 held_runs : (text : List ℕ) → runs_behind [] text ≡ somes (parts text)
 held_runs text = runs_are [] text ∙ somes-onto (parts text)
 
--- so they are the words that are runs
+-- the words that are held are those that are runs
 pub runs_held : (text word : List ℕ) → IsTrue (is_held (runs_behind [] text) word) ↔ IsRunOf word text
 runs_held text [] = (
   (λ h. absurd (false≢true (sym (somes_none (parts text)) ∙ ap (λ ws. is_held ws []) (sym (held_runs text)) ∙ h))),

@@ -43,7 +43,7 @@ clash_other how [] name k none = clash_empty how name k
 clash_other how (c ∷ cs) name k none =
     clash_cons how c cs name k ∙ ap (λ b. b && clash how cs (underscored k name)) (ne_eqb c 95 (λ e. none cs (ap (λ x. x ∷ cs) e)))
 
--- nor is there one with a word that has fewer characters than the name has `_`
+-- a word with fewer characters than the name has `_` does not clash
 pub clash_long : (how : Clash) (word name : List ℕ) (k : ℕ) → length word < k → clash how word (underscored k name) ≡ false
 clash_long how word name zero less = absurd (omega arith)
 clash_long how [] name (suc k) less = clash_empty how name k
@@ -86,6 +86,6 @@ underscored_is_word (suc k) name word = record {
   continues = all_continue (underscored k name) (underscored_is_word k name word);
 }
 
--- so it spells an identifier
+-- a word behind some `_` spells an identifier
 pub underscored_spells : (k : ℕ) (name text : List ℕ) → text ≡ underscored k name → IsWord name → spells kind.Ident text ≡ true
 underscored_spells k name text is word = ap (spells kind.Ident) is ∙ word_spells (underscored k name) (underscored_is_word k name word)

@@ -1,4 +1,4 @@
-//! The fewest `_` behind which a name clashes with no word.
+//! The choice of the fewest `_` after which a name clashes with no word.
 ghost use Rattle.std.specs.Prelude.{◌≡◌, ℕ, ◌<◌, ◌≤◌, ◌^◌, ◌||◌, true, false, length, slice_index_or, IfOk};
 ghost use Rattle.std.specs.List.{All};
 ghost use Rattle.educe_names.specs.Chosen.{underscored, clash, IsFewest};
@@ -9,13 +9,13 @@ use std::alloc::{AllocError, Global};
 /// How a word clashes with a text.
 #[derive(Clone, Copy, Debug, PartialEq, Eq)]
 pub enum Clash {
-    /// It is the text.
+    /// The word is the text.
     Whole,
-    /// It begins with the text.
+    /// The word begins with the text.
     Front,
 }
 
-/// The fewest `_` behind which a name clashes with no word. Takes one pass over the words.
+/// The least number of `_` after which a name clashes with no word. Takes one pass over the words.
 pub fn fewest(
     alloc: Global,
     how: Clash,

@@ -1,4 +1,5 @@
-//! Laws of names that hold with no call: the function does nothing, and its contract is the law.
+//! Laws of names that don't depend on a call: the function does nothing, and its contract is the
+//! law.
 ghost use Rattle.educe_names.specs.Laws.{NameLaws};
 
 /// Names that are chosen one after the other are no words of the input, and no two are the same. No

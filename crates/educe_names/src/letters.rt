@@ -1,4 +1,4 @@
-//! Texts, character by character.
+//! Texts as lists of characters.
 ghost use Rattle.std.specs.Prelude.{◌≡◌, ◌∷◌, IfOk, IfSome, IfNone, chars};
 
 use std::alloc::{AllocError, Global};
@@ -19,7 +19,7 @@ impl Model for Letters {
 }
 
 impl Letters {
-    /// These characters.
+    /// The text of these characters.
     pub fn new(items: Vec<char>) -> Letters
         ensures { result ≡ items.items }
     {
@@ -42,7 +42,7 @@ impl Letters {
         Ok(Letters { items })
     }
 
-    /// The characters, lent.
+    /// The characters as a slice.
     pub fn as_slice(&self) -> &[char]
         ensures { result.now ≡ self.now }
     {
@@ -50,7 +50,7 @@ impl Letters {
     }
 }
 
-/// What stands behind the first character, where that is this one.
+/// The rest of the characters after the first, where that is the given one.
 pub fn strip_first(letters: &[char], first: char) -> Option<&[char]>
     ensures some { IfSome result (λ rest. letters.now ≡ first ∷ rest.now) }
     ensures none { IfNone result ((rest : _) → ¬ (letters.now ≡ first ∷ rest)) }

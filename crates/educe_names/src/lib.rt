@@ -1,4 +1,4 @@
-//! The words of an input, and the choice of names that are no words of it.
+//! The words of an input, and the choice of fresh names.
 #![tactic(auto)]
 
 mod fewest;

@@ -1,4 +1,4 @@
-//! Words that are held, and the choice of names apart from them.
+//! Held words, and the choice of names that are none of them.
 ghost use Rattle.std.specs.Prelude.{◌≡◌, [], ◌∷◌, ◌++◌, IfOk, OnErr, chars, string_bytes};
 ghost use Rattle.educe_tokens.specs.Spells.{IsWord};
 ghost use Rattle.educe_names.specs.Chosen.{underscored, IsFree, IsChosen, IsPrefix};
@@ -40,8 +40,8 @@ impl UsedIdents {
         Ok(UsedIdents { words })
     }
 
-    /// An identifier that is not held: the name behind as many `_` as that takes. It is held from
-    /// then on, and stands at no place.
+    /// An identifier that is not held: the name after as few `_` as that takes. It is held from
+    /// then on, and has no place in the source.
     pub fn select(&mut self, alloc: Global, name: &str) -> Result<Ident, AllocError>
         requires { IsWord (chars name.now) }
         ensures chosen { IfOk result (λ ident. IsChosen self.old (chars name.now) ident.text) }
@@ -59,8 +59,8 @@ impl UsedIdents {
         Ok(ident)
     }
 
-    /// A text with which nothing that is held begins: the name behind as many `_` as that takes. It
-    /// is not held itself, so several names may be made of it.
+    /// A text that is a prefix of no held word: the name after as few `_` as that takes. It is not
+    /// held itself, so that several names may be made of it.
     pub fn select_prefix(&self, alloc: Global, name: &str) -> Result<String, AllocError>
         ensures chosen { IfOk result (λ prefix.
             IsPrefix self.now (chars name.now) (chars (string_bytes prefix))) }

@@ -13,9 +13,9 @@ use educe_tree::unraw;
 use std::alloc::{AllocError, Global};
 use unicode_ident::is_xid_continue;
 
-/// Whether the word is one of the tokens': a name without `r#`, a lifetime without `'`, or a run of
-/// XID_Continue in the value of a string or of documentation that goes on no further to either side.
-/// Fails only where memory runs out.
+/// Whether the word is one of the tokens': a name without `r#`, a lifetime without `'`, or a
+/// maximal run of XID_Continue in the value of a string or of documentation. Fails only when out of
+/// memory.
 pub fn has_word(alloc: Global, tokens: &[Token], name: &str) -> Result<bool, AllocError>
     ensures { IfOk result (λ found. IsTrue found ↔ HasWord tokens.now (chars name.now)) }
 {
@@ -61,7 +61,7 @@ fn is_run(alloc: Global, text: &str, word: &str) -> Result<bool, AllocError>
     Ok(has_run(&text, &word))
 }
 
-/// The same of the characters.
+/// Whether the characters of the word are a maximal run of the characters of the text.
 fn has_run(text: &[char], word: &[char]) -> bool
     ensures { IsTrue result ↔ IsRunOf word.now text.now }
 {

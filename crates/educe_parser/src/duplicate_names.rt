@@ -198,7 +198,8 @@ fn earliest_of_fields<'a>(
     Ok(found)
 }
 
-/// The first duplicate name of a definition: a name whose earlier occurrence is in the same scope.
+/// The first duplicate name of a definition, in the order of the source: a name that an earlier one
+/// of its scope equals.
 pub fn first_duplicate(alloc: Global, ast: &DeriveInput) -> Result<Option<Name<'_>>, AllocError>
     ensures { IfOk result (λ found. IsEarliest found (scopes ast.now)) }
 {

@@ -91,7 +91,7 @@ module _ (head : Tokens) (at : ℕ → Option ℕ) where
       ap (chosen head t (walk head at zero (front ++ ts)) (λ left. walk head at (length (front ++ ts) - left) (front ++ ts))) (still (suc (length (front ++ ts))) (omega arith) (omega arith))
       ∙ ap (λ us. t ∷ us) (walk_plain front ts (λ place least most. still place least (omega arith)))
 
-  -- what falls away
+  -- what is dropped
   walk_away : (front ts : Tokens) → walk head at (length front) (front ++ ts) ≡ walk head at zero ts
   unfolding walk
   walk_away [] ts = refl

@@ -8,8 +8,7 @@ use Rattle.educe_tokens.specs.declared.error.Kind.TheVariants.{Syntax, TooDeep, 
 abbrev pub educe_format : List (List ℕ)
 educe_format = codes "educe" ∷ codes "#[educe(Trait1, Trait2, ..., TraitN)]" ∷ []
 
--- These are the words that the message of the kind cites: none, exactly one, those of `educe_format`, or at least one for the
--- form of an attribute.
+-- The words are such as the message of the kind cites.
 abbrev pub HasWords : Kind → List (List ℕ) → Type 0
 HasWords Syntax words = words ≡ []
 HasWords TooDeep words = words ≡ []

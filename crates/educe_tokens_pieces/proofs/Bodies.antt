@@ -172,7 +172,7 @@ record Digits (q : Quote) (n v : ℕ) (text : List ℕ) : Type 0 where
   pub scalar : is_scalar (value_from v digits) ≡ true
   pub rest : Rest q behind
 
--- what the text ahead is, with what stands behind that the place tells
+-- what the text ahead is in each state, with what stands behind
 abbrev Ahead : Within → List ℕ → Type 0
 Ahead (Open q) cs = Body q cs
 Ahead (places.Break q) cs = is_single q ≡ false → Rest q cs

@@ -67,7 +67,7 @@ prefix_len-append_stop p [] [] h = refl
 prefix_len-append_stop p [] (y ∷ ys) h = rw h refl
 prefix_len-append_stop p (x ∷ xs) ys h = ap (λ n. cond (p x) (1 + n) 0) (prefix_len-append_stop p xs ys h)
 
--- so what is behind it goes on with what follows the text
+-- what is behind the passing prefix of a text continues with what follows the text
 pub drop_prefix-append : (p : ℕ → Bool) (xs ys : List ℕ) → begins p ys ≡ false → drop (prefix_len p (xs ++ ys)) (xs ++ ys) ≡ drop (prefix_len p xs) xs ++ ys
 drop_prefix-append p xs ys h =
     ap (λ n. drop n (xs ++ ys)) (prefix_len-append_stop p xs ys h) ∙ drop-append-le (prefix_len p xs) xs ys (prefix_len-le-length p xs)

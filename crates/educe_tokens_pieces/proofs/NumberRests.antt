@@ -55,15 +55,15 @@ float_before_end s = float_before s [] refl refl
 pub ends_word_before-line_feed : (r b : List ℕ) → ends_word_before (r ++ 10 ∷ b) ≡ ends_word_before r
 ends_word_before-line_feed r b = ap not (begins-append is_xid_continue r (10 ∷ b) line_feed_no_continue)
 
--- nor whether digits before it are a float
+-- a line feed behind a rest doesn't change whether digits before it are a float
 makes_float-line_feed : (r b : List ℕ) → makes_float (r ++ 10 ∷ b) ≡ makes_float r
 makes_float-line_feed [] b = refl
 makes_float-line_feed (c ∷ r) b = ap (λ t. (c == 46) && not t) (begins-append (λ d. (d == 46) || is_word_start d) r (10 ∷ b) (word_start-ascii 10 (omega arith)))
 
--- nor whether the rest may follow an integer
+-- a line feed behind a rest doesn't change whether it may follow an integer
 pub may_follow_int-line_feed : (s r b : List ℕ) → may_follow_int s (r ++ 10 ∷ b) ≡ may_follow_int s r
 may_follow_int-line_feed s r b = λ i. ends_word_before-line_feed r b i && (not (is_empty (suffix_of s)) || not (makes_float-line_feed r b i))
 
--- nor whether it may follow a float
+-- a line feed behind a rest doesn't change whether it may follow a float
 pub may_follow_float-line_feed : (s r b : List ℕ) → may_follow_float s (r ++ 10 ∷ b) ≡ may_follow_float s r
 may_follow_float-line_feed s r b = λ i. ends_word_before-line_feed r b i && not (ends_with_dot s && begins-append (λ c. c == 46) r (10 ∷ b) refl i)

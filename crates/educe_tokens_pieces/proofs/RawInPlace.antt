@@ -63,7 +63,7 @@ first_closes n (c ∷ cs) first =
     (λ e. e) (cases_Bool ((c == 34) && nat_le n (mark_count behind))) in
     rw stays (first_closes n cs (λ xs ws ys e. first (c ∷ xs) ws ys (ap (λ t. c ∷ t) e)))
 
--- so what is before it and itself are the front
+-- the text up to the first end of the raw text, that end included, is its prefix
 pub raw_ends : (n : ℕ) (text front rest : List ℕ) → text ≡ (front ++ raw_end n) ++ rest → IsFirstRun (raw_end n) front → HasFront (closes_raw n) text rest
 raw_ends n text front rest e first = record { front = front ++ raw_end n; is = e; passes = first_closes n front first }
 

@@ -82,7 +82,7 @@ value_chars bs opening rest t =
     let here : length rest - length opening - 0 ≡ length t.middle = omega arith in
     ap chars ((λ i. take (here i) (t.behind i)) ∙ take-append_seam t.middle (34 ∷ marks_of t.law.marks)) ∙ t.chars
 
--- so a slice of the text is the value of the raw string
+-- the characters of the slice between the quotes are the value of the raw string
 pub slice_value : (bs opening rest slice : List ℕ) (t : IsRawText bs opening rest) → slice ≡ slice_range rest 0 (length rest - length opening) → chars slice ≡ raw_value (chars bs)
 slice_value bs opening rest slice t e = ap chars e ∙ value_chars bs opening rest t ∙ sym (raw_value_is (chars bs) t.value t.law)
 

@@ -27,10 +27,10 @@ module _ (inner : ℕ) (rest : List ℕ) where
   pub none_opened : (behind : List ℕ) → rest ≡ 47 ∷ 42 ∷ behind → closing_len (inner + 1) behind ≡ None → closing_len inner rest ≡ None
   none_opened behind e none = ap (closing_len inner) e ∙ ap (plus 2) none
 
-  -- nor behind a `*/` that closes another,
+  -- nothing closes where nothing does behind a `*/` that closes another comment,
   pub none_closed : (behind : List ℕ) → rest ≡ 42 ∷ 47 ∷ behind → inner ≢ 0 → closing_len (inner - 1) behind ≡ None → closing_len inner rest ≡ None
   none_closed behind e some none = ap (closing_len inner) e ∙ rw (ne_eqb inner 0 some) (ap (plus 2) none)
 
-  -- nor behind a character that begins neither
+  -- nothing closes where nothing does behind a character that begins neither `*/` nor another comment
   pub none_stays : (c : ℕ) (more : List ℕ) → rest ≡ c ∷ more → begins_pair 47 42 rest ≡ false → begins_pair 42 47 rest ≡ false → closing_len inner more ≡ None → closing_len inner rest ≡ None
   none_stays c more e opens closes none = ap (closing_len inner) e ∙ none_behind inner c more (sym (ap (begins_pair 47 42) e) ∙ opens) (sym (ap (begins_pair 42 47) e) ∙ closes) none

@@ -3,7 +3,7 @@ use Rattle.std.specs.Prelude.{◌≡◌, ℕ, ◌<◌, ◌≤◌, Bool, true, Op
 use Rattle.educe_tokens_pieces.specs.declared.kind.PieceKind.{PieceKind}
 use Rattle.educe_tokens_pieces.specs.Pieces.{is_piece}
 
--- What was found is a nonempty prefix of the text and a piece of its kind, whatever follows.
+-- The found length is that of a non-empty prefix that spells a piece of the found kind, whatever follows it.
 abbrev pub Fits : List ℕ → Option (PieceKind × ℕ) → Type 0
 Fits text None = Unit {0}
 Fits text (Some found) = (is_piece found.0 (take found.1 text) ≡ true) × (0 < found.1) × (found.1 ≤ length text)
