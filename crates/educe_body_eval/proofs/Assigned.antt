@@ -17,7 +17,7 @@ set_at-within place x [] within = absurd (omega arith)
 set_at-within zero x (y ∷ ys) within = refl
 set_at-within (suc place) x (y ∷ ys) within = ap (option_map (λ (more : List FieldValue). y ∷ more)) (set_at-within place x ys (omega arith))
 
--- they are made by adding one after the other
+-- the fields with another one at a place are made by adding the parts one after the other
 pub set_at-made : (place : ℕ) (x : FieldValue) (fields first second third : List FieldValue) → place < length fields → first ≡ take place fields → second ≡ first ++ x ∷ []
     → third ≡ second ++ take (length fields - (place + 1)) (drop (place + 1) fields) → Some third ≡ set_at place x fields
 set_at-made place x fields first second third within front one all =

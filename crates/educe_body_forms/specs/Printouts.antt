@@ -57,11 +57,11 @@ word w = record { tokens = word_lexeme w.text ∷ []; printable = printable-word
 abbrev pub written : Written → Printout
 written w = record { tokens = written_lexemes w; printable = printable-written w }
 
--- The path of a primitive integer type.
+-- The printout of the path of a primitive integer type.
 abbrev pub primitive : DiscriminantType → Printout
 primitive ty = record { tokens = primitive_lexemes ty; printable = primitive_printable ty }
 
--- A string literal, as it is spelled.
+-- A string literal, as it is spelled, may stand anywhere.
 pub string_printable : (text : List ℕ) → IsTrue (spells (kind.Literal Str) text) → IsPrintable (record { kind = kind.Literal Str; spelling = text } ∷ [])
 string_printable text h = record { written = written-one (kind.Literal Str) text refl; spelled = and_from _ _ h refl }
 
@@ -69,7 +69,7 @@ string_printable text h = record { written = written-one (kind.Literal Str) text
 abbrev pub string : (text : List ℕ) → IsTrue (spells (kind.Literal Str) text) → Printout
 string text h = record { tokens = record { kind = kind.Literal Str; spelling = text } ∷ []; printable = string_printable text h }
 
--- An integer, as it is spelled.
+-- An integer, as it is spelled, may stand anywhere.
 pub number_printable : (text : List ℕ) → IsTrue (spells (kind.Literal Int) text) → IsPrintable (record { kind = kind.Literal Int; spelling = text } ∷ [])
 number_printable text h = record { written = written-one (kind.Literal Int) text refl; spelled = and_from _ _ h refl }
 
@@ -81,11 +81,11 @@ number text h = record { tokens = record { kind = kind.Literal Int; spelling = t
 abbrev pub counted : (n : ℕ) → n < 2 ^ 64 → Printout
 counted n small = record { tokens = steps_lexeme n ∷ []; printable = steps_printable n small }
 
--- The steps of a distance.
+-- The printout of the steps of a distance.
 abbrev pub steps : Distance → Printout
 steps distance = counted distance.steps distance.fits
 
--- The place of a variant.
+-- The printout of the place of a variant.
 abbrev pub place : Position → Printout
 place position = counted position.place position.fits
 

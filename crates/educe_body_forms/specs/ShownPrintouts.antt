@@ -17,7 +17,7 @@ use Rattle.educe_body_forms.specs.Printouts.{Printout, nothing, says, name, writ
 
 -- ---- texts
 
--- The text as a string literal.
+-- The printout of a text as a string literal.
 abbrev pub literal_printout : LiteralText → Printout
 literal_printout shown = string (in_quotes shown.text) shown.spelled
 

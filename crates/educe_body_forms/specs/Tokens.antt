@@ -28,7 +28,7 @@ use Rattle.educe_body_forms.specs.ShownPrintouts.{literal_printout, write_str_pr
 
 -- ---- forms
 
--- The path of an order.
+-- The printout of the path of an order.
 abbrev pub order_printout : Ordering → Printout
 order_printout Less = says (codes ":: core :: cmp :: Ordering :: Less") refl
 order_printout Equal = says (codes ":: core :: cmp :: Ordering :: Equal") refl
@@ -79,7 +79,7 @@ other_arms partial greater less = giving_arm partial Greater greater beside givi
 abbrev pub block_arms : Bool → Printout → Ordering → Ordering → Printout
 block_arms partial block greater less = equal_arm block beside other_arms partial greater less
 
--- An answer that a body names itself.
+-- The printout of an answer that a body names itself.
 abbrev pub known_printout : Known → Printout
 known_printout (Truth true) = says (codes "true") refl
 known_printout (Truth false) = says (codes "false") refl
@@ -283,12 +283,12 @@ abbrev mutual
   form_printout (MethodArgument' names shape inner ty path) = method_argument names (boxed inner) ty path.written
   form_printout (Finish builder) = finish_printout builder
 
-  -- The one form that a box holds.
+  -- The printout of the one form that a box holds.
   pub boxed : {m : _} → Row_of-Form m → Printout
   boxed end_of-Form = nothing
   boxed (more_of-Form x rest) = form_printout x
 
-  -- Forms behind one another.
+  -- The printout of forms behind one another.
   pub in_a_row : {m : _} → Row_of-Form m → Printout
   in_a_row end_of-Form = nothing
   in_a_row (more_of-Form x rest) = form_printout x beside in_a_row rest
@@ -314,12 +314,12 @@ abbrev mutual
   inits_in_a_row end_of-Init = nothing
   inits_in_a_row (more_of-Init key value rest) = keyed key (form_printout value) beside inits_in_a_row rest
 
-  -- Forms with commas between.
+  -- The printout of forms with commas between.
   pub arguments : {m : _} → Row_of-Form m → Printout
   arguments end_of-Form = nothing
   arguments (more_of-Form x rest) = form_printout x beside behind_comma rest
 
-  -- A comma before each form.
+  -- The printout of forms with a comma before each.
   pub behind_comma : {m : _} → Row_of-Form m → Printout
   behind_comma end_of-Form = nothing
   behind_comma (more_of-Form x rest) = says (codes ",") refl beside form_printout x beside behind_comma rest

@@ -19,7 +19,7 @@ pub struct LiteralText {
 }
 
 impl LiteralText {
-    /// No text.
+    /// The empty text.
     pub fn empty(alloc: Global) -> Result<LiteralText, AllocError>
         ensures { IfOk result (λ made. made.text ≡ []) }
     {

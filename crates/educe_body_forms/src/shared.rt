@@ -21,7 +21,7 @@ impl<T> Model for Shared<T> {
 }
 
 impl<T> Shared<T> {
-    /// The value, lent.
+    /// A reference to the value.
     pub fn get(&self) -> &T
         ensures { result.now ≡ self.now }
     {

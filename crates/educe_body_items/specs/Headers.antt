@@ -26,7 +26,7 @@ argument_printout (Const param) = name param.ident
 abbrev pub arguments_printout : List GenericParam → Printout
 arguments_printout params = unless_empty params (in_angle (separated argument_printout params))
 
--- A predicate as it was written.
+-- The printout of a predicate, as it was written.
 abbrev pub predicate_printout : WherePredicate → Printout
 predicate_printout predicate = written predicate.written
 

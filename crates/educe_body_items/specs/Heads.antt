@@ -21,7 +21,7 @@ name_at (suc i) (own ∷ more) = name_at i more
 
 -- ---- which head
 
--- This head, if the name is this.
+-- This head, if the name is this text.
 abbrev pub if_named : List ℕ → List ℕ → Head → Option Head
 if_named own text this = if bytes_eq own text then Some this else None
 
@@ -99,6 +99,6 @@ abbrev pub own_or_other : Option Head → Function → Printout
 own_or_other (Some own) f = own_head own f.body.params
 own_or_other None f = other_head f.name
 
--- The head of a function of a trait.
+-- The printout of the head of a function of a trait.
 abbrev pub function_head : Trait → Function → Printout
 function_head which f = own_or_other (head_of which f.name.text) f

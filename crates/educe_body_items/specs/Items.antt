@@ -64,7 +64,7 @@ path_printable trait.Ord = refl
 path_printable trait.Hash = refl
 path_printable trait.Default = refl
 
--- The path of a trait.
+-- The printout of the path of a trait.
 abbrev pub path_printout : Trait → Printout
 path_printout which = says (trait_path which) (path_printable which)
 

@@ -37,7 +37,7 @@ name_no_index i n small same =
 key_named : (place : ℕ) (f : Field) (i : Ident) → f.ident ≡ Some i → binding_key place f ≡ unraw i.text
 key_named place f i h = rw h refl
 
--- and of one without
+-- the key without `r#` of a field without a name
 key_unnamed : (place : ℕ) (f : Field) → place < 2 ^ 64 → f.ident ≡ None → binding_key place f ≡ decimal place
 key_unnamed place f small h = rw h (unraw_decimal place small)
 
@@ -45,7 +45,7 @@ key_unnamed place f small h = rw h (unraw_decimal place small)
 names_named : (f : Field) (fields : List Field) (i : Ident) → f.ident ≡ Some i → field_names (f ∷ fields) ≡ ident_named i ∷ field_names fields
 names_named f fields i h = rw h refl
 
--- and of which it has none
+-- the names of fields of which the first has no name
 names_unnamed : (f : Field) (fields : List Field) → f.ident ≡ None → field_names (f ∷ fields) ≡ field_names fields
 names_unnamed f fields h = rw h refl
 

@@ -63,7 +63,7 @@ counted-once : (thing : Thing) (b : Bool) → counts thing ≡ b → counted (co
 counted-once thing true test = ap (λ (b : Bool). counted (if b then thing ∷ [] else [])) test ∙ ap (λ (b : Bool). if b then thing ∷ [] else []) test ∙ sym (ap (λ (b : Bool). if b then thing ∷ [] else []) test)
 counted-once thing false test = ap (λ (b : Bool). counted (if b then thing ∷ [] else [])) test ∙ sym (ap (λ (b : Bool). if b then thing ∷ [] else []) test)
 
--- of those that are gathered all count
+-- all arguments that are gathered count
 pub counted-gathers : (before things : List Thing) (thing : Thing) → counted before ≡ before → things ≡ before ++ counted (thing ∷ []) → counted things ≡ things
 counted-gathers before things thing all is =
     ap counted is ∙ filter-append counts before (counted (thing ∷ [])) ∙ (λ i. all i ++ counted-once thing (counts thing) refl i) ∙ sym is

@@ -63,7 +63,7 @@ impl Model for Bindings {
 }
 
 impl Bindings {
-    /// No binding. It takes no memory.
+    /// An empty list of bindings. It takes no memory.
     pub fn new(alloc: Global) -> Bindings
         ensures { result ≡ [] }
     {
@@ -79,7 +79,7 @@ impl Bindings {
         self.items.len()
     }
 
-    /// The bindings, lent.
+    /// The bindings, as a slice.
     pub fn as_slice(&self) -> &[Binding]
         ensures { result.now ≡ self.now }
     {
@@ -94,7 +94,7 @@ impl Bindings {
         Ok(())
     }
 
-    /// Keeps the first so many.
+    /// Keeps so many bindings from the front.
     pub fn truncate(&mut self, count: usize)
         ensures { self.new ≡ take count self.old }
     {

@@ -43,7 +43,7 @@ use Rattle.educe_laws.proofs.Elements.{In, In-all, In-at, In-mapped, In-from_Con
 pub among_in : {X : Type 0} (x : X) (xs : List X) → IsAmong x xs → In x xs
 among_in x xs among = subst (In x) (sym among.is) (in_middle among.front among.back x)
 
--- and the other way round
+-- an element of a list stands in it
 pub in_among : {X : Type 0} (x : X) (xs : List X) → In x xs → IsAmong x xs
 in_among x [] found = absurd found
 in_among x (y ∷ ys) (inl here) = record { front = []; back = ys; is = ap (λ first. first ∷ ys) here }

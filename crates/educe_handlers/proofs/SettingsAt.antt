@@ -40,7 +40,7 @@ module _ (which : Trait) (d : DeriveInput) where
     pub some_case : 0 < length all
     some_case = let one : length all ≡ 1 = ap length only_case in omega arith
 
-  -- and those of an enum
+  -- the settings of the fields of the variants of an enum
   pub settings_enum : (variants : List Variant) (all : List (List FieldSettings)) → d.shape ≡ Enum variants → all ≡ settings_in which d (cases_of d)
       → all ≡ settings_in which d (map fields_in variants)
   settings_enum variants all is are = are ∙ ap (λ s. settings_in which d (shape_cases s)) is

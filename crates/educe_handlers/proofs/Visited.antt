@@ -26,7 +26,7 @@ mapped_more f xs i d x less item = ap (map f) (take_more xs i d less) ∙ map-ap
 read-append : (front back : List Kept) → read_types (front ++ back) ≡ read_types front ++ read_types back
 read-append front back = map-append type_of front back
 
--- and those on which the trait's own function is called
+-- the types on which the trait's own function is called, of two lists of fields
 touched-append : (front back : List Kept) → touched_types (front ++ back) ≡ touched_types front ++ touched_types back
 touched-append front back = filter_map-append (λ (k : Kept). touched_by k.how (type_of k)) front back
 
@@ -47,7 +47,7 @@ module _ (fields : List Ranked) (i : ℕ) (d r : Ranked) (less : i < length fiel
       pushed ∙ ap (λ front. front ++ type_of (kept_of r) ∷ []) so_far ∙ append_assoc begun (read_types (map kept_of (take i fields))) (type_of (kept_of r) ∷ [])
       ∙ ap (λ more. begun ++ more) (sym (ap read_types kept_more ∙ read-append (map kept_of (take i fields)) (kept_of r ∷ [])))
 
-  -- and those on which the trait's own function is called
+  -- a loop over fields that adds the types on which the trait's own function is called
   pub touched_more : (begun before after : List Ty) → before ≡ begun ++ touched_types (map kept_of (take i fields))
       → after ≡ before ++ touched_one (kept_of r).how (type_of (kept_of r)) → after ≡ begun ++ touched_types (map kept_of (take (i + 1) fields))
   touched_more begun before after so_far pushed =

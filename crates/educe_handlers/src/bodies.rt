@@ -38,7 +38,7 @@ pub fn name_of(alloc: Global, name: Option<&Ident>) -> Result<Option<Ident>, All
     }
 }
 
-/// A name at no place again.
+/// A copy of a name, which is at no place either.
 pub fn same_name(alloc: Global, name: &Ident) -> Result<Ident, AllocError>
     requires { name.now.span ≡ no_place }
     ensures { IfOk result (IsName name.now.text) }

@@ -17,7 +17,7 @@ pub struct SeenTypes<'a> {
     pub touched: Vec<&'a Ty>,
 }
 
-/// No types.
+/// The types seen before any field: none.
 pub fn no_types<'a>(alloc: Global) -> SeenTypes<'a>
     ensures read { spec.read_of result ≡ [] }
     ensures touched { spec.touched_of result ≡ [] }

@@ -20,7 +20,7 @@ use Rattle.educe_laws.proofs.Pairing.{Look, FieldsGive, part_in, value_in}
 abbrev pub AreKept : Trait → DeriveInput → List Field → Type 0
 AreKept which d fields = AllByRecursion (λ field. is_kept which d field ≡ true) fields
 
--- they stand at these places, one behind the other
+-- the fields stand at these places, one behind the other
 abbrev pub InPlace : ℕ → List Kept → Type 0
 InPlace place [] = Unit {0}
 InPlace place (k ∷ ks) = (k.place ≡ place) × InPlace (place + 1) ks
@@ -50,7 +50,7 @@ module _ (which : Trait) (d : DeriveInput) where
   every_from place [] = []
   every_from place (f ∷ fs) = kept_at which d place f ∷ every_from (place + 1) fs
 
-  -- they are those that take part
+  -- where all fields take part, those that take part are all
   every : (place : ℕ) (fs : List Field) → AreKept which d fs → kept_from which d place fs ≡ every_from place fs
   every place [] all = refl
   every place (f ∷ fs) all =
@@ -89,7 +89,7 @@ module _ (which : Trait) (d : DeriveInput) where
   pub kept_are : (fs : List Field) → AreKept which d fs → map (λ (k : Kept). k.field) (kept_from which d 0 fs) ≡ fs
   kept_are fs all = ap (λ (ks : List Kept). map (λ (k : Kept). k.field) ks) (every 0 fs all) ∙ every_fields 0 fs
 
-  -- they stand one behind the other
+  -- the fields that take part stand one behind the other
   pub kept_in_place : (fs : List Field) → AreKept which d fs → InPlace 0 (kept_from which d 0 fs)
   kept_in_place fs all = subst (InPlace 0) (sym (every 0 fs all)) (every_in_place 0 fs)
 

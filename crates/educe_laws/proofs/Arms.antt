@@ -228,7 +228,7 @@ module _ (IsOwn : ℕ → Variant → Arm → Type 0) (named : (place : ℕ) (v 
     pub is : IsOwn place v arm
     pub value_is : arms_list scene env arms value referents ≡ taken scene env arm.pattern arm.block value referents
 
-  -- it is among the arms
+  -- the arm of the variant at a place is among the arms
   pub arm_at : (place : ℕ) (vs : List Variant) (arms : List Arm) (k : ℕ) → AreArms IsOwn place vs arms → AreApart (variant_names vs) → slice_get vs k ≡ Some v → IsTaken (place + k) arms
   arm_at place [] arms k are apart at = absurd (cc)
   arm_at place (w ∷ vs) [] k are apart at = absurd are

@@ -132,7 +132,7 @@ module _ (suffice : AlwaysSuffice) (minimal : AreAlwaysMinimal) (d : DeriveInput
   block_tight trait.Debug items k = debug_tight items k
   block_tight trait.Default items k = subst (AllByRecursion (HasTightBounds d)) (sym k.are) (default_tight k.item k.impl_is, new_tight (has_new d) k.item k.impl_is k.more k.more_are)
 
-  -- and those of the blocks of several, one behind the other
+  -- the items of the blocks of several traits, one behind the other, have tight bounds
   blocks_tight : (traits : List Trait) (items : List Item) → Blocks traits d items → AllByRecursion (HasTightBounds d) items
   blocks_tight [] items are = subst (AllByRecursion (HasTightBounds d)) (sym are) tt
   blocks_tight (which ∷ traits) items are =

@@ -36,7 +36,7 @@ module _ (d : DeriveInput) where
 
 -- ---- types that are checked
 
--- they are readings of their tokens
+-- the types that are checked are readings of their tokens
 types_read : (d : DeriveInput) → IsDefinition d.tokens d → AllByRecursion IsReadType (checked_types d)
 types_read d is = checked_hold IsReadType d (lawful_definitions.parts d.tokens d is.whole).fields (is_listed (listed d) trait.PartialEq)
 

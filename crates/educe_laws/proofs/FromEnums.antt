@@ -163,7 +163,7 @@ module _ (d : DeriveInput) (variants : List Variant) (fit : AreFit trait.Clone d
         own_left behind.names (list_value scene behind Nothing (is.whole ∷ []))
         ∙ ap own_of (go_on-end (form_value scene behind is.whole) ∙ whole_assigned is.whole w is.whole_is made)
 
-    -- it is what is meant
+    -- what the arm makes of `self` is what is meant
     arm_means : (found : Outcome) (same : Bool) → (a.variant == b.variant) ≡ same → clone_from_of table false d a b ≡ Some found → own_of (inner_or_else (fits d is.inner b)) ≡ found
     arm_means found true test means =
         let same = eqb-true a.variant b.variant test in

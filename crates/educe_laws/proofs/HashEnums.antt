@@ -114,7 +114,7 @@ module _ (d : DeriveInput) (variants : List Variant) (fit : AreFit trait.Hash d 
       ∙ ap (λ (flow : Flow). parts_of (leave (outer names) flow)) (arm_value (0 + a.variant) picked.arm.block is.first is.steps is.block_is is.first_is is.steps_are)
       ∙ ap (λ (place : ℕ). Parts (pos place ∷ parts)) (zero-add a.variant)
 
-  -- it is what the value feeds
+  -- the match feeds what the value feeds
   pub enum_feeds : Parts (pos a.variant ∷ parts) ≡ Parts (hash_of table d a)
   enum_feeds =
       ap (λ (vs : List Valued). Parts (pos a.variant ∷ fed_by table vs)) (sym paired)

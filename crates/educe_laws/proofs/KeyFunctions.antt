@@ -131,7 +131,7 @@ module _ (table : Answers) (names : List Binding) where
       let later : map (discriminant table) cs ≡ map Some ns = cc in
       (numbered ty base c n reads.0 here fit.0, each_numbered ty base cs ns reads.1 later fit.1)
 
-  -- then the numbers of the constants are the discriminants
+  -- where each constant has its discriminant as its number, the numbers of the constants are the discriminants
   numbers_are : (ty : DiscriminantType) (base : List ℕ) (cs : List Counted) (constants : List Constant) → AllByRecursion (IsNumbered ty base) cs → AllZip (IsConstant ty base) cs constants
       → map (constant_number table names) constants ≡ map (discriminant table) cs
   numbers_are ty base [] [] each are = refl
@@ -271,7 +271,7 @@ module _ (d : DeriveInput) (names : Names) (are : AreNames d names) where
   function_self : bytes_eq names.discriminant (codes "self") ≡ false
   function_self = bytes_eq-differ names.discriminant (codes "self") (name_not_self d plain_names (chosen_names names) are.are are_plain names.discriminant (inr (inl refl)))
 
-  -- and they have two names
+  -- the second value and the key function have two names
   function_other : bytes_eq names.discriminant names.other ≡ false
   function_other = (or_parts _ _ (lawful_names.apart are.are.words plain_names (chosen_names names) are.are.chosen).0).0
 

@@ -275,6 +275,6 @@ module _ (d : DeriveInput) (apart : AreNamesApart d) (table : Answers) (this oth
 pub makes_default : (d : DeriveInput) → AreNamesApart d → (body : Body) → IsDefaultBody d body → MakesDefault d body
 makes_default d apart body k = λ table this other found means. default_evaluates d apart table this other body k found means
 
--- and that of `new` to the default value of the type
+-- the body of `new` evaluates to the default value of the type
 pub makes_new : (d : DeriveInput) → AreNamesApart d → (body : Body) → IsNewBody body → MakesNew d body
 makes_new d apart body k = λ table this other found means. new_evaluates d apart table this other body k found means

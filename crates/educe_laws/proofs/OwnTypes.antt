@@ -61,7 +61,7 @@ module _ (P : Token → Type 0) where
       inherits_made tuple_field_of _ (λ x. TypeWithin x.0.1) FieldTyped (λ x is. is)
       (inherits_sliced _ (λ x. TypeWithin x.1) (inherits_second _ _ TypeWithin (inherits_skipping _ _ TypeWithin type_within)))
 
-  -- and of those of all fields
+  -- P holds of each token of the types of all fields
   abbrev ShapeTyped : FieldShape → Type 0
   ShapeTyped s = AllByRecursion FieldTyped s.fields
 

@@ -38,7 +38,7 @@ comparison_fieldwise PartialEq = refl
 comparison_fieldwise PartialOrd = refl
 comparison_fieldwise Ord = refl
 
--- where a trait is read field by field, a cause of it is such a one
+-- where a trait is read field by field, a cause of what is read so is a cause of the trait
 of_trait : (which : Trait) (d : DeriveInput) (e : EduceError) → IsTrue (is_fieldwise which) → IsFieldwiseCause which d e → IsTraitCause d which e
 of_trait trait.PartialEq d e fieldwise cause = cause
 of_trait trait.Eq d e fieldwise cause = cause
@@ -50,7 +50,7 @@ of_trait trait.Clone d e fieldwise cause = cause
 of_trait trait.Copy d e fieldwise cause = cause
 of_trait trait.Default d e fieldwise cause = absurd (false≢true fieldwise)
 
--- and the other way round
+-- where a trait is read field by field, a cause of the trait is a cause of what is read so
 pub of_fieldwise : (which : Trait) (d : DeriveInput) (e : EduceError) → IsTrue (is_fieldwise which) → IsTraitCause d which e → IsFieldwiseCause which d e
 of_fieldwise trait.PartialEq d e fieldwise cause = cause
 of_fieldwise trait.Eq d e fieldwise cause = cause
@@ -133,7 +133,7 @@ module _ (which : Trait) (fieldwise : IsTrue (is_fieldwise which)) (d : DeriveIn
   abbrev Says : Field → FieldSettings → Type 0
   Says field settings = IsFieldSaid which (field_row which) (listed d) field.attrs settings
 
-  -- they have no cause
+  -- the attributes of a field have no cause
   field_uncaused : (field : Field) → IsAmong field (all_fields d) → NoCause (OfField which (field_row which) (listed d) field.attrs)
   field_uncaused field among = record { none_stands = λ e cause. uncaused.none_stands e (field_refused which fieldwise d field among e cause) }
 

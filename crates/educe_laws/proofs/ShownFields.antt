@@ -47,6 +47,6 @@ module _ (P : Field → Type 0) where
     pub each_case_holds : AllByRecursion P (all_fields d) → AllByRecursion HoldsIn (shown_cases d)
     each_case_holds each = shape_holds d.shape each
 
-    -- and of those that are shown
+    -- what holds of all fields holds of those that are shown
     pub all_shown_hold : AllByRecursion P (all_fields d) → AllByRecursion Holds (all_shown d)
     all_shown_hold each = cases_hold (shown_cases d) (each_case_holds each)

@@ -79,7 +79,7 @@ module _ (d : DeriveInput) (names : DebugNames) (are : AreDebugNames d names) wh
   value_in : In names.value all
   value_in = inr (inr (inr (inr (inr (inr (inr (inl refl)))))))
 
-  -- they are apart
+  -- the names of a marker are apart
   marker_apart : AreApart (marker_names names)
   marker_apart =
       let apart = (chosen_scoped d plain all are.are all_plain).apart in

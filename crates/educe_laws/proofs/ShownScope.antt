@@ -97,13 +97,13 @@ module _ (d : DeriveInput) (names : DebugNames) (are : AreDebugNames d names) wh
       without_helper maps (codes "self") (not_self names.helper (inr (inr (inr (inr (inl refl))))))
       ∙ before_last (record { name = codes "self"; referent = This } ∷ []) (record { name = names.formatter; referent = Other }) (codes "self") (not_self names.formatter (inl refl))
 
-  -- the name of the formatter for the parameter
+  -- the name of the formatter stands for the parameter
   pub formatter_found : (maps : Bool) → look_up (outer maps names) names.formatter ≡ Some Other
   formatter_found maps =
       without_helper maps names.formatter helper_not_formatter
       ∙ at_last (record { name = codes "self"; referent = This } ∷ []) (record { name = names.formatter; referent = Other })
 
-  -- and that of the type of the keys for this, where it stands in front
+  -- the name of the type of the keys stands for this type, where it stands in front
   pub helper_found : (maps : Bool) → maps ≡ true → look_up (outer maps names) names.helper ≡ Some Helper
   helper_found false is = absurd (false≢true is)
   helper_found true is = at_last (names_for names.formatter) (helper_binding names)

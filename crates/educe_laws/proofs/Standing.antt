@@ -49,7 +49,7 @@ pub variant_stands : (d : DeriveInput) (variant : Variant) → IsAmong variant (
 variant_stands d variant among =
     among_more variant.attrs (d.attrs ∷ []) (variant_attributes d) (field_attributes d) (among_mapped (λ (v : Variant). v.attrs) variant (variants_of d) among)
 
--- and those of a field
+-- the attributes of a field are those of a place
 pub field_stands : (d : DeriveInput) (field : Field) → IsAmong field (all_fields d) → IsAmong field.attrs (places d)
 field_stands d field among =
     let own = among_mapped (λ (f : Field). f.attrs) field (all_fields d) among in

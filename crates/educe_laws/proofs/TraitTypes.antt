@@ -40,7 +40,7 @@ module _ (which : Trait) (d : DeriveInput) (P : Field → Type 0) where
   kept_hold place [] each = tt
   kept_hold place (f ∷ fs) each = kept_step (kept_at which d place f) (kept_from which d (place + 1) fs) (is_kept which d f) each.0 (kept_hold (place + 1) fs each.1)
 
-  -- and of each that is visited
+  -- what holds of each field holds of each that is visited
   visited_hold : (cases : List (List Field)) (visited : List Kept) → AllByRecursion (AllByRecursion P) cases → AreVisited which d cases visited → AllByRecursion Holds visited
   visited_hold [] visited each are = subst (AllByRecursion Holds) (sym are) tt
   visited_hold (fields ∷ cases) visited each are =
@@ -104,7 +104,7 @@ module _ (P : Ty → Type 0) where
     fields_hold which read touched are =
         these_hold are.visited read touched (visited_hold which d OfField (cases_of d) are.visited each_case are.visited_are) are.read_are are.touched_are
 
-    -- and of those of which `default` takes the default values
+    -- it holds of the types of which `default` takes the default values
     without_step : (f : Field) (said : Option Expr) (rest : List Ty) → OfField f → AllByRecursion P rest → AllByRecursion P (cons_option (type_without f said) rest)
     without_step f None rest here later = (here, later)
     without_step f (Some said) rest here later = later
@@ -116,7 +116,7 @@ module _ (P : Ty → Type 0) where
     defaults_hold : AllByRecursion P (default_types d)
     defaults_hold = without_hold (written_fields (choice_of d)) (written_hold d OfField types)
 
-    -- and of those of `Clone`
+    -- it holds of the types of `Clone`
     clone_hold : (whole : Bool) (read touched : List Ty) → AreCloneTypes whole d read touched → Hold read touched
     clone_hold true read touched are = unread_hold [] read touched tt are
     clone_hold false read touched are = fields_hold trait.Clone read touched are

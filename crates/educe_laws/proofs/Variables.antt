@@ -240,17 +240,17 @@ module _ (d : DeriveInput) (plain names : List (List ℕ)) (are : AreChosenFor d
   chosen_held : (name : List ℕ) → In name names → is_held held name ≡ true
   chosen_held name found = held_in held name (In-behind are.words names name found)
 
-  -- it is no word of the definition
+  -- a chosen name is no word of the definition
   pub chosen_no_words : AllByRecursion (λ name. HasWord d.tokens name → ⊥) names
   chosen_no_words =
       each_weaker (λ text. is_held are.words text ≡ false) (λ name. HasWord d.tokens name → ⊥)
       (λ name free. lawful_names.no_word d.tokens are.words name (λ word has. (are.words_are word).1 has) free) names (lawful_names.chosen are.words plain names are.chosen)
 
-  -- it has no `r#`
+  -- a chosen name has no `r#`
   chosen_raw : AllByRecursion (λ text. unraw text ≡ text) names
   chosen_raw = each_chosen (λ text. unraw text ≡ text) unraw_behind are.words plain names are.chosen fit.raw
 
-  -- and it is not `self`
+  -- a chosen name is not `self`
   chosen_not_self : AllByRecursion (λ text. text ≢ codes "self") names
   chosen_not_self =
       each_weaker (λ text. bytes_eq text (codes "self") ≡ false) (λ text. text ≢ codes "self") not_self names
@@ -281,15 +281,15 @@ module _ (d : DeriveInput) (plain names : List (List ℕ)) (are : AreChosenFor d
     marked : (key : List ℕ) → (rest : List ℕ) × (prefix ++ key ≡ 95 ∷ rest)
     marked key = let mark = marked_behind is.count tail key in (mark.0, ap (λ (text : List ℕ). text ++ key) is.is ∙ mark.1)
 
-    -- it is not `self`
+    -- a variable is not `self`
     pub variable_not_self : (key : List ℕ) → prefix ++ key ≢ codes "self"
     variable_not_self key = not_self (prefix ++ key) (ap (λ text. bytes_eq text (codes "self")) (marked key).1)
 
-    -- it is no chosen name
+    -- a variable is no chosen name
     pub variable_not_chosen : (name : List ℕ) → In name names → (key : List ℕ) → prefix ++ key ≢ name
     variable_not_chosen name found key same = false≢true (sym (lawful_names.prefixed held (95 ∷ tail) prefix key is) ∙ ap (is_held held) same ∙ chosen_held name found)
 
-    -- it is no word of the definition
+    -- a variable is no word of the definition
     variable_no_word : (key : List ℕ) → HasWord d.tokens (prefix ++ key) → ⊥
     variable_no_word key =
         lawful_names.no_word d.tokens held (prefix ++ key) (lawful_names.held d.tokens are.words names are.words_are) (lawful_names.prefixed held (95 ∷ tail) prefix key is)

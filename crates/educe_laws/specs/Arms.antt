@@ -60,7 +60,7 @@ pub record Names : Type 0 where
 abbrev pub plain_names : List (List ℕ)
 plain_names = codes "other" ∷ codes "discriminant" ∷ codes "this" ∷ codes "base" ∷ []
 
--- The names that are chosen for these.
+-- The texts of the chosen names, in the order of the plain ones.
 abbrev pub chosen_names : Names → List (List ℕ)
 chosen_names names = names.other ∷ names.discriminant ∷ names.this ∷ names.base ∷ []
 
@@ -294,7 +294,7 @@ IsDecision which definition names variants compares false x =
 abbrev pub is_unit : Variant → Bool
 is_unit variant = not (has_brackets variant.fields.form) && (length (fields_in variant) == 0)
 
--- Whether each variant is such a unit.
+-- Whether each variant has neither brackets nor fields.
 abbrev pub are_units : List Variant → Bool
 are_units variants = list_all is_unit variants
 

@@ -253,7 +253,7 @@ Blocks (which ∷ traits) definition items =
 abbrev pub OneEach : DeriveInput → List Item → Type 0
 OneEach definition items = Blocks (listed_in_order definition) definition items
 
--- The scene of a definition and a table, where `self` is the first value and the parameter the second.
+-- The scene in which `self` is the first value and the parameter the second.
 abbrev pub scene_of : DeriveInput → Value → Value → Answers → Scene
 scene_of definition a b table = record { definition = definition; this = Some a; other = Some b; answers = table; field = None }
 
@@ -262,7 +262,7 @@ abbrev pub Compares : Comparison → DeriveInput → Body → Type 0
 Compares which definition body =
     (table : Answers) (a b : Value) → Covers which table definition a b → value body (scene_of definition a b table) ≡ meaning which table definition a b
 
--- `self` is the value, whatever the other one is.
+-- The scene in which `self` is the value, whatever the other value is.
 abbrev pub scene_with : DeriveInput → Value → Option Value → Answers → Scene
 scene_with definition a other table = record { definition = definition; this = Some a; other = other; answers = table; field = None }
 

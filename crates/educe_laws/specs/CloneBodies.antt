@@ -42,7 +42,7 @@ pub record CloneNames : Type 0 where
 abbrev pub plain_clone_names : List (List ℕ)
 plain_clone_names = codes "source" ∷ codes "__educe_clone_method_used" ∷ codes "educe__value" ∷ []
 
--- The names that are chosen for these.
+-- The texts of the chosen names, in the order of the plain ones.
 abbrev pub chosen_clone_names : CloneNames → List (List ℕ)
 chosen_clone_names names = names.source ∷ names.function ∷ names.value ∷ []
 

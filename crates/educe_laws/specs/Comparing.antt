@@ -89,17 +89,17 @@ abbrev pub said_truth : Bool → Option Answer → Option Known
 said_truth opposite (Some (AnswerTruth b)) = Some (Truth (if opposite then not b else b))
 said_truth opposite answer = None
 
--- The order that is answered.
+-- The order that a call answers.
 abbrev pub said_order : Option Answer → Option Known
 said_order (Some (AnswerOrder o)) = Some (Order o)
 said_order answer = None
 
--- The partial order that is answered.
+-- The partial order that a call answers.
 abbrev pub said_partial_order : Option Answer → Option Known
 said_partial_order (Some (AnswerPartialOrder p)) = Some (PartialOrder p)
 said_partial_order answer = None
 
--- The order that is answered, in `Some`.
+-- The order that a call answers, in `Some`.
 abbrev pub said_in_some : Option Answer → Option Known
 said_in_some (Some (AnswerOrder o)) = Some (PartialOrder (Some o))
 said_in_some answer = None

@@ -35,7 +35,7 @@ pub record HashNames : Type 0 where
 abbrev pub plain_params : List (List ℕ)
 plain_params = codes "state" ∷ codes "H" ∷ []
 
--- The names that are chosen for these.
+-- The texts of the chosen names, in the order of the plain ones.
 abbrev pub chosen_params : HashNames → List (List ℕ)
 chosen_params names = names.state ∷ names.hasher ∷ []
 

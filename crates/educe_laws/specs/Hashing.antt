@@ -39,7 +39,7 @@ valued which definition a = valued_from which definition 0 (case_of definition a
 
 -- ---- what a field feeds to a hasher
 
--- The part that is answered.
+-- The part for a hasher that a call answers.
 abbrev pub part_said : Option Answer → Option ℤ
 part_said (Some (Part n)) = Some n
 part_said answer = None

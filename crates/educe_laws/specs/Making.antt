@@ -98,7 +98,7 @@ abbrev pub case_made : Answers → DeriveInput → Option (ℕ × List Field) �
 case_made table definition None = None
 case_made table definition (Some case) = value_of case.0 (fields_made table definition case.1)
 
--- The value as a whole.
+-- The outcome of a value that a call makes as a whole.
 abbrev pub whole_of : Option FieldValue → Option Outcome
 whole_of None = None
 whole_of (Some x) = Some (Whole x)

@@ -108,7 +108,7 @@ variant_case definition own variant values = record {
   fields = fields_in variant;
 }
 
--- The case of a struct.
+-- How the values of a struct are shown.
 abbrev pub struct_shown : DeriveInput → FieldShape → ShownCase
 struct_shown definition shape = struct_case definition (type_settings Debug definition) shape
 
@@ -213,7 +213,7 @@ pub record IsVariantCase (definition : DeriveInput) (variant : Variant) (case : 
   pub variant_settings : AreNamingSettings definition variant values
   pub case_is : case ≡ variant_case definition own variant values
 
--- The case of a struct, or of a variant.
+-- The case is that of the struct, or of a variant.
 pub data IsCase (definition : DeriveInput) (case : ShownCase) : Type 0 where
   of_struct : IsStructCase definition case → IsCase definition case
   of_variant : (variant : Variant) → IsVariantCase definition variant case → IsCase definition case

@@ -55,7 +55,7 @@ plain_fmt_names =
     codes "f" ∷ codes "builder" ∷ codes "arg" ∷ codes "Educe__DebugField" ∷ codes "Educe__RawString" ∷ codes "V" ∷ codes "F" ∷ codes "educe__value"
     ∷ codes "educe__formatter" ∷ []
 
--- The names that are chosen for these.
+-- The texts of the names chosen for `fmt`, in the order of the plain ones.
 abbrev pub chosen_fmt_names : DebugNames → List (List ℕ)
 chosen_fmt_names names =
     names.formatter ∷ names.builder ∷ names.argument ∷ names.wrapper ∷ names.helper ∷ names.value_type ∷ names.function_type ∷ names.value
@@ -65,7 +65,7 @@ chosen_fmt_names names =
 abbrev pub plain_marker_names : List (List ℕ)
 plain_marker_names = codes "__educe_debug_method_used" ∷ codes "educe__f" ∷ []
 
--- The names that are chosen for these.
+-- The texts of the names chosen for a marker, in the order of the plain ones.
 abbrev pub chosen_marker_names : DebugNames → List (List ℕ)
 chosen_marker_names names = names.function ∷ names.marker_formatter ∷ []
 
@@ -140,7 +140,7 @@ pub record AreByMethod (names : DebugNames) (form : ShapeForm) (text : List ℕ)
   pub entry_is : IsEntry names form text true (Local local) entry
   pub are : forms ≡ argument ∷ entry ∷ []
 
--- The forms on a field that is treated so.
+-- The forms on a field that is treated in this way.
 abbrev pub AreFormsBy : DebugNames → ShapeForm → List ℕ → Reading → Kept → How → List Form → Type 0
 AreFormsBy names form text reading kept plainly forms = ArePlain names form text reading kept forms
 AreFormsBy names form text reading kept (by_method path) forms = AreByMethod names form text reading kept path forms

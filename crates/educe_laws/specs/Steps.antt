@@ -49,7 +49,7 @@ pub data Reading : Type 0 where
   of_base : Bool → List ℕ → Reading
   bound : List ℕ → Reading
 
--- The form reads the field so.
+-- The form reads the field in this way.
 abbrev pub IsRead : Reading → Kept → Form → Type 0
 IsRead (of_base copied base) kept x = IsReference copied base kept.place kept.field x
 IsRead (bound prefix) kept x = IsVariable prefix kept.place kept.field x

@@ -19,9 +19,10 @@ pub struct CloneNames {
     pub source: Ident,
     /// The names of a marker.
     pub marker: MarkerNames,
-    /// What the variables for the fields of that value begin with, and in `clone` those of `self`.
+    /// What the variables for the fields of the value that `clone_from` reads begin with, and in `clone`
+    /// those for the fields of `self`.
     pub sources: Spelling,
-    /// What those of `self` in `clone_from` begin with.
+    /// What the variables for the fields of `self` in `clone_from` begin with.
     pub own: Spelling,
     pub ghost source_nowhere: { source.span ≡ no_place },
     pub ghost unformatted: { marker.formatter ≡ None },

@@ -24,7 +24,7 @@ use Rattle.educe_make_debug_bodies.specs.Entries.{AreArgued}
 -- ---- the forms on a field with a method
 
 module _ (names : DebugNames) (form : ShapeForm) (text : List ℕ) (reading : Reading) (kept : Kept) (held : Form) (forms : List Form) (read : IsRead reading kept held) where
-  -- they are the argument and its entry
+  -- the forms on a field with a method are the argument and its entry
   argued_forms : (path : ExprPath) → AreArgued names form text kept.field path held forms → AreByMethod names form text reading kept path forms
   argued_forms path argued = record {
     read = held;
@@ -87,7 +87,7 @@ module _ (case : Case) (fields : List Ranked) (are : map kept_of fields ≡ kept
       let within : r.place < 0 + length case.settings = In-all (λ (k : Kept). k.place < 0 + length case.settings) (kept_in case) (kept_of r) (places_below 0 case.fields.now case.settings) in_kept in
       omega arith
 
-  -- and those there are its own
+  -- the settings at the place of a field that is shown are its own
   pub settings_are : (d : DeriveInput) (own : FieldSettings) → AreSettled d case → own ≡ get_or case.settings r.place own → own ≡ entry_settings case.named d r.field.now
   settings_are d own settled found =
       let f : Field → FieldSettings = entry_settings case.named d in

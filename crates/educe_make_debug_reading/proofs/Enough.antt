@@ -42,7 +42,7 @@ module _ (d : DeriveInput) where
   kept_same : (shown : ShownCase) (case : Case) → IsCaseOf d shown case → kept_in case ≡ shown_fields d shown
   kept_same shown case is = ap (kept_by 0 case.fields.now) is.settled ∙ ap (shown_fields d) is.is
 
-  -- and of all
+  -- the fields of all cases that are shown
   pub kept_all : (all : List ShownCase) (cases : List Case) → AllZip (IsCaseOf d) all cases → flat_map kept_in cases ≡ flat_map (shown_fields d) all
   kept_all [] [] zip = refl
   kept_all [] (c ∷ cs) zip = absurd zip

@@ -11,7 +11,7 @@ use Rattle.educe_make_debug_shown.specs.declared.debug_shown.Shown.{Shown}
 abbrev pub shows : Case → Bool
 shows case = is_shown case.name.text || list_any keeps case.settings
 
--- Nothing is shown, and that is rejected so.
+-- Nothing is shown, and the rejection for that is this one.
 pub record IsNeeded (shows : Bool) (own e : EduceError) : Type 0 where
   pub nothing : shows ≡ false
   pub is : e ≡ own

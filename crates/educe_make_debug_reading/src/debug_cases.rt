@@ -72,7 +72,8 @@ fn variant_need(unit: bool) -> Kind
     }
 }
 
-/// The place of that: the whole of a unit variant, and of another its name.
+/// The place at which a variant of which nothing is shown is rejected: the whole of a unit variant, and the
+/// name of another.
 fn need_place(variant: &Variant, unit: bool) -> Span
     ensures { result ≡ variant_place unit variant.now }
 {

@@ -9,7 +9,7 @@ use educe_tokens::{Kind, Seq, Span};
 /// How the values of a case are shown: those of a struct, or of a variant.
 #[derive(Drop)]
 pub struct Case<'d> {
-    /// It is a unit variant.
+    /// Whether the case is a unit variant.
     pub unit: bool,
     /// The name that is shown; its text is empty where none is.
     pub name: LiteralText,
@@ -18,9 +18,9 @@ pub struct Case<'d> {
     pub fields: &'d [Field],
     /// What the attributes of each field say.
     pub settings: Seq<FieldSettings>,
-    /// Why it is rejected, where neither a name nor a field is shown.
+    /// Why the case is rejected, where neither a name nor a field is shown.
     pub need: Kind,
-    /// The place of that.
+    /// The place at which the case is rejected.
     pub place: Span,
     pub ghost each: { length settings ≡ length fields.now },
 }

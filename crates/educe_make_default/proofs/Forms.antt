@@ -42,7 +42,7 @@ types_by d choice is = ap (λ (o : Option Choice). types_without d (written_fiel
 pub value_chosen : (d : DeriveInput) (said : Expr) → (type_values d).expression ≡ Some said → choice_of d ≡ Some (by_value said)
 value_chosen d said is = ap (λ (o : Option Expr). choice_by d o d.shape) is
 
--- or else the struct
+-- the struct is chosen where the type says no value
 pub struct_chosen : (d : DeriveInput) (shape : FieldShape) → d.shape ≡ Struct shape → (type_values d).expression ≡ None → choice_of d ≡ Some (of_struct shape)
 struct_chosen d shape is none = λ i. choice_by d (none i) (is i)
 

@@ -61,7 +61,7 @@ abbrev pub places_from : ℕ → List Values → List ℕ
 places_from place [] = []
 places_from place (m ∷ ms) = if m.flag then place ∷ places_from (place + 1) ms else places_from (place + 1) ms
 
--- The one that is found, if one is.
+-- The place that is found, as a list; without one the list is empty.
 abbrev pub found_only : Option ℕ → List ℕ
 found_only None = []
 found_only (Some place) = place ∷ []

@@ -17,11 +17,11 @@ use std::alloc::{AllocError, Global};
 /// The names that a marker declares.
 #[derive(Drop)]
 pub struct MarkerNames {
-    /// Its function.
+    /// The function of the marker.
     pub function: Ident,
-    /// The parameter of that.
+    /// The parameter of the marker's function.
     pub value: Ident,
-    /// The formatter that a method of `Debug` has besides.
+    /// The formatter that the function of a marker of `Debug` has besides.
     pub formatter: Option<Ident>,
 }
 

@@ -45,51 +45,51 @@ the least rank is compared first
 : cmp 0(1, 2) 0(2, 1) = Greater
 
 an empty input
-: refused 1:1: syntax error
+: rejected 1:1: syntax error
 
 a type that is no type of a field
 struct S { a: impl X }
-: refused 1:15: syntax error
+: rejected 1:15: syntax error
 
 no attribute
 struct S { f1: u8 }
-: refused 1:1: you are using `Educe` in the `derive` attribute, but it has not been set up yet
+: rejected 1:1: you are using `Educe` in the `derive` attribute, but it has not been set up yet
 
 a list of no trait
 #[educe()] struct S { a: u8 }
-: refused 1:1: you are using `Educe` in the `derive` attribute, but it has not been set up yet
+: rejected 1:1: you are using `Educe` in the `derive` attribute, but it has not been set up yet
 
 a union
 #[educe(Clone)] union U { a: u8 }
-: refused 1:17: `union` is not supported
+: rejected 1:17: `union` is not supported
 
 a float
 #[educe(Default)] struct S { #[educe(Default = 1.5)] a: u8 }
-: refused 1:48: `1.5` is not supported
+: rejected 1:48: `1.5` is not supported
 
 128 references
 #[educe(Clone)] struct S { a: &&&&&&&&&&&&&&&&&&&&&&&&&&&&&&&&&&&&&&&&&&&&&&&&&&&&&&&&&&&&&&&&&&&&&&&&&&&&&&&&&&&&&&&&&&&&&&&&&&&&&&&&&&&&&&&&&&&&&&&&&&&&&&&&u8 }
-: refused 1:158: nested too deeply
+: rejected 1:158: nested too deeply
 
 two fields of one name
 #[educe(PartialEq)] struct S { a: u8, a: u8 }
-: refused 1:39: the name `a` is defined more than once
+: rejected 1:39: the name `a` is defined more than once
 
 a raw name is the name
 #[educe(Clone)] struct S { a: u8, r#a: u8 }
-: refused 1:35: the name `r#a` is defined more than once
+: rejected 1:35: the name `r#a` is defined more than once
 
 two parameters of one name
 struct S<T, T>;
-: refused 1:13: the name `T` is defined more than once
+: rejected 1:13: the name `T` is defined more than once
 
 one rank twice
 #[educe(Ord)] struct S { #[educe(Ord(rank = 1))] a: u8, #[educe(Ord(rank = 1))] b: u8 }
-: refused 1:69: the rank `1` is repeatedly used
+: rejected 1:69: the rank `1` is repeatedly used
 
 the rank of the first field where none is set
 #[educe(Ord)] struct S { a: u8, #[educe(Ord(rank = -9223372036854775808))] b: u8 }
-: refused 1:45: the rank `-9223372036854775808` is repeatedly used
+: rejected 1:45: the rank `-9223372036854775808` is repeatedly used
 
 nested comments
 a/* x /* y */ */b

@@ -11,7 +11,7 @@
 //! - `: holds TEXT`: it is expanded, to a text that has this in it
 //! - `: items N`: it is expanded, to this many items, each of which is a line of the text
 //! - `: expands`: it is expanded
-//! - `: refused TEXT`: it is rejected with these notes; where several answers begin so, with one of them
+//! - `: rejected TEXT`: it is rejected with these notes; where several answers begin so, with one of them
 //!
 //! **What the functions of its impls evaluate to**, over values `V(N, ..)` of the variant at the place `V`, whose fields
 //! have the numbers `N`:
@@ -120,7 +120,7 @@ fn check_text(example: &Example, text: &str) -> Result<(), Fail> {
 fn check_notes(example: &Example, notes: &str) -> Result<(), Fail> {
     let mut is_one = false;
     for line in example.lines.split(LINE) {
-        is_one |= line.strip_prefix("refused ").ok_or(line)? == notes;
+        is_one |= line.strip_prefix("rejected ").ok_or(line)? == notes;
     }
     check_at((example.name, notes), is_one, true)
 }
@@ -149,7 +149,7 @@ fn topic<'a>(example: &Example<'a>) -> Result<&'a str, Fail> {
 fn check_example(alloc: Global, example: &Example) -> Result<(), Fail> {
     match topic(example)? {
         "writes" | "ends" | "holds" | "items" | "expands" => check_run(alloc, example, false),
-        "refused" => check_run(alloc, example, true),
+        "rejected" => check_run(alloc, example, true),
         "prints" | "tokens" | "integer" | "string" | "cause" => check_tokens(alloc, example),
         _ => check_functions(alloc, example),
     }

@@ -70,47 +70,47 @@ fn enums_are_expanded(rt: HostRuntime) -> Result<(), Fail> {
 static VARIANTS: &str = r#"
 a comparison at a variant
 #[educe(PartialEq)] enum E { A, #[educe(PartialEq(ignore))] B }
-: refused 1:41: the `PartialEq` attribute cannot be placed here
+: rejected 1:41: the `PartialEq` attribute cannot be placed here
 
 a comparison alone at a variant
 #[educe(Ord)] enum E { #[educe(Ord)] A(u8) }
-: refused 1:32: the `Ord` attribute cannot be placed here
+: rejected 1:32: the `Ord` attribute cannot be placed here
 
 a truth value at a variant
 #[educe(PartialEq, PartialOrd)] enum E { #[educe(PartialOrd = false)] A }
-: refused 1:50: the `PartialOrd` attribute cannot be placed here
+: rejected 1:50: the `PartialOrd` attribute cannot be placed here
 
 a trait at a variant that the type does not list
 #[educe(PartialEq)] enum E { #[educe(Hash = false)] A }
-: refused 1:38: the trait `Hash` is not used
+: rejected 1:38: the trait `Hash` is not used
 
 a list of a variant that is no list of metas
 #[educe(PartialEq)] enum E { #[educe(1)] A }
-: refused 1:38: syntax error
+: rejected 1:38: syntax error
 
 one rank twice in a variant
 #[educe(Ord)] enum E { A, B(#[educe(Ord(rank = 1))] u8, #[educe(Ord(rank = 1))] u8) }
-: refused 1:69: the rank `1` is repeatedly used
+: rejected 1:69: the rank `1` is repeatedly used
 
 one rank twice in a variant with names
 #[educe(PartialOrd)] enum E { A { #[educe(PartialOrd(rank = 7))] a: u8, b: u8, #[educe(PartialOrd(rank(0x7)))] c: u8 } }
-: refused 1:99: the rank `7` is repeatedly used
+: rejected 1:99: the rank `7` is repeatedly used
 
 the rank of the first field of a variant where none is set
 #[educe(Ord)] enum E { A(u8), B { a: u8, #[educe(Ord(rank = -9223372036854775808))] b: u8 } }
-: refused 1:54: the rank `-9223372036854775808` is repeatedly used
+: rejected 1:54: the rank `-9223372036854775808` is repeatedly used
 
 a fault at a field of a variant
 #[educe(PartialEq)] enum E { A(u8), B(#[educe(PartialEq(ignore = 1))] u8) }
-: refused 1:66: expected `ignore = false`
+: rejected 1:66: expected `ignore = false`
 
 two variants of one name
 #[educe(PartialEq)] enum E { A, B, r#A(u8) }
-: refused 1:36: the name `r#A` is defined more than once
+: rejected 1:36: the name `r#A` is defined more than once
 
 two fields of one name in a variant
 #[educe(PartialEq)] enum E { A { a: u8 }, B { a: u8, a: u8 } }
-: refused 1:54: the name `a` is defined more than once
+: rejected 1:54: the name `a` is defined more than once
 
 two variants with the same ranks
 #[educe(Ord)] enum E { A(#[educe(Ord(rank = 1))] u8, u8), B(#[educe(Ord(rank = 1))] u8, u8) }

@@ -77,11 +77,11 @@ a packed struct asks nothing more
 
 nothing is said of it at a field
 #[educe(Eq)] struct S { #[educe(Eq)] a: u8 }
-: refused 1:33: the `Eq` attribute cannot be placed here
+: rejected 1:33: the `Eq` attribute cannot be placed here
 
 nor at a variant
 #[educe(Eq)] enum E { #[educe(Eq(bound(*)))] A }
-: refused 1:31: the `Eq` attribute cannot be placed here
+: rejected 1:31: the `Eq` attribute cannot be placed here
 "#;
 
 #[test]

@@ -46,7 +46,7 @@ static NESTED: &str = r#"
 
 128 references in `PartialEq`
 #[educe(PartialEq)] struct S(&&&&&&&&&&&&&&&&&&&&&&&&&&&&&&&&&&&&&&&&&&&&&&&&&&&&&&&&&&&&&&&&&&&&&&&&&&&&&&&&&&&&&&&&&&&&&&&&&&&&&&&&&&&&&&&&&&&&&&&&&&&&&&&&u8);
-: refused 1:157: nested too deeply
+: rejected 1:157: nested too deeply
 
 127 references in `Clone`
 #[educe(Clone)] struct S { a: &&&&&&&&&&&&&&&&&&&&&&&&&&&&&&&&&&&&&&&&&&&&&&&&&&&&&&&&&&&&&&&&&&&&&&&&&&&&&&&&&&&&&&&&&&&&&&&&&&&&&&&&&&&&&&&&&&&&&&&&&&&&&&&u8 }

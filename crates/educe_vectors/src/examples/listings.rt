@@ -7,7 +7,7 @@ use std::test::Fail;
 static LISTINGS: &str = r#"
 a trait that is not supported
 #[educe(Deref)] struct S { a: u8 }
-: refused 1:9: unsupported trait `Deref`, available traits:
+: rejected 1:9: unsupported trait `Deref`, available traits:
     Debug
     Clone
     Copy
@@ -20,53 +20,53 @@ a trait that is not supported
 
 an attribute that is no list
 #[educe] struct S { a: u8 }
-: refused 1:3: you are using an incorrect format of the `educe` attribute, which should be reformatted as follows:
+: rejected 1:3: you are using an incorrect format of the `educe` attribute, which should be reformatted as follows:
     #[educe(Trait1, Trait2, ..., TraitN)]
 
 an attribute with a value
 #[educe = "PartialEq"] struct S { a: u8 }
-: refused 1:3: you are using an incorrect format of the `educe` attribute, which should be reformatted as follows:
+: rejected 1:3: you are using an incorrect format of the `educe` attribute, which should be reformatted as follows:
     #[educe(Trait1, Trait2, ..., TraitN)]
 
 a list that is no list of metas
 #[educe(PartialEq Ord)] struct S { a: u8 }
-: refused 1:19: syntax error
+: rejected 1:19: syntax error
 
 a sum in a list
 #[educe(1 + 1)] struct S { a: u8 }
-: refused 1:9: syntax error
+: rejected 1:9: syntax error
 
 129 prefixes in a list
 #[educe(Default = !!!!!!!!!!!!!!!!!!!!!!!!!!!!!!!!!!!!!!!!!!!!!!!!!!!!!!!!!!!!!!!!!!!!!!!!!!!!!!!!!!!!!!!!!!!!!!!!!!!!!!!!!!!!!!!!!!!!!!!!!!!!!!!!!x)] struct S { a: u8 }
-: refused 1:147: nested too deeply
+: rejected 1:147: nested too deeply
 
 a trait twice in a list
 #[educe(PartialEq, PartialEq)] struct S { a: u8 }
-: refused 1:20: the trait `PartialEq` is used repeatedly
+: rejected 1:20: the trait `PartialEq` is used repeatedly
 
 a trait in two lists
 #[educe(Ord)] #[educe(PartialEq, Ord)] struct S { a: u8 }
-: refused 1:34: the trait `Ord` is used repeatedly
+: rejected 1:34: the trait `Ord` is used repeatedly
 
 an enum that lists no trait
 enum E { A }
-: refused 1:1: you are using `Educe` in the `derive` attribute, but it has not been set up yet
+: rejected 1:1: you are using `Educe` in the `derive` attribute, but it has not been set up yet
 
 the second value's name where no trait is listed
 struct S { r#other: u8 }
-: refused 1:1: you are using `Educe` in the `derive` attribute, but it has not been set up yet
+: rejected 1:1: you are using `Educe` in the `derive` attribute, but it has not been set up yet
 
 no list before attributes that are left unread
 #[derive(PartialEq)] #[repr(packed)] struct S<T> { #[educe(1)] a: T }
-: refused 1:1: you are using `Educe` in the `derive` attribute, but it has not been set up yet
+: rejected 1:1: you are using `Educe` in the `derive` attribute, but it has not been set up yet
 
 a list inside of another attribute
 #[cfg_attr(all(), educe(Ord))] struct S;
-: refused 1:1: you are using `Educe` in the `derive` attribute, but it has not been set up yet
+: rejected 1:1: you are using `Educe` in the `derive` attribute, but it has not been set up yet
 
 a list in documentation
 /** #[educe(Ord)] */ struct S;
-: refused 1:1: you are using `Educe` in the `derive` attribute, but it has not been set up yet
+: rejected 1:1: you are using `Educe` in the `derive` attribute, but it has not been set up yet
 
 a trait with an empty list
 #[educe(PartialEq())] struct S { a: u8 }

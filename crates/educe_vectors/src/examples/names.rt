@@ -92,43 +92,43 @@ fn methods_are_written(rt: HostRuntime) -> Result<(), Fail> {
 static REFUSED: &str = r#"
 a method without a path
 #[educe(PartialEq)] struct S { #[educe(PartialEq(method))] a: u8 }
-: refused 1:50: expected `method = Path` or `method(Path)`
+: rejected 1:50: expected `method = Path` or `method(Path)`
 
 a number in place of a path
 #[educe(PartialEq)] struct S { #[educe(PartialEq(method = 1))] a: u8 }
-: refused 1:59: expected `method = Path`
+: rejected 1:59: expected `method = Path`
 
 a string that is no path
 #[educe(PartialEq)] struct S { #[educe(PartialEq(method = "a b"))] a: u8 }
-: refused 1:59: expected `method = Path`
+: rejected 1:59: expected `method = Path`
 
 a float in place of a path
 #[educe(PartialEq)] struct S { #[educe(PartialEq(method = 1.5))] a: u8 }
-: refused 1:59: `1.5` is not supported
+: rejected 1:59: `1.5` is not supported
 
 a method twice
 #[educe(PartialEq)] struct S { #[educe(PartialEq(method(a), method(b)))] a: u8 }
-: refused 1:61: you are trying to reset the `method` parameter
+: rejected 1:61: you are trying to reset the `method` parameter
 
 a method of a trait that is not listed
 #[educe(PartialEq)] struct S { #[educe(Hash(method = f))] a: u8 }
-: refused 1:40: the trait `Hash` is not used
+: rejected 1:40: the trait `Hash` is not used
 
 a method of the other order, which the type does not list
 #[educe(PartialOrd)] struct S { #[educe(Ord(method(c)))] a: u8 }
-: refused 1:41: the trait `Ord` is not used
+: rejected 1:41: the trait `Ord` is not used
 
 the word of a method as a value
 #[educe(PartialEq)] struct S { #[educe(PartialEq(ignore = method))] a: u8 }
-: refused 1:59: expected `ignore = false`
+: rejected 1:59: expected `ignore = false`
 
 the word of a method in a list that is no list of metas
 #[educe(PartialEq)] struct S { #[educe((method))] a: u8 }
-: refused 1:40: syntax error
+: rejected 1:40: syntax error
 
 the name of the second value as a rank
 #[educe(Ord)] struct S { #[educe(Ord(rank = "other"))] a: u8 }
-: refused 1:45: expected `rank = integer`
+: rejected 1:45: expected `rank = integer`
 "#;
 
 #[test]

@@ -188,72 +188,72 @@ fn orders_inherit_predicates(rt: HostRuntime) -> Result<(), Fail> {
 static REFUSED: &str = r#"
 a bound without a value
 #[educe(PartialEq(bound))] struct S<T>(T);
-: refused 1:19: expected `bound = "where_predicates"`, `bound(where_predicates)`, `bound(*)`, `bound = false`, or `bound(false)`
+: rejected 1:19: expected `bound = "where_predicates"`, `bound(where_predicates)`, `bound(*)`, `bound = false`, or `bound(false)`
 
 a number in place of predicates
 #[educe(PartialEq(bound = 1))] struct S<T>(T);
-: refused 1:27: expected `bound = "where_predicates"` or `bound = false`
+: rejected 1:27: expected `bound = "where_predicates"` or `bound = false`
 
 a number in brackets
 #[educe(PartialEq(bound(1)))] struct S<T>(T);
-: refused 1:25: expected `bound = "where_predicates"` or `bound = false`
+: rejected 1:25: expected `bound = "where_predicates"` or `bound = false`
 
 a name in place of predicates
 #[educe(PartialEq(bound = T))] struct S<T>(T);
-: refused 1:27: expected `bound = "where_predicates"` or `bound = false`
+: rejected 1:27: expected `bound = "where_predicates"` or `bound = false`
 
 a type without a bound
 #[educe(PartialEq(bound(T)))] struct S<T>(T);
-: refused 1:25: expected `bound = "where_predicates"` or `bound = false`
+: rejected 1:25: expected `bound = "where_predicates"` or `bound = false`
 
 a star in a string
 #[educe(PartialEq(bound = "*"))] struct S<T>(T);
-: refused 1:27: expected `bound = "where_predicates"` or `bound = false`
+: rejected 1:27: expected `bound = "where_predicates"` or `bound = false`
 
 a star beside a predicate
 #[educe(PartialEq(bound(*, T: X)))] struct S<T>(T);
-: refused 1:25: expected `bound = "where_predicates"` or `bound = false`
+: rejected 1:25: expected `bound = "where_predicates"` or `bound = false`
 
 a string that holds no predicates
 #[educe(PartialEq(bound("T")))] struct S<T>(T);
-: refused 1:25: expected `bound = "where_predicates"` or `bound = false`
+: rejected 1:25: expected `bound = "where_predicates"` or `bound = false`
 
 a float in a string of predicates
 #[educe(PartialEq(bound = "T: A<1.5>"))] struct S<T>(T);
-: refused 1:27: `1.5` is not supported
+: rejected 1:27: `1.5` is not supported
 
 two bounds
 #[educe(PartialEq(bound(*), bound(*)))] struct S<T>(T);
-: refused 1:29: you are trying to reset the `bound` parameter
+: rejected 1:29: you are trying to reset the `bound` parameter
 
 another parameter beside a bound
 #[educe(PartialEq(bound(*), ignore))] struct S<T>(T);
-: refused 1:9: you are using an incorrect format of the `PartialEq` attribute, which should be reformatted as follows:
+: rejected 1:9: you are using an incorrect format of the `PartialEq` attribute, which should be reformatted as follows:
     #[educe(PartialEq)]
     #[educe(PartialEq(bound(where_predicates)))]
     #[educe(PartialEq(bound = false))]
 
 a raw word
 #[educe(PartialEq(r#bound = false))] struct S<T>(T);
-: refused 1:9: you are using an incorrect format of the `PartialEq` attribute, which should be reformatted as follows:
+: rejected 1:9: you are using an incorrect format of the `PartialEq` attribute, which should be reformatted as follows:
     #[educe(PartialEq)]
     #[educe(PartialEq(bound(where_predicates)))]
     #[educe(PartialEq(bound = false))]
 
 a bound in place of a list
 #[educe(PartialEq = false)] struct S<T>(T);
-: refused 1:9: you are using an incorrect format of the `PartialEq` attribute, which should be reformatted as follows:
+: rejected 1:9: you are using an incorrect format of the `PartialEq` attribute, which should be reformatted as follows:
     #[educe(PartialEq)]
     #[educe(PartialEq(bound(where_predicates)))]
     #[educe(PartialEq(bound = false))]
 
 a bound at a variant
 #[educe(PartialEq)] enum E<T> { #[educe(PartialEq(bound(T: X)))] A(T) }
-: refused 1:41: the `PartialEq` attribute cannot be placed here
+: rejected 1:41: the `PartialEq` attribute cannot be placed here
 
 a bound at a field
 #[educe(Ord)] struct S { #[educe(Ord(bound = false))] a: u8 }
-: refused 1:34: you are using an incorrect format of the `Ord` attribute, which should be reformatted as follows:
+: rejected 1:34: you are using an incorrect format of the `Ord` attribute, which should be reformatted as follows:
     #[educe(Ord = false)]
     #[educe(Ord(ignore))]
     #[educe(Ord(method(path_to_method)))]
@@ -261,19 +261,19 @@ a bound at a field
 
 a bound of a trait that is not listed
 #[educe(PartialEq)] struct S { #[educe(Hash(bound = false))] a: u8 }
-: refused 1:40: the trait `Hash` is not used
+: rejected 1:40: the trait `Hash` is not used
 
 the word of a bound as a value
 #[educe(PartialEq)] struct S { #[educe(PartialEq(ignore = bound))] a: u8 }
-: refused 1:59: expected `ignore = false`
+: rejected 1:59: expected `ignore = false`
 
 the word of a bound in a list that is no list of metas
 #[educe(PartialEq)] struct S { #[educe((bound))] a: u8 }
-: refused 1:40: syntax error
+: rejected 1:40: syntax error
 
 predicates that are no list
 #[educe(PartialEq(bound(T: X U: X)))] struct S<T>(T);
-: refused 1:25: expected `bound = "where_predicates"` or `bound = false`
+: rejected 1:25: expected `bound = "where_predicates"` or `bound = false`
 "#;
 
 #[test]

@@ -306,59 +306,59 @@ fn impls_of_clone_and_copy_are_written(rt: HostRuntime) -> Result<(), Fail> {
 static REFUSALS: &str = r#"
 nothing is said of it at a variant
 #[educe(Clone)] enum E { #[educe(Clone)] A }
-: refused 1:34: the `Clone` attribute cannot be placed here
+: rejected 1:34: the `Clone` attribute cannot be placed here
 
 nor are bounds
 #[educe(Clone)] enum E { #[educe(Clone(bound(T: X)))] A }
-: refused 1:34: the `Clone` attribute cannot be placed here
+: rejected 1:34: the `Clone` attribute cannot be placed here
 
 nothing is said of `Copy` at a variant
 #[educe(Copy)] enum E { #[educe(Copy)] A }
-: refused 1:33: the `Copy` attribute cannot be placed here
+: rejected 1:33: the `Copy` attribute cannot be placed here
 
 nothing is said of `Copy` at a field
 #[educe(Clone, Copy)] struct S { #[educe(Copy)] a: u8 }
-: refused 1:42: the `Copy` attribute cannot be placed here
+: rejected 1:42: the `Copy` attribute cannot be placed here
 
 a list of a field that is no list of metas
 #[educe(Copy)] struct S { #[educe(1)] a: u8 }
-: refused 1:35: syntax error
+: rejected 1:35: syntax error
 
 a trait at a field that the type does not list
 #[educe(Copy)] struct S { #[educe(Hash)] a: u8 }
-: refused 1:35: the trait `Hash` is not used
+: rejected 1:35: the trait `Hash` is not used
 
 a trait twice at a field
 #[educe(Clone)] struct S(#[educe(Clone(method = f), Clone(method = g))] u8);
-: refused 1:53: the trait `Clone` is used repeatedly
+: rejected 1:53: the trait `Clone` is used repeatedly
 
 no field is ignored
 #[educe(Clone)] struct S { #[educe(Clone(ignore))] a: u8 }
-: refused 1:36: you are using an incorrect format of the `Clone` attribute, which should be reformatted as follows:
+: rejected 1:36: you are using an incorrect format of the `Clone` attribute, which should be reformatted as follows:
     #[educe(Clone(method(path_to_method)))]
 
 a method that is missing
 #[educe(Clone)] struct S { #[educe(Clone(method))] a: u8 }
-: refused 1:42: expected `method = Path` or `method(Path)`
+: rejected 1:42: expected `method = Path` or `method(Path)`
 
 what the type says of `Copy` is read for `Clone`
 #[educe(Clone, Copy(method = m))] struct S(u8);
-: refused 1:16: you are using an incorrect format of the `Copy` attribute, which should be reformatted as follows:
+: rejected 1:16: you are using an incorrect format of the `Copy` attribute, which should be reformatted as follows:
     #[educe(Copy)]
     #[educe(Copy(bound(where_predicates)))]
     #[educe(Copy(bound = false))]
 
 the value of its bound too
 #[educe(Clone, Copy(bound = 1))] struct S<T>(T);
-: refused 1:29: expected `bound = "where_predicates"` or `bound = false`
+: rejected 1:29: expected `bound = "where_predicates"` or `bound = false`
 
 `Copy` that is not listed
 #[educe(Clone)] struct S { #[educe(Copy)] a: u8 }
-: refused 1:36: the trait `Copy` is not used
+: rejected 1:36: the trait `Copy` is not used
 
 a rank
 #[educe(Clone)] struct S { #[educe(Clone(rank = 1))] a: u8 }
-: refused 1:36: you are using an incorrect format of the `Clone` attribute, which should be reformatted as follows:
+: rejected 1:36: you are using an incorrect format of the `Clone` attribute, which should be reformatted as follows:
     #[educe(Clone(method(path_to_method)))]
 "#;
 

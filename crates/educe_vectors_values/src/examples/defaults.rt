@@ -164,15 +164,15 @@ containers that are made of nothing ask nothing
 
 no variant is marked
 #[educe(Default)] enum E { A, B }
-: refused 1:9: there is no variant set as default
+: rejected 1:9: there is no variant set as default
 
 an enum without variants has none
 #[educe(Default)] enum E {}
-: refused 1:9: there is no variant set as default
+: rejected 1:9: there is no variant set as default
 
 two variants are marked
 #[educe(Default)] enum E { #[educe(Default)] A, #[educe(Default)] B }
-: refused 1:57: multiple default variants are set
+: rejected 1:57: multiple default variants are set
 
 a packed struct asks nothing more
 #[educe(Default)] #[repr(packed)] struct S<T> { a: T }
@@ -187,50 +187,50 @@ fn impls_of_default_are_written(rt: HostRuntime) -> Result<(), Fail> {
 static REFUSED: &str = r#"
 a variant is marked where the type has an expression
 #[educe(Default(expression = E::A))] enum E { #[educe(Default)] A, B }
-: refused 1:55: the `Default` attribute cannot be placed here
+: rejected 1:55: the `Default` attribute cannot be placed here
 
 a field has a value where the type has an expression
 #[educe(Default(expression = S(1)))] struct S(#[educe(Default = 1)] u8);
-: refused 1:55: the `Default` attribute cannot be placed here
+: rejected 1:55: the `Default` attribute cannot be placed here
 
 a field has a value in a variant that is not the default one
 #[educe(Default)] enum E { #[educe(Default)] A, B(#[educe(Default = 1)] u8) }
-: refused 1:59: the `Default` attribute cannot be placed here
+: rejected 1:59: the `Default` attribute cannot be placed here
 
 the trait alone at a field
 #[educe(Default)] struct S { #[educe(Default)] a: u8 }
-: refused 1:38: you are using an incorrect format of the `Default` attribute, which should be reformatted as follows:
+: rejected 1:38: you are using an incorrect format of the `Default` attribute, which should be reformatted as follows:
     #[educe(Default = expr)]
     #[educe(Default(expression = expr))]
 
 a value behind `=` at a variant
 #[educe(Default)] enum E { #[educe(Default = 1)] A, B }
-: refused 1:36: you are using an incorrect format of the `Default` attribute, which should be reformatted as follows:
+: rejected 1:36: you are using an incorrect format of the `Default` attribute, which should be reformatted as follows:
     #[educe(Default)]
 
 a float
 #[educe(Default)] struct S { #[educe(Default = 1.5)] a: u8 }
-: refused 1:48: `1.5` is not supported
+: rejected 1:48: `1.5` is not supported
 
 an expression twice
 #[educe(Default)] struct S { #[educe(Default(expr = 1, expression = 2))] a: u8 }
-: refused 1:56: you are trying to reset the `expression` parameter
+: rejected 1:56: you are trying to reset the `expression` parameter
 
 a variant is marked twice
 #[educe(Default)] enum E { #[educe(Default, Default)] A, B }
-: refused 1:45: the trait `Default` is used repeatedly
+: rejected 1:45: the trait `Default` is used repeatedly
 
 a field has two values
 #[educe(Default)] struct S(#[educe(Default = 1, Default = 2)] u8);
-: refused 1:49: the trait `Default` is used repeatedly
+: rejected 1:49: the trait `Default` is used repeatedly
 
 a trait at a field that the type does not list
 #[educe(Default)] struct S(#[educe(Default = 1, Hash)] u8);
-: refused 1:49: the trait `Hash` is not used
+: rejected 1:49: the trait `Hash` is not used
 
 what a variant says is read where what the type says can be read
 #[educe(Default(foo))] enum E { #[educe(Default(bar))] A }
-: refused 1:9: you are using an incorrect format of the `Default` attribute, which should be reformatted as follows:
+: rejected 1:9: you are using an incorrect format of the `Default` attribute, which should be reformatted as follows:
     #[educe(Default)]
     #[educe(Default(new))]
     #[educe(Default(expression = expr))]

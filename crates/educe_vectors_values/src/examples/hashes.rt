@@ -154,11 +154,11 @@ a method asks nothing of its field's type
 
 nothing is said of it at a variant
 #[educe(Hash)] enum E { #[educe(Hash)] A }
-: refused 1:33: the `Hash` attribute cannot be placed here
+: rejected 1:33: the `Hash` attribute cannot be placed here
 
 it has no rank
 #[educe(Hash)] struct S { #[educe(Hash(rank = 1))] a: u8 }
-: refused 1:35: you are using an incorrect format of the `Hash` attribute, which should be reformatted as follows:
+: rejected 1:35: you are using an incorrect format of the `Hash` attribute, which should be reformatted as follows:
     #[educe(Hash = false)]
     #[educe(Hash(ignore))]
     #[educe(Hash(method(path_to_method)))]

@@ -237,23 +237,23 @@ fn impls_of_debug_are_written(rt: HostRuntime) -> Result<(), Fail> {
 static REFUSALS: &str = r#"
 a unit struct without a name
 #[educe(Debug(name = false))] struct S;
-: refused 1:38: a unit struct needs to have a name
+: rejected 1:38: a unit struct needs to have a name
 
 a struct that shows neither a name nor a field
 #[educe(Debug(name = false))] struct S(#[educe(Debug(ignore))] u8);
-: refused 1:38: a unit struct needs to have a name
+: rejected 1:38: a unit struct needs to have a name
 
 a unit variant without a name
 #[educe(Debug)] enum E { #[educe(Debug(name = false))] A }
-: refused 1:26: a unit variant which doesn't use an enum name needs to have a name
+: rejected 1:26: a unit variant which doesn't use an enum name needs to have a name
 
 a variant with brackets that shows neither a name nor a field
 #[educe(Debug)] enum E { #[educe(Debug(name = false))] A() }
-: refused 1:56: a unit struct needs to have a name
+: rejected 1:56: a unit struct needs to have a name
 
 an enum without variants needs a name
 #[educe(Debug)] enum E {}
-: refused 1:22: a unit enum needs to have a name
+: rejected 1:22: a unit enum needs to have a name
 "#;
 
 #[test]
@@ -264,7 +264,7 @@ fn names_are_needed(rt: HostRuntime) -> Result<(), Fail> {
 static FORMS: &str = r#"
 a struct whose fields are shown by name
 #[educe(Debug(x))] struct S { a: u8 }
-: refused 1:9: you are using an incorrect format of the `Debug` attribute, which should be reformatted as follows:
+: rejected 1:9: you are using an incorrect format of the `Debug` attribute, which should be reformatted as follows:
     #[educe(Debug)]
     #[educe(Debug = NewName)]
     #[educe(Debug(name(NewName)))]
@@ -275,7 +275,7 @@ a struct whose fields are shown by name
 
 a struct without fields
 #[educe(Debug(x))] struct S;
-: refused 1:9: you are using an incorrect format of the `Debug` attribute, which should be reformatted as follows:
+: rejected 1:9: you are using an incorrect format of the `Debug` attribute, which should be reformatted as follows:
     #[educe(Debug)]
     #[educe(Debug = NewName)]
     #[educe(Debug(name(NewName)))]
@@ -286,7 +286,7 @@ a struct without fields
 
 a struct whose fields are shown as a tuple
 #[educe(Debug(x))] struct S(u8);
-: refused 1:9: you are using an incorrect format of the `Debug` attribute, which should be reformatted as follows:
+: rejected 1:9: you are using an incorrect format of the `Debug` attribute, which should be reformatted as follows:
     #[educe(Debug)]
     #[educe(Debug = NewName)]
     #[educe(Debug(name(NewName)))]
@@ -297,7 +297,7 @@ a struct whose fields are shown as a tuple
 
 an enum
 #[educe(Debug(named_field = true))] enum E { A }
-: refused 1:9: you are using an incorrect format of the `Debug` attribute, which should be reformatted as follows:
+: rejected 1:9: you are using an incorrect format of the `Debug` attribute, which should be reformatted as follows:
     #[educe(Debug)]
     #[educe(Debug = NewName)]
     #[educe(Debug(name(NewName)))]
@@ -307,7 +307,7 @@ an enum
 
 a variant whose fields are shown by name
 #[educe(Debug)] enum E { #[educe(Debug(x))] A { a: u8 } }
-: refused 1:34: you are using an incorrect format of the `Debug` attribute, which should be reformatted as follows:
+: rejected 1:34: you are using an incorrect format of the `Debug` attribute, which should be reformatted as follows:
     #[educe(Debug = NewName)]
     #[educe(Debug(name(NewName)))]
     #[educe(Debug(name = false))]
@@ -315,7 +315,7 @@ a variant whose fields are shown by name
 
 a variant without fields
 #[educe(Debug)] enum E { #[educe(Debug(x))] A }
-: refused 1:34: you are using an incorrect format of the `Debug` attribute, which should be reformatted as follows:
+: rejected 1:34: you are using an incorrect format of the `Debug` attribute, which should be reformatted as follows:
     #[educe(Debug = NewName)]
     #[educe(Debug(name(NewName)))]
     #[educe(Debug(name = false))]
@@ -323,7 +323,7 @@ a variant without fields
 
 a variant with empty brackets
 #[educe(Debug)] enum E { #[educe(Debug(x))] A() }
-: refused 1:34: you are using an incorrect format of the `Debug` attribute, which should be reformatted as follows:
+: rejected 1:34: you are using an incorrect format of the `Debug` attribute, which should be reformatted as follows:
     #[educe(Debug = NewName)]
     #[educe(Debug(name(NewName)))]
     #[educe(Debug(name = false))]
@@ -331,11 +331,11 @@ a variant with empty brackets
 
 a field that is shown without a name
 #[educe(Debug)] struct S(#[educe(Debug = x)] u8);
-: refused 1:42: expected `Debug = false`
+: rejected 1:42: expected `Debug = false`
 
 a field that is shown by name
 #[educe(Debug(named_field = true))] struct S(#[educe(Debug(rank = 1))] u8);
-: refused 1:54: you are using an incorrect format of the `Debug` attribute, which should be reformatted as follows:
+: rejected 1:54: you are using an incorrect format of the `Debug` attribute, which should be reformatted as follows:
     #[educe(Debug = NewName)]
     #[educe(Debug(name(NewName)))]
     #[educe(Debug = false)]
@@ -344,11 +344,11 @@ a field that is shown by name
 
 a trait twice at a field
 #[educe(Debug)] struct S(#[educe(Debug(ignore), Debug(ignore))] u8);
-: refused 1:49: the trait `Debug` is used repeatedly
+: rejected 1:49: the trait `Debug` is used repeatedly
 
 what a field says is read where what the type says can be read
 #[educe(Debug(foo))] struct S { #[educe(Debug(bar))] a: u8 }
-: refused 1:9: you are using an incorrect format of the `Debug` attribute, which should be reformatted as follows:
+: rejected 1:9: you are using an incorrect format of the `Debug` attribute, which should be reformatted as follows:
     #[educe(Debug)]
     #[educe(Debug = NewName)]
     #[educe(Debug(name(NewName)))]
