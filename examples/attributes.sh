@@ -1,42 +1,17 @@
 #!/usr/bin/env bash
-# Compares what the program prints for the definitions of attributes.md with what stands there.
+# Compares the documents with the program and with the sources.
 #
 # Usage: examples/attributes.sh PROGRAM
 #
-# In the code blocks a line behind `$` is a definition. Behind the definitions stands what is printed for each of them; a
-# line that begins with a blank continues the one before.
+# Compared are the blocks of docs/ATTRIBUTES.md and the first example of README.md with what the program prints, the
+# two tables of docs/ATTRIBUTES.md that decide bounds with crates/educe_bound_classes/src/tables.rt, and the linter of
+# README.md with crates/educe_linter/src/lib.rt.
 set -eu
 program=${1:?usage: examples/attributes.sh PROGRAM}
 case $program in
   */*) program=$(cd "$(dirname "$program")" && pwd)/$(basename "$program") ;;
 esac
 cd "$(dirname "$0")"
-
-count=0 failed=0 expected='' definitions=()
-
-# Tries the definitions that were read, and forgets them.
-compare() {
-  for definition in ${definitions[@]+"${definitions[@]}"}; do
-    count=$((count + 1))
-    if [ "$("$program" expand <<< "$definition")" != "$expected" ]; then
-      echo "OTHERWISE: $definition"
-      failed=1
-    fi
-  done
-  expected='' definitions=()
-}
-
-while IFS= read -r line; do
-  case $line in
-    '```'*) compare ;;
-    '$ '*)
-      [ -z "$expected" ] || compare
-      definitions+=("${line#\$ }")
-      ;;
-    ' '*) expected+=" ${line#"${line%%[! ]*}"}" ;;
-    *) expected+=${expected:+$'\n'}$line ;;
-  esac
-done < attributes.md
-echo "$count definitions"
-[ "$count" -gt 0 ] || failed=1
-exit "$failed"
+PYTHONDONTWRITEBYTECODE=1
+export PYTHONDONTWRITEBYTECODE
+python3 attributes.py "$program"

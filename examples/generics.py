@@ -122,6 +122,7 @@ REJECTED = [
     ("a bound for each parameter that is too little", "#[educe(PartialEq(bound(*)))] struct S<T>(HashMap<T, u8>);", "", "", "E0277"),
     ("an order whose bound is too little", "#[educe(PartialEq, PartialOrd(bound(T: A)))] struct S<T>(T);", "trait A {}", "", "E0277"),
     ("a reference to a parameter, under a check", "#[educe(PartialEq, Eq)] struct S<'a, T> { a: &'a T }", "", "", "E0309"),
+    ("a reference to a type with a lifetime, under a check", "#[educe(PartialEq, Eq)] struct S<'a, 'b>(&'a &'b u8);", "", "", "lifetime may not live long enough"),
     ("a reference to a parameter, beside a marker of `Debug`", "#[educe(Debug)] struct S<'a, T> { a: &'a T, #[educe(Debug(method = m))] b: u8 }", "fn m(_: &u8, _: &mut core::fmt::Formatter<'_>) -> core::fmt::Result { Ok(()) }", "", "E0309"),
     ("a tuple with a reference to a parameter, beside a marker of `Clone`", "#[educe(Clone)] struct S<'a, T> { a: (&'a T, u8), #[educe(Clone(method = m))] b: u8 }", "fn m(b: &u8) -> u8 { *b }", "", "E0309"),
     ("a parameter and a reference to it", "#[educe(Debug)] struct S<'a, T> { a: &'a T, b: T }", "", "", "lifetime may not live long enough"),
