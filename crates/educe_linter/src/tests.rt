@@ -6,7 +6,7 @@ use educe_tokens::{Kind, SOURCE_LIMIT, TokenSlice, lex};
 use std::alloc::Global;
 
 /// Whether the definition of the text is documented, or why the text is rejected.
-fn is_documented(alloc: Global, text: &str) -> Result<bool, Kind>
+fn is_text_documented(alloc: Global, text: &str) -> Result<bool, Kind>
     requires { length text.now ≤ SOURCE_LIMIT }
 {
     let tokens = lex(alloc, text).map_err(|error| error.kind)?;
@@ -19,16 +19,19 @@ fn is_documented(alloc: Global, text: &str) -> Result<bool, Kind>
 fn finds_documentation(rt: HostRuntime) {
     let alloc = rt.alloc();
     assert_eq!(rt;
-        is_documented(alloc, "/// A point.\nstruct Point;"),
+        is_text_documented(alloc, "/// A point.\nstruct Point;"),
         Ok(true)
     );
-    assert_eq!(rt; is_documented(alloc, "#[repr(C)] struct Point;"), Ok(false));
+    assert_eq!(rt;
+        is_text_documented(alloc, "#[repr(C)] struct Point;"),
+        Ok(false)
+    );
 }
 
 #[test]
 fn rejects_what_is_no_definition(rt: HostRuntime) {
     assert_eq!(rt;
-        is_documented(rt.alloc(), "struct Point"),
+        is_text_documented(rt.alloc(), "struct Point"),
         Err(Kind::Syntax)
     );
 }

@@ -1,0 +1,2 @@
+-- The words of the linter's contract.
+pub mod Documentation
