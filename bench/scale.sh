@@ -6,7 +6,7 @@
 # Makes inputs of 16, 32, 64 and 128 KiB of each shape, or of those that are named, runs the built program on each, and
 # prints a line for each: the bytes, the least seconds of five runs, with valgrind also the millions of instructions,
 # the ratios to the line before, the peak memory in MB, and the bytes that are written. A ratio of instructions above
-# 2.2, more than a second and more than a gigabyte are marked. Some shapes are texts that are refused, once they have
+# 2.2, more than a second and more than a gigabyte are marked. Some shapes are texts that are rejected, once they have
 # been read as tokens, or as definitions with attributes; for these nothing is written. `NAME_nine` is the shape `NAME`
 # with all nine traits.
 set -eu

@@ -2,7 +2,7 @@
 
 Usage: answers.py PROGRAM FOLDER TABLE..
 
-See answers.sh, which calls it. Prints a line for each definition, and fails where one is refused, is not
+See answers.sh, which calls it. Prints a line for each definition, and fails where one is rejected, is not
 compiled, or is answered otherwise than its rows say.
 """
 
@@ -201,7 +201,7 @@ def tried(program, folder, own):
     definition = own[0].definition
     impls = expanded(program, definition)
     if impls is None:
-        return "refused"
+        return "rejected"
     if compiled(folder, "\n".join([plain(definition), *constants(own), *declared(own), "fn main() {}"]), quietly=True) is None:
         return LEFT_OUT
     run = compiled(folder, program_of(definition, impls, own))

@@ -6,7 +6,7 @@ See answers.sh, which calls it. The fields have a type whose `clone` adds 100 to
 multiplies the number that is there by 1000 and adds that of the source; the methods are those of METHODS. What is
 made, and which functions are called on which numbers, is compared with what `Clone` means. A definition without
 values is compiled alone. Prints a line for each definition, or for those that are named, and fails where one is
-refused, is not compiled, or is answered otherwise.
+rejected, is not compiled, or is answered otherwise.
 """
 
 import itertools
@@ -178,7 +178,7 @@ def tried(program, folder, example):
     _, definition, how = example
     impls = expanded(program, definition)
     if impls is None:
-        return "refused"
+        return "rejected"
     held = [[x for x in fields if x != "phantom"] for fields in how]
     counts = [len(fields) for fields in held]
     values = [(case, own) for case, count in enumerate(counts) for own in numbers(count)]

@@ -24,7 +24,7 @@ failed=0
 for example in *.rs; do
   name=${example%.rs}
   if ! "$program" expand < "$example" > "$folder/impls"; then
-    echo "$name: refused"
+    echo "$name: rejected"
     failed=1
     continue
   fi

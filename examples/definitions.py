@@ -167,7 +167,7 @@ def added(impls):
 
 
 def expanded(program, definition):
-    """What the program prints for a definition; nothing where it refuses it."""
+    """What the program prints for a definition; nothing where it rejects it."""
     run = subprocess.run([program, "expand"], input=definition.encode(), stdout=subprocess.PIPE, check=False)
     return run.stdout.decode() if run.returncode == 0 else None
 

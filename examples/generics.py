@@ -4,7 +4,7 @@ Usage: generics.py PROGRAM FOLDER [NAME..]
 
 See generics.sh, which calls it. A program is a definition without its `educe` attributes, what is printed for it, and
 a use of the impls at one type: its values, which are in ascending order, are compared with each other. Prints a line
-for each definition, or for those that are named, and fails where one is refused, is not compiled, or is answered
+for each definition, or for those that are named, and fails where one is rejected, is not compiled, or is answered
 otherwise. The last definitions are those of docs/DIFFERENCES.md that rustc rejects, with the code or the words of its error.
 """
 
@@ -157,19 +157,19 @@ def tried(program, folder, example):
     _, definition, of, values = example
     impls = expanded(program, definition)
     if impls is None:
-        return "refused"
+        return "rejected"
     run = compiled(folder, program_of(definition, impls, of, values))
     if run is None:
         return "NOT COMPILED"
     return "WRONG" if run() is None else f"answered {len(traits_of(impls))} times {len(values)} times {len(values)}"
 
 
-def refused(program, folder, example):
+def rejected_by_rustc(program, folder, example):
     """What comes of a definition that rustc rejects with what is printed for it, and not by itself."""
     _, definition, declared, value, code = example
     impls = expanded(program, definition)
     if impls is None:
-        return "refused"
+        return "rejected"
     alone = "\n".join([USED, declared, plain(definition)])
     if errors(folder, alone + "\nfn main() {}") is not None:
         return "WRONG: rustc does not take the definition"
@@ -181,7 +181,7 @@ def refused(program, folder, example):
 def main(program, folder, *names):
     """Tries each definition, and answers the exit status."""
     status, count = 0, 0
-    for examples, attempt in ((DEFINITIONS, tried), (REJECTED, refused)):
+    for examples, attempt in ((DEFINITIONS, tried), (REJECTED, rejected_by_rustc)):
         for example in examples:
             if names and example[0] not in names:
                 continue

@@ -5,7 +5,7 @@ Usage: pairs.py PROGRAM FOLDER [NAME..]
 See answers.sh, which calls it. The answers are compared with what the traits mean: values are equal where
 they are of one variant and each compared field is equal; they are ordered by their discriminants, which
 rustc computes for an enum of the same variants without fields, and then by the compared fields. Prints a
-line for each enum, or for those that are named, and fails where one is refused, is not compiled, or is
+line for each enum, or for those that are named, and fails where one is rejected, is not compiled, or is
 answered otherwise.
 """
 
@@ -84,7 +84,7 @@ def tried(program, folder, enum):
     _, definition, variants = enum
     impls = expanded(program, definition)
     if impls is None:
-        return "refused"
+        return "rejected"
     fields = [fields for _, _, fields in cases(definition)]
     values = [(case, own) for case, names in enumerate(fields) for own in numbers(len(names))]
     run = compiled(folder, program_of(definition, impls, values))
