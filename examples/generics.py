@@ -157,7 +157,7 @@ def tried(program, folder, example):
     _, definition, of, values = example
     impls = expanded(program, definition)
     if impls is None:
-        return "rejected"
+        return "NOT EXPANDED"
     run = compiled(folder, program_of(definition, impls, of, values))
     if run is None:
         return "NOT COMPILED"
@@ -169,7 +169,7 @@ def rejected_by_rustc(program, folder, example):
     _, definition, declared, value, code = example
     impls = expanded(program, definition)
     if impls is None:
-        return "rejected"
+        return "NOT EXPANDED"
     alone = "\n".join([USED, declared, plain(definition)])
     if errors(folder, alone + "\nfn main() {}") is not None:
         return "WRONG: rustc does not take the definition"
