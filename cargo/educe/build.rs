@@ -21,5 +21,7 @@ fn found(name: &Path) -> Option<PathBuf> {
         return Some(name.to_owned()).filter(|program| program.is_file());
     }
     let folders = env::var_os("PATH")?;
-    env::split_paths(&folders).map(|folder| folder.join(name)).find(|program| program.is_file())
+    env::split_paths(&folders)
+        .map(|folder| folder.join(name))
+        .find(|program| program.is_file())
 }

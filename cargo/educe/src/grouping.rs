@@ -8,7 +8,9 @@ use proc_macro::{Delimiter, Group, Spacing, TokenTree};
 
 /// Whether the token at an index is a group without delimiters that would come apart in the text.
 pub fn needs_brackets(tokens: &[TokenTree], index: usize) -> bool {
-    let Some(content) = invisible(&tokens[index]).map(tokens_of) else { return false };
+    let Some(content) = invisible(&tokens[index]).map(tokens_of) else {
+        return false;
+    };
     let (before, after) = (&tokens[..index], &tokens[index + 1..]);
     if has_binary_operator(&content) {
         ends_with_operator(before) || starts_with_operator(after) || starts_with_postfix(after)
@@ -55,9 +57,13 @@ fn is_word(token: &TokenTree, words: &[&str]) -> bool {
 
 /// Whether an operator stands in front of an expression. `=`, `:`, `::` and separators are none.
 fn ends_with_operator(before: &[TokenTree]) -> bool {
-    let Some((last, front)) = before.split_last() else { return false };
+    let Some((last, front)) = before.split_last() else {
+        return false;
+    };
     match character(last) {
-        Some('=') => front.last().is_some_and(|token| joint_character(token).is_some()),
+        Some('=') => front
+            .last()
+            .is_some_and(|token| joint_character(token).is_some()),
         Some(',' | ';' | ':') | None => false,
         Some(_) => true,
     }
@@ -65,7 +71,9 @@ fn ends_with_operator(before: &[TokenTree]) -> bool {
 
 /// Whether a binary operator or a cast stands behind an expression.
 fn starts_with_operator(after: &[TokenTree]) -> bool {
-    let Some(first) = after.first() else { return false };
+    let Some(first) = after.first() else {
+        return false;
+    };
     match character(first) {
         Some('=') => joint_character(first).is_some(),
         Some(',' | ';' | ':') => false,
@@ -77,7 +85,10 @@ fn starts_with_operator(after: &[TokenTree]) -> bool {
 /// Whether a call, an index, a field or a `?` stands behind an expression.
 fn starts_with_postfix(after: &[TokenTree]) -> bool {
     match after.first() {
-        Some(TokenTree::Group(group)) => matches!(group.delimiter(), Delimiter::Parenthesis | Delimiter::Bracket),
+        Some(TokenTree::Group(group)) => matches!(
+            group.delimiter(),
+            Delimiter::Parenthesis | Delimiter::Bracket
+        ),
         Some(token) => matches!(character(token), Some('.' | '?')),
         None => false,
     }
@@ -99,7 +110,9 @@ fn is_binary_operator(content: &[TokenTree], index: usize) -> bool {
     let Some(operator) = character(token) else {
         return is_word(token, &["as"]) && open_angles(before) == 0;
     };
-    let next = joint_character(token).and(after.first()).and_then(character);
+    let next = joint_character(token)
+        .and(after.first())
+        .and_then(character);
     ends_operand(before)
         && match operator {
             '+' | '*' | '/' | '%' | '^' | '|' | '&' => true,

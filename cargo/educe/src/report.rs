@@ -15,8 +15,14 @@ impl Place {
     /// The place behind a character that is at this one.
     pub fn after(self, c: char) -> Place {
         match c {
-            '\n' => Place { line: self.line + 1, column: 1 },
-            _ => Place { line: self.line, column: self.column + 1 },
+            '\n' => Place {
+                line: self.line + 1,
+                column: 1,
+            },
+            _ => Place {
+                line: self.line,
+                column: self.column + 1,
+            },
         }
     }
 }
@@ -33,8 +39,14 @@ impl Rejection {
     pub fn parse(text: &str) -> Option<Rejection> {
         let (line, rest) = text.split_once(':')?;
         let (column, message) = rest.split_once(": ")?;
-        let place = Place { line: line.parse().ok()?, column: column.parse().ok()? };
-        Some(Rejection { place, message: message.to_owned() })
+        let place = Place {
+            line: line.parse().ok()?,
+            column: column.parse().ok()?,
+        };
+        Some(Rejection {
+            place,
+            message: message.to_owned(),
+        })
     }
 }
 
@@ -70,13 +82,29 @@ mod tests {
     #[test]
     fn a_message_has_its_place() {
         let found = Rejection::parse("1:28: the name `a` is repeated\nusage: a: b");
-        let place = Place { line: 1, column: 28 };
-        assert_eq!(found, Some(Rejection { place, message: "the name `a` is repeated\nusage: a: b".to_owned() }));
+        let place = Place {
+            line: 1,
+            column: 28,
+        };
+        assert_eq!(
+            found,
+            Some(Rejection {
+                place,
+                message: "the name `a` is repeated\nusage: a: b".to_owned()
+            })
+        );
     }
 
     #[test]
     fn other_texts_have_no_place() {
-        for text in ["", "usage: educe expand", "1:28 syntax error", "1:x: syntax error", "x:1: syntax error", "-1:2: a"] {
+        for text in [
+            "",
+            "usage: educe expand",
+            "1:28 syntax error",
+            "1:x: syntax error",
+            "x:1: syntax error",
+            "-1:2: a",
+        ] {
             assert_eq!(Rejection::parse(text), None, "{text}");
         }
     }

@@ -15,7 +15,11 @@ pub struct Source {
 impl Source {
     /// The definition as one line, unless a literal contains a line break, with one blank between two tokens.
     pub fn new(definition: TokenStream) -> Self {
-        let mut source = Source { text: String::new(), end: Place::START, tokens: Vec::new() };
+        let mut source = Source {
+            text: String::new(),
+            end: Place::START,
+            tokens: Vec::new(),
+        };
         source.push_all(definition);
         source
     }
@@ -27,7 +31,9 @@ impl Source {
     /// The span of the token that is at a place: the last one that begins there or before.
     pub fn span_at(&self, place: Place) -> Span {
         let after = self.tokens.partition_point(|(begin, _)| *begin <= place);
-        after.checked_sub(1).map_or_else(Span::call_site, |last| self.tokens[last].1)
+        after
+            .checked_sub(1)
+            .map_or_else(Span::call_site, |last| self.tokens[last].1)
     }
 
     fn push_all(&mut self, tokens: TokenStream) {
