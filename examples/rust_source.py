@@ -1,18 +1,30 @@
-"""The tokens of Rust source text, and its structs, enums and unions."""
+"""The attributes of Rust source text, and its structs, enums and unions."""
 import re
 from typing import NamedTuple
 
-TOKEN = re.compile(r"""
-    (?P<blank>\s+)
-  | (?P<line>//[^\n]*)
+STRING = r"""[bc]?"(?:[^"\\]|\\.)*" """.strip()
+RAW = r"""[bc]?r(?P<marks>\#*)" """.strip()
+CHARACTER = r"""b?'(?:[^'\\\n]|\\(?:u\{[^}]*\}|x..|.))'"""
+
+TOKEN = re.compile(rf"""
+    (?P<blank>\s+|//[^\n]*)
   | (?P<block>/\*)
-  | (?P<raw>[bc]?r(?P<marks>\#*)")
-  | (?P<string>[bc]?"(?:[^"\\]|\\.)*")
-  | (?P<char>b?'(?:[^'\\\n]|\\(?:u\{[^}]*\}|x..|.))')
-  | (?P<lifetime>'(?:r\#)?\w+)
-  | (?P<word>(?:r\#)?[^\W\d]\w*)
-  | (?P<number>\d\w*)
+  | (?P<raw>{RAW})
+  | (?P<literal>{STRING}|{CHARACTER}|\d\w*)
+  | (?P<word>'?(?:r\#)?[^\W\d]\w*)
   | (?P<mark>.)
+""", re.X | re.S)
+
+# What decides where attributes stand: comments and literals, in which there are none, and their first characters. Each
+# alternative begins with a character of its own, so that a search passes over all others quickly.
+LANDMARK = re.compile(r"""
+    /(?P<blank>/[^\n]*)
+  | /(?P<block>\*)
+  | r(?P<raw>(?:(?<!\wr)|(?<=\b[bc]r))(?P<marks>\#*)")
+  | "(?P<text>(?:[^"\\]|\\.)*")
+  | '(?P<character>(?:[^'\\\n]|\\(?:u\{[^}]*\}|x..|.))')
+  | \#(?P<attribute>\s*\[)
+  | m(?P<macro>(?<!\wm)acro_rules\s*!\s*\w+\s*(?=[(\[{]))
 """, re.X | re.S)
 
 CLOSING = {"(": ")", "[": "]", "{": "}"}
@@ -32,7 +44,7 @@ class Attribute(NamedTuple):
     end: int
 
 class Definition(NamedTuple):
-    """A struct, an enum or a union with attributes, and where it stands; each attribute in it, of variants and fields too."""
+    """A struct, an enum or a union with attributes, and where it stands; and the attributes of its variants and fields."""
     keyword: str
     name: str
     start: int
@@ -40,136 +52,145 @@ class Definition(NamedTuple):
     attributes: list
     inner: list
 
-def end_of_comment(text, start):
-    """Where the block comment that begins here ends; block comments nest."""
-    depth = 0
-    for mark in re.compile(r"/\*|\*/").finditer(text, start):
-        depth += 1 if mark.group() == "/*" else -1
-        if depth == 0:
-            return mark.end()
-    return len(text)
+def end_of(piece):
+    """Where a piece of the text ends: block comments nest, and raw strings end with as many marks as they began."""
+    text, end = piece.string, piece.end()
+    if piece.lastgroup == "block":
+        depth = 0
+        for mark in re.compile(r"/\*|\*/").finditer(text, piece.start()):
+            depth += 1 if mark.group() == "/*" else -1
+            if depth == 0:
+                return mark.end()
+        return len(text)
+    if piece.group("raw") is not None:
+        close = text.find('"' + piece.group("marks"), end)
+        return len(text) if close < 0 else close + 1 + len(piece.group("marks"))
+    return end
 
-def end_of_raw(text, start, marks):
-    """Where the raw string with so many marks ends, whose content begins here."""
-    end = text.find('"' + marks, start)
-    return len(text) if end < 0 else end + 1 + len(marks)
+END = Token("end", "", 0, 0)
 
-def tokens_of(text):
-    """The tokens of a text, without blanks and comments."""
-    found, place = [], 0
-    while place < len(text):
-        piece = TOKEN.match(text, place)
-        kind, end = piece.lastgroup, piece.end()
-        if piece.group("raw") is not None:
-            kind, end = "string", end_of_raw(text, end, piece.group("marks"))
-        elif kind == "block":
-            end = end_of_comment(text, place)
-        if kind not in ("blank", "line", "block"):
-            found.append(Token(kind, text[place:end], place, end))
-        place = end
-    return found
+class Reader:
+    """The tokens of a text from a place on, read as far as they are asked for."""
 
-def closings(tokens):
-    """For the index of each opening bracket that is closed, that of the closing one."""
-    found, open_ones = {}, []
-    for index, token in enumerate(tokens):
-        if token.kind != "mark":
-            continue
-        if token.text in CLOSING:
-            open_ones.append(index)
-        elif open_ones and token.text == CLOSING[tokens[open_ones[-1]].text]:
-            found[open_ones.pop()] = index
-    return found
-
-class Source:
-    """A text with its tokens."""
-
-    def __init__(self, text):
+    def __init__(self, text, start):
         self.text = text
-        self.tokens = tokens_of(text)
-        self.closings = closings(self.tokens)
+        self.place = start
+        self.tokens = []
 
-    def word(self, index):
-        """The text of the token at an index, or nothing behind the last one."""
-        return self.tokens[index].text if index < len(self.tokens) else ""
+    def token(self, index):
+        """The token at an index."""
+        while len(self.tokens) <= index and self.place < len(self.text):
+            piece = TOKEN.match(self.text, self.place)
+            kind, end = piece.lastgroup, end_of(piece)
+            if kind not in ("blank", "block"):
+                self.tokens.append(Token(kind, self.text[self.place:end], self.place, end))
+            self.place = end
+        return self.tokens[index] if index < len(self.tokens) else END
 
-    def attribute_at(self, index):
+    def mark(self, index):
+        """The text of a token, which is no literal."""
+        token = self.token(index)
+        return "" if token.kind in ("literal", "raw") else token.text
+
+    def behind_group(self, index):
+        """The index behind the group that begins at an index; nothing if it is not closed."""
+        expected = []
+        while True:
+            mark = self.mark(index)
+            if mark in CLOSING:
+                expected.append(CLOSING[mark])
+            elif mark in CLOSING.values() and expected.pop() != mark or self.token(index) is END:
+                return None
+            index += 1
+            if not expected:
+                return index
+
+    def attribute(self, index):
         """The attribute that begins at an index, and the index behind it."""
-        if self.word(index) != "#" or self.word(index + 1) != "[" or index + 1 not in self.closings:
+        behind = self.behind_group(index + 1) if (self.mark(index), self.mark(index + 1)) == ("#", "[") else None
+        if behind is None:
             return None
-        close = self.closings[index + 1]
-        path_end = next((i for i in range(index + 2, close) if self.word(i) in ("(", "=", "[", "{")), close)
-        path = "".join(token.text for token in self.tokens[index + 2:path_end])
+        path_end = next((i for i in range(index + 2, behind) if self.mark(i) in ("(", "=", "{", "]")), behind - 1)
+        path = "".join(self.mark(i) for i in range(index + 2, path_end))
         content = ""
-        if self.word(path_end) == "(" and path_end in self.closings:
-            content = self.text[self.tokens[path_end].end:self.tokens[self.closings[path_end]].start]
-        return Attribute(path, content, self.tokens[index].start, self.tokens[close].end), close + 1
+        if self.mark(path_end) == "(":
+            content = self.text[self.token(path_end).end:self.token(self.behind_group(path_end) - 1).start]
+        return Attribute(path, content, self.token(index).start, self.token(behind - 1).end), behind
 
-    def attributes(self, begin, end):
-        """All attributes between two indices."""
-        found = (self.attribute_at(index) for index in range(begin, end))
-        return [attribute[0] for attribute in found if attribute]
+    def attributes(self, index):
+        """The attributes that stand together from an index on, and the index behind them."""
+        found = []
+        while attribute := self.attribute(index):
+            found.append(attribute[0])
+            index = attribute[1]
+        return found, index
 
-    def end_of_item(self, index):
-        """The index behind the definition whose name stands in front of an index."""
+    def behind_definition(self, index):
+        """The index behind the definition whose generics or body begins at an index."""
         angles = 0
-        while index < len(self.tokens):
-            mark = self.word(index)
-            if mark in CLOSING and index in self.closings:
-                if mark == "{" and angles <= 0:
-                    return self.closings[index] + 1
-                index = self.closings[index]
-            elif mark == "<":
-                angles += 1
-            elif mark == ">" and self.word(index - 1) not in ("-", "="):
-                angles -= 1
-            elif mark == ";" and angles <= 0:
+        while self.token(index) is not END:
+            mark = self.mark(index)
+            if mark in CLOSING:
+                behind = self.behind_group(index)
+                if behind is None or mark == "{" and angles <= 0:
+                    return behind
+                index = behind
+                continue
+            if mark == ";" and angles <= 0:
                 return index + 1
+            angles += (mark == "<") - (mark == ">" and self.mark(index - 1) not in ("-", "="))
             index += 1
         return None
 
-    def definition_at(self, index):
-        """The definition whose attributes begin at an index, and the index behind it."""
-        begin, found = index, []
-        while attribute := self.attribute_at(index):
-            found.append(attribute[0])
-            index = attribute[1]
-        inner_begin = index
-        if self.word(index) == "pub":
-            index += 1
-            if self.word(index) == "(" and index in self.closings:
-                index = self.closings[index] + 1
-        if not found or self.word(index) not in ("struct", "enum", "union") or index + 1 >= len(self.tokens):
+    def definition(self):
+        """The definition whose attributes stand in front."""
+        found, head = self.attributes(0)
+        index = head + (self.mark(head) == "pub")
+        if index > head and self.mark(index) == "(":
+            index = self.behind_group(index) or index
+        keyword, name = self.mark(index), self.token(index + 1)
+        if not found or keyword not in ("struct", "enum", "union") or name.kind != "word":
             return None
-        end = self.end_of_item(index + 2)
-        if self.tokens[index + 1].kind != "word" or end is None:
+        behind = self.behind_definition(index + 2)
+        if behind is None:
             return None
-        start, stop = self.tokens[begin].start, self.tokens[end - 1].end
-        inner = self.attributes(inner_begin, end)
-        return Definition(self.word(index), self.word(index + 1), start, stop, found, inner), end
+        inner = [attribute[0] for attribute in map(self.attribute, range(head, behind)) if attribute]
+        return Definition(keyword, name.text, found[0].start, self.token(behind - 1).end, found, inner)
 
-    def definitions(self):
-        """All structs, enums and unions that have attributes, in the order of the text."""
-        index = 0
-        while index < len(self.tokens):
-            found = self.definition_at(index)
-            if found:
-                yield found[0]
-                index = found[1]
+def landmarks(text):
+    """The attributes' beginnings and the declarations of macros, in order."""
+    place = 0
+    while piece := LANDMARK.search(text, place):
+        if piece.lastgroup in ("attribute", "macro"):
+            yield piece
+        place = end_of(piece)
+
+def attributes_of(text):
+    """All attributes of a text, in order."""
+    found = (Reader(text, piece.start()).attribute(0) for piece in landmarks(text) if piece.lastgroup == "attribute")
+    return [attribute[0] for attribute in found if attribute]
+
+def definitions_in(text):
+    """All structs, enums and unions that have attributes, in order."""
+    behind = 0
+    for piece in landmarks(text):
+        if piece.lastgroup == "attribute" and piece.start() >= behind:
+            reader = Reader(text, piece.start())
+            definition = reader.definition()
+            if definition:
+                yield definition
+                behind = definition.end
             else:
-                index = max(index + 1, self.behind_attributes(index))
+                behind = max([attribute.end for attribute in reader.attributes(0)[0]], default=behind)
 
-    def behind_attributes(self, index):
-        """The index behind the attributes that begin at an index."""
-        while attribute := self.attribute_at(index):
-            index = attribute[1]
-        return index
-
-    def macro_bodies(self):
-        """Where the bodies of `macro_rules!` stand."""
-        for index in range(len(self.tokens) - 3):
-            if self.word(index) == "macro_rules" and self.word(index + 1) == "!" and index + 3 in self.closings:
-                yield self.tokens[index + 3].start, self.tokens[self.closings[index + 3]].end
+def macro_bodies(text):
+    """Where the bodies of `macro_rules!` stand."""
+    for piece in landmarks(text):
+        if piece.lastgroup == "macro":
+            reader = Reader(text, piece.end())
+            behind = reader.behind_group(0)
+            if behind:
+                yield piece.end(), reader.token(behind - 1).end
 
 def place_of(text, offset):
     """The line and the column of an offset, counted from 1."""

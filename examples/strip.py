@@ -9,7 +9,7 @@ import re
 import subprocess
 import sys
 
-from rust_source import Source, place_of, replaced
+from rust_source import attributes_of, definitions_in, place_of, replaced
 
 def joined(places):
     """Places in order; those that overlap or touch are one."""
@@ -33,9 +33,7 @@ def removals(text, attributes):
 
 def stripped(text):
     """The text without its `educe` attributes."""
-    source = Source(text)
-    attributes = source.attributes(0, len(source.tokens))
-    return replaced(text, [(start, end, "") for start, end in removals(text, attributes)])
+    return replaced(text, [(start, end, "") for start, end in removals(text, attributes_of(text))])
 
 def impls_of(definition, program):
     """What the program prints for a definition, or its message."""
@@ -57,7 +55,7 @@ def located(message, text, start):
 def expanded(text, program):
     """The text without its `educe` attributes and with the impls; and the messages."""
     changes, messages = [], []
-    for item in Source(text).definitions():
+    for item in definitions_in(text):
         if not any(attribute.path == "educe" for attribute in item.attributes):
             continue
         items, message = impls_of(text[item.start:item.end], program)
