@@ -38,7 +38,7 @@
 //!
 //! # Traits
 //!
-//! The attributes shown here are the most common ones. The table of all attributes is in the `README.md` of the program.
+//! The attributes shown here are the most common ones. All attributes, with examples, are in `docs/ATTRIBUTES.md` of the program.
 //!
 //! ## `Debug`
 //!
