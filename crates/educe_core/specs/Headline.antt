@@ -21,6 +21,7 @@ use Rattle.educe_laws.specs.Blocks.{OneEach, EachEvaluates, HasTightBounds}
 use Rattle.educe_laws.specs.Handled.{IsListedCause}
 use Rattle.educe_laws.specs.Listed.{listed, IsListingCause}
 use Rattle.educe_laws.specs.Said.{AreAllSaid}
+use Rattle.educe_laws_coherence.specs.Coherence.{IsCoherent}
 
 -- The definition that a text is: its tokens are a reading of the text, with brackets that match, not too deep; they are the
 -- definition by the grammar, within the limits; and its names are distinct.
@@ -64,8 +65,8 @@ IsAlone source e = (other : EduceError) → other.kind ≢ Alloc → IsCause sou
 -- A source is expanded to these items, written as these bytes: the bytes are the spelling of the items, which lexes to their
 -- tokens; no cause of a listed trait stands, and the settings of the type, of its variants and of its fields are what their
 -- attributes say; the items hold one block for each listed trait of the definition, and nothing else; over each table, and the
--- values that it covers, their functions evaluate to what the traits mean; and where the bound of a trait is the automatic one, its
--- own predicates suffice, and none of them can be dropped.
+-- values that it covers, their functions evaluate to what the traits mean; where the bound of a trait is the automatic one, its own
+-- predicates suffice, and none of them can be dropped; and the derived comparisons and `Hash` are coherent.
 pub record IsExpansion (source : List ℕ) (items : List Item) (written : List ℕ) : Type 0 where
   pub definition : DeriveInput
   pub defines : Defines (chars source) definition
@@ -75,5 +76,6 @@ pub record IsExpansion (source : List ℕ) (items : List Item) (written : List �
   pub one_each : OneEach definition items
   pub evaluates : AllByRecursion (EachEvaluates definition) items
   pub bounded : AllByRecursion (HasTightBounds definition) items
+  pub coherent : IsCoherent definition items
   pub bytes : written ≡ encode_utf8_all (spelling items)
   pub lexes : LexesAside (spelling items) (tokens_of items)

@@ -3,6 +3,7 @@ pub mod Composed
 pub mod Expansion
 pub mod Run
 pub mod Laws
+pub mod Coherence
 -- What clauses say of the handlers and of their items.
 pub use Rattle.educe_laws.specs.Comparisons
 pub use Rattle.educe_laws.specs.Rows

@@ -11,6 +11,7 @@ ghost use Rattle.educe_laws.specs.Blocks.{OneEach, EachEvaluates, HasTightBounds
 ghost use Rattle.educe_laws.specs.Handled.{IsListedCause};
 ghost use Rattle.educe_laws.specs.Listed as listing;
 ghost use Rattle.educe_laws.specs.Said.{AreAllSaid};
+ghost use Rattle.educe_laws_coherence.specs.Coherence.{IsCoherent};
 
 use crate::composition::blocks;
 use educe_attrs::{Stop, error_of, type_listing};
@@ -48,6 +49,7 @@ fn items_of(alloc: Global, ast: &DeriveInput) -> Result<Items, Stop>
     ensures said { IfOk result (λ _. AreAllSaid ast.now) }
     ensures evaluates { IfOk result (AllByRecursion (EachEvaluates ast.now)) }
     ensures bounded { IfOk result (AllByRecursion (HasTightBounds ast.now)) }
+    ensures coherent { IfOk result (IsCoherent ast.now) }
     ensures lists { IfOk result (λ _. IsListing ast.now.attrs (listing.listed ast.now)) }
     ensures listing { IfOk result (λ _. NoCause (listing.IsListingCause ast.now)) }
     ensures uncaused { IfOk result (λ _. NoCause (IsListedCause ast.now)) }
@@ -68,6 +70,7 @@ pub fn derive_input_handler(alloc: Global, ast: &DeriveInput) -> Result<Items, E
     ensures said { IfOk result (λ _. AreAllSaid ast.now) }
     ensures evaluates { IfOk result (AllByRecursion (EachEvaluates ast.now)) }
     ensures bounded { IfOk result (AllByRecursion (HasTightBounds ast.now)) }
+    ensures coherent { IfOk result (IsCoherent ast.now) }
     ensures lists { IfOk result (λ _. IsListing ast.now.attrs (listing.listed ast.now)) }
     // No cause stands in any phase.
     ensures listing { IfOk result (λ _. NoCause (listing.IsListingCause ast.now)) }

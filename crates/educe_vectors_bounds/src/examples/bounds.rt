@@ -85,6 +85,37 @@ fn modes_decide_what_is_added(rt: HostRuntime) -> Result<(), Fail> {
     check_table(rt.alloc(), MODES)
 }
 
+static TRAITS: &str = r#"
+an automatic bound of `Debug`
+#[educe(Debug)] struct S<T, U>(Vec<T>, PhantomData<U>);
+: holds impl < T , U > :: core :: fmt :: Debug for S < T , U > where T : :: core :: fmt :: Debug { fn fmt
+
+an automatic bound of `Clone`
+#[educe(Clone)] struct S<T, U>(Vec<T>, PhantomData<U>);
+: holds impl < T , U > :: core :: clone :: Clone for S < T , U > where T : :: core :: clone :: Clone { fn clone
+
+an automatic bound of `Copy`, and what it inherits of `Clone`
+#[educe(Clone(bound(T: X)), Copy)] struct S<T, U>(T, PhantomData<U>);
+: holds impl < T , U > :: core :: marker :: Copy for S < T , U > where T : :: core :: marker :: Copy , T : X { }
+
+an automatic bound of `Eq`, and what it inherits of `PartialEq`
+#[educe(PartialEq(bound(T: X)), Eq)] struct S<T, U>(Vec<T>, PhantomData<U>);
+: holds impl < T , U > :: core :: cmp :: Eq for S < T , U > where T : :: core :: cmp :: Eq , T : X { }
+
+an automatic bound of `Hash`
+#[educe(Hash)] struct S<T, U>(Vec<T>, PhantomData<U>);
+: holds impl < T , U > :: core :: hash :: Hash for S < T , U > where T : :: core :: hash :: Hash { fn hash
+
+an automatic bound of `Default`
+#[educe(Default)] struct S<T, U>(T, Vec<U>);
+: holds impl < T , U > :: core :: default :: Default for S < T , U > where T : :: core :: default :: Default { fn default
+"#;
+
+#[test]
+fn each_trait_asks_for_itself(rt: HostRuntime) -> Result<(), Fail> {
+    check_table(rt.alloc(), TRAITS)
+}
+
 static INHERITED: &str = r#"
 both orders inherit
 #[educe(PartialEq, PartialOrd, Ord)] struct S<T>(T);

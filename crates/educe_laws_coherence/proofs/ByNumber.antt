@@ -1,0 +1,178 @@
+-- A table that answers by number is lawful.
+use Rattle.std.proofs.Common.{◌≡◌, ℕ, zero, suc, ℤ, Bool, true, false, not, List, [], ◌∷◌, Option, Some, None, slice_get, int_cmp, Ordering, Less, Equal, Greater, refl, sym, ap, ◌∙◌, subst, rules}
+use Rattle.std.specs.Prelude.{◌==◌, ◌↔◌, if◌then◌else◌}
+use Rattle.std.specs.Ordering.{int_eq}
+use Rattle.std.specs.Cmp.{Equal-is}
+use Rattle.std.proofs.lemmas.Bool.Decides.{Decides-int_eq}
+use Rattle.std.proofs.lemmas.Map.Lookups.{exact_signed}
+use Rattle.std.proofs.lemmas.Option.{same_Some}
+use Rattle.educe_syntax.specs.DeriveInput.{DeriveInput}
+use Rattle.educe_syntax.specs.Few.{all_fields}
+use Rattle.educe_syntax.specs.Field.{Field}
+use Rattle.educe_bound_traits.specs.declared.traits.Trait.{Trait}
+use Rattle.educe_bound_traits.specs.declared.traits.Trait.TheVariants as trait
+use Rattle.educe_body_forms.specs.declared.comparison.Comparison.{Comparison}
+use Rattle.educe_body_forms.specs.declared.comparison.Comparison.TheVariants.{PartialEq, PartialOrd, Ord}
+use Rattle.educe_body_forms.specs.declared.form.Known.{Known}
+use Rattle.educe_body_forms.specs.declared.form.Known.TheVariants as known
+use Rattle.educe_body_values.specs.declared.answers.Answer.{Answer}
+use Rattle.educe_body_values.specs.declared.answers.Answers.{Answers}
+use Rattle.educe_body_values.specs.declared.callee.BuiltIn.TheVariants as built_in
+use Rattle.educe_body_values.specs.declared.callee.Callee.{Callee}
+use Rattle.educe_body_values.specs.declared.value.FieldValue.{FieldValue}
+use Rattle.educe_body_values.specs.declared.value.Value.{Value}
+use Rattle.educe_body_values.specs.Answering.{answer_of, first_row, by_number_answer, compared_numbers, hashed_number, or_else}
+use Rattle.educe_body_values.specs.Callees.{as_callee}
+use Rattle.educe_body_values.specs.Types.{first_place, type_spellings}
+use Rattle.educe_laws.specs.Cases.{cases_of}
+use Rattle.educe_laws.specs.Comparing.{HaveTypes, HasShape, comparison, asked, said, as_answer}
+use Rattle.educe_laws.specs.Comparisons.{trait_of}
+use Rattle.educe_laws.specs.Hashing.{part_said}
+use Rattle.educe_laws.specs.Settings.{How, plainly, kept_at}
+use Rattle.educe_laws_coherence.specs.Lawful.{says_at, feeds_at, as_truth, as_order, as_partial_order, as_part, TakesPart, IsFoundAt, AreEquivalences}
+use Rattle.educe_laws_coherence.specs.Lawful.{AreTotalOrders, ArePartialOrders, AreEqualWhereTrue, AreSomeOf, FeedAlike, IsLawful, IsPartiallyLawful, HasNoMethods, IsByNumber, HaveShape}
+use Rattle.educe_laws_coherence.proofs.Chains.{IsOrdered, ordered_by, equivalence_by, partial_by, total_by}
+use Rattle.educe_laws_coherence.proofs.Deciding.{order_in, order_said}
+use Rattle.educe_laws_coherence.proofs.Numbers.{number_chain, number_turned, number_same}
+
+same_type : (m n : ℕ) → m ≡ n → (m == n) ≡ true
+same_type m n h = search rules
+
+-- Numbers that are answered equal are the same.
+equal_numbers : (m n : ℤ) → int_eq m n ≡ true → m ≡ n
+equal_numbers m n is = (Decides-int_eq m n).0 is
+
+numbers_equal : (m n : ℤ) → m ≡ n → int_eq m n ≡ true
+numbers_equal m n is = (Decides-int_eq m n).1 is
+
+not_not : (b : Bool) → not (not b) ≡ b
+not_not true = refl
+not_not false = refl
+
+-- The truth that is said.
+abbrev truth_in : Option Known → Bool
+truth_in (Some (known.Truth b)) = b
+truth_in said = true
+
+-- The type of a field value is that of its field.
+type_at : (all fs : List Field) (xs : List FieldValue) (k : ℕ) (f : Field) (x : FieldValue) → HaveTypes all fs xs → slice_get fs k ≡ Some f → slice_get xs k ≡ Some x
+    → x.ty ≡ first_place all (type_spellings f)
+type_at all [] xs k f x types at there = absurd (cc)
+type_at all (g ∷ fs) [] k f x types at there = absurd types
+type_at all (g ∷ fs) (y ∷ ys) zero f x types at there =
+    ap (λ (z : FieldValue). z.ty) (sym (same_Some y x there)) ∙ (types.0 ∙ ap (λ (h : Field). first_place all (type_spellings h)) (same_Some g f at))
+type_at all (g ∷ fs) (y ∷ ys) (suc k) f x types at there = type_at all fs ys k f x types.1 at there
+
+module _ (table : Answers) (d : DeriveInput) (values : List Value) (numbers : IsByNumber table) (shapes : HaveShape d values) where
+  answered : (callee : Callee) (x y : Option FieldValue) → answer_of table callee x y ≡ by_number_answer callee x y
+  answered callee x y = λ i. or_else (first_row (numbers.no_rows i) callee x y) (if numbers.by_number i then by_number_answer callee x y else None)
+
+  module _ (v place : ℕ) (fs : List Field) (f : Field) (exists : slice_get (cases_of d) v ≡ Some fs) (at : slice_get fs place ≡ Some f) where
+    abbrev In : FieldValue → Type 0
+    In = IsFoundAt values v place
+
+    found_type : (x : FieldValue) → In x → x.ty ≡ first_place (all_fields d) (type_spellings f)
+    found_type x found =
+        let shape = shapes found.value found.among in
+        let same : shape.fields ≡ fs = same_Some shape.fields fs (sym shape.exists ∙ (ap (slice_get (cases_of d)) found.variant_is ∙ exists)) in
+        type_at (all_fields d) fs found.value.fields place f x (subst (λ (gs : List Field). HaveTypes (all_fields d) gs found.value.fields) same shape.types) at found.at
+
+    says_plain : (which : Comparison) → HasNoMethods d (trait_of which) → TakesPart (trait_of which) d f → (x y : FieldValue) → In x → In y
+        → says_at which table d place f x y ≡ said which plainly (compared_numbers (as_callee (comparison which)) x y)
+    says_plain which none taken x y in_x in_y =
+        ap (λ (how : How). said which how (answer_of table (asked (comparison which) how) (Some x) (Some y))) (none v place fs f exists at taken)
+        ∙ ap (said which plainly)
+        (answered (as_callee (comparison which)) (Some x) (Some y)
+        ∙ ap (λ (b : Bool). if b then compared_numbers (as_callee (comparison which)) x y else None) (same_type x.ty y.ty (found_type x in_x ∙ sym (found_type y in_y))))
+
+    eq_says : HasNoMethods d trait.PartialEq → TakesPart trait.PartialEq d f → (x y : FieldValue) → In x → In y → says_at PartialEq table d place f x y ≡ as_truth (int_eq x.number y.number)
+    eq_says none taken x y in_x in_y = says_plain PartialEq none taken x y in_x in_y ∙ ap (λ (b : Bool). as_truth b) (not_not (int_eq x.number y.number))
+
+    ord_says : HasNoMethods d trait.Ord → TakesPart trait.Ord d f → (x y : FieldValue) → In x → In y → says_at Ord table d place f x y ≡ as_order (int_cmp x.number y.number)
+    ord_says none taken x y in_x in_y = says_plain Ord none taken x y in_x in_y
+
+    partial_says : HasNoMethods d trait.PartialOrd → TakesPart trait.PartialOrd d f → (x y : FieldValue) → In x → In y → says_at PartialOrd table d place f x y ≡ as_partial_order (Some (int_cmp x.number y.number))
+    partial_says none taken x y in_x in_y = says_plain PartialOrd none taken x y in_x in_y
+
+    hash_feeds : HasNoMethods d trait.Hash → TakesPart trait.Hash d f → (x : FieldValue) → feeds_at table d place f x ≡ as_part x.number
+    hash_feeds none taken x =
+        ap (λ (how : How). part_said (answer_of table (asked built_in.Hash how) (Some x) None)) (none v place fs f exists at taken)
+        ∙ ap part_said (answered (as_callee built_in.Hash) (Some x) None)
+
+  pub equality_by_number : HasNoMethods d trait.PartialEq → AreEquivalences table d values
+  equality_by_number none v place fs f exists at taken =
+      equivalence_by (IsFoundAt values v place) (says_at PartialEq table d place f) as_truth (λ b c alike. ap truth_in alike) (λ x y. int_eq x.number y.number) (eq_says v place fs f exists at none taken)
+      (λ x in_x. numbers_equal x.number x.number refl)
+      (λ x y in_x in_y is. numbers_equal y.number x.number (sym (equal_numbers x.number y.number is)))
+      (λ x y z in_x in_y in_z first second. numbers_equal x.number z.number (equal_numbers x.number y.number first ∙ equal_numbers y.number z.number second))
+
+  -- The orders of numbers are reversed when they are exchanged, and Less or Equal is transitive.
+  numbers_ordered : (v place : ℕ) → IsOrdered (IsFoundAt values v place) (λ x y. Some (int_cmp x.number y.number))
+  numbers_ordered v place =
+      ordered_by (IsFoundAt values v place) (λ x y. Some (int_cmp x.number y.number))
+      (λ x y in_x in_y. ap Some (number_turned x.number y.number))
+      (λ x y z in_x in_y in_z. number_chain x.number y.number z.number)
+
+  pub order_by_number : HasNoMethods d trait.Ord → AreTotalOrders table d values
+  order_by_number none v place fs f exists at taken =
+      total_by (order_said Ord) as_order (λ o. refl) (IsFoundAt values v place) (says_at Ord table d place f) (λ x y. int_cmp x.number y.number)
+      (numbers_ordered v place) (ord_says v place fs f exists at none taken)
+
+  pub partial_by_number : HasNoMethods d trait.PartialOrd → ArePartialOrders table d values
+  partial_by_number none v place fs f exists at taken =
+      partial_by (order_said PartialOrd) as_partial_order (λ p. refl) (IsFoundAt values v place) (says_at PartialOrd table d place f)
+      (λ x y. Some (int_cmp x.number y.number)) (numbers_ordered v place) (partial_says v place fs f exists at none taken)
+
+  -- Where an order says that of the numbers, it is Equal exactly where `PartialEq` says that they are equal.
+  equal_numbers_said : (which : Comparison) → ((o : Ordering) → order_in (as_answer which o) ≡ Some o) → HasNoMethods d trait.PartialEq
+      → (v place : ℕ) (fs : List Field) (f : Field) → slice_get (cases_of d) v ≡ Some fs → slice_get fs place ≡ Some f → TakesPart trait.PartialEq d f
+      → (x y : FieldValue) → IsFoundAt values v place x → IsFoundAt values v place y → says_at which table d place f x y ≡ Some (as_answer which (int_cmp x.number y.number))
+      → (says_at which table d place f x y ≡ Some (as_answer which Equal)) ↔ (says_at PartialEq table d place f x y ≡ as_truth true)
+  equal_numbers_said which known none v place fs f exists at taken x y in_x in_y order =
+      let truth = eq_says v place fs f exists at none taken x y in_x in_y in
+      let own = int_cmp x.number y.number in (
+        (λ is.
+            let same : own ≡ Equal = same_Some own Equal (sym (known own) ∙ (ap order_in (same_Some (as_answer which own) (as_answer which Equal) (sym order ∙ is)) ∙ known Equal)) in
+            truth ∙ ap (λ (b : Bool). as_truth b) (numbers_equal x.number y.number (exact_signed x.number y.number same))),
+        (λ is. order ∙ ap (λ (o : Ordering). Some (as_answer which o))
+            (ap (int_cmp x.number) (sym (equal_numbers x.number y.number (ap truth_in (sym truth ∙ is)))) ∙ number_same x.number)),
+      )
+
+  pub equal_by_number : HasNoMethods d trait.PartialEq → HasNoMethods d trait.Ord → AreEqualWhereTrue Ord table d values
+  equal_by_number none no_order v place fs f exists at taken ordered x y in_x in_y =
+      equal_numbers_said Ord (λ o. refl) none v place fs f exists at taken x y in_x in_y (ord_says v place fs f exists at no_order ordered x y in_x in_y)
+
+  pub partial_equal_by_number : HasNoMethods d trait.PartialEq → HasNoMethods d trait.PartialOrd → AreEqualWhereTrue PartialOrd table d values
+  partial_equal_by_number none no_order v place fs f exists at taken ordered x y in_x in_y =
+      equal_numbers_said PartialOrd (λ o. refl) none v place fs f exists at taken x y in_x in_y (partial_says v place fs f exists at no_order ordered x y in_x in_y)
+
+  pub some_of_by_number : HasNoMethods d trait.PartialOrd → HasNoMethods d trait.Ord → AreSomeOf table d values
+  some_of_by_number none no_order v place fs f exists at taken ordered x y o in_x in_y is =
+      partial_says v place fs f exists at none taken x y in_x in_y
+      ∙ ap as_partial_order (ap (order_said Ord) (sym (ord_says v place fs f exists at no_order ordered x y in_x in_y) ∙ is))
+
+  pub hash_by_number : HasNoMethods d trait.PartialEq → HasNoMethods d trait.Hash → FeedAlike table d values
+  hash_by_number none no_hash v place fs f exists at taken hashed x y in_x in_y is = (
+    x.number,
+    hash_feeds v place fs f exists at no_hash hashed x,
+    hash_feeds v place fs f exists at no_hash hashed y
+        ∙ ap (λ (n : ℤ). as_part n) (sym (equal_numbers x.number y.number (ap truth_in (sym (eq_says v place fs f exists at none taken x y in_x in_y) ∙ is)))),
+  )
+
+module _ (table : Answers) (d : DeriveInput) (values : List Value) (numbers : IsByNumber table) (none : (which : Trait) → HasNoMethods d which) (shapes : HaveShape d values) where
+  -- A table that has no rows and answers by number is lawful, where no field has a method.
+  pub by_number_lawful : IsLawful table d values
+  by_number_lawful = record {
+    equivalences = equality_by_number table d values numbers shapes (none trait.PartialEq);
+    total_orders = order_by_number table d values numbers shapes (none trait.Ord);
+    equal_where_true = equal_by_number table d values numbers shapes (none trait.PartialEq) (none trait.Ord);
+    some_of = some_of_by_number table d values numbers shapes (none trait.PartialOrd) (none trait.Ord);
+    feed_alike = hash_by_number table d values numbers shapes (none trait.PartialEq) (none trait.Hash);
+  }
+
+  -- It is lawful for `PartialOrd` alone too.
+  pub by_number_partially_lawful : IsPartiallyLawful table d values
+  by_number_partially_lawful = record {
+    partial_orders = partial_by_number table d values numbers shapes (none trait.PartialOrd);
+    equal_where_true = partial_equal_by_number table d values numbers shapes (none trait.PartialEq) (none trait.PartialOrd);
+  }
