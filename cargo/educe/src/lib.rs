@@ -1,7 +1,7 @@
 //! `#[derive(Educe)]` implements `Debug`, `Clone`, `Copy`, `PartialEq`, `Eq`, `PartialOrd`, `Ord`, `Hash` and `Default`
 //! with control over fields, order, names, values and bounds.
 //!
-//! The attribute `educe` lists the traits. It also stands at fields and variants:
+//! The attribute `educe` on the type lists the traits. On a field or a variant it says how they treat it:
 //!
 //! ```
 //! use educe::Educe;
@@ -19,16 +19,16 @@
 //! assert!(Handle { id: 1, data: Rc::new(Opaque) } == Handle { id: 1, data: Rc::new(Opaque) });
 //! ```
 //!
-//! `data` is ignored, and `Opaque` need not be comparable.
+//! The built-in derive can do neither: `data` is ignored, and `Opaque` need not be comparable.
 //!
 //! # Installing the program
 //!
-//! The macro makes no impl itself. It hands the definition to the program `educe` and takes the items that the program
+//! The macro makes no impl itself. It passes the definition to the program `educe` and returns the items that the program
 //! prints. The program is proved: what it prints means what the definition and its attributes say. The macro is not proved,
 //! and decides nothing about an impl.
 //!
-//! Build the program and install it as `educe` in a folder of the search path, or set the environment variable `EDUCE` to
-//! its path where the crate is compiled:
+//! Build the program, as the README of its repository says. Then install it as `educe` on your `PATH`, or set the environment
+//! variable `EDUCE` to its path where the crate is compiled:
 //!
 //! ```text
 //! install crates/educe_cli/out/educe_cli ~/.cargo/bin/educe
@@ -38,11 +38,11 @@
 //!
 //! # Traits
 //!
-//! The attributes shown here are the most common ones. All attributes, with examples, are in `docs/ATTRIBUTES.md` of the program.
+//! The attributes shown here are the most common ones. `docs/ATTRIBUTES.md` in the repository of the program has all of them.
 //!
 //! ## `Debug`
 //!
-//! A field can be left out, renamed or shown by a function; the name of the type can be another one or none.
+//! A field can be left out, renamed or shown by a function. The name of the type can be changed or left out.
 //!
 //! ```
 //! use educe::Educe;
@@ -68,7 +68,7 @@
 //!
 //! ## `Clone`
 //!
-//! A field can be cloned by a function. No bound is asked of a parameter that is only behind an `Rc` or `Arc`.
+//! A field can be cloned by a function. A parameter that occurs only inside `Rc` or `Arc` gets no bound.
 //!
 //! ```
 //! use educe::Educe;
@@ -92,6 +92,8 @@
 //! ```
 //!
 //! ## `Copy`
+//!
+//! A parameter that occurs only inside `PhantomData` gets no bound, so this `Index<String>` is `Copy`.
 //!
 //! ```
 //! use educe::Educe;
@@ -135,7 +137,7 @@
 //!
 //! ## `Eq`
 //!
-//! The types of all fields that `PartialEq` compares by their own `eq` have to be `Eq`.
+//! The type of each field has to be `Eq`, except for fields that `PartialEq` ignores or compares by a function.
 //!
 //! ```
 //! use educe::Educe;
@@ -154,7 +156,7 @@
 //!
 //! ## `PartialOrd`
 //!
-//! Fields are compared by their ranks, the least first, and else in written order.
+//! Fields are compared by ascending rank. Those without a rank come first, in written order.
 //!
 //! ```
 //! use educe::Educe;
@@ -175,7 +177,7 @@
 //!
 //! ## `Ord`
 //!
-//! With both orders listed, a field with an attribute of `Ord` alone uses it for `PartialOrd` too.
+//! If `PartialOrd` is listed too, it uses a field's attribute of `Ord`, unless the field has one of `PartialOrd`.
 //!
 //! ```
 //! use educe::Educe;
@@ -200,6 +202,8 @@
 //!
 //! ## `Hash`
 //!
+//! A field can be ignored or hashed by a function. Ignore each field that `PartialEq` ignores, so that equal values hash alike.
+//!
 //! ```
 //! use educe::Educe;
 //! use std::collections::HashSet;
@@ -219,7 +223,7 @@
 //!
 //! ## `Default`
 //!
-//! A field, a variant or the whole type can have a value, and `new` adds a function of this name.
+//! A field or the whole type can have a value, and a variant can be marked as the default. `new` adds a function `new`.
 //!
 //! ```
 //! use educe::Educe;
@@ -240,7 +244,7 @@
 //!
 //! # The output
 //!
-//! For the `Handle` above the program prints one line, which `rustfmt` lays out so; a type has one such item for each trait:
+//! The program prints one impl for each listed trait, on a line of its own. For the `Handle` above, `rustfmt` lays it out so:
 //!
 //! ```text
 //! #[automatically_derived]
@@ -254,11 +258,11 @@
 //! }
 //! ```
 //!
-//! To see it for another definition, give the definition to the program: `educe expand < FILE`.
+//! To see the output for another definition, run `educe expand < FILE`.
 //!
 //! # Errors
 //!
-//! A definition that the program rejects is an error at the token that the message names:
+//! A definition that the program rejects is a compile error at the faulty token:
 //!
 //! ```text
 //! error: the rank `1` is repeatedly used
@@ -280,8 +284,8 @@
 //! }
 //! ```
 //!
-//! If there is no program, or what is there doesn't answer, the error is at the derive. It names the program, and says what
-//! failed and what to do.
+//! If the program is missing or doesn't answer, the error is at the derive. It names the program, and says what failed and
+//! what to do.
 
 mod grouping;
 mod program;
