@@ -1,8 +1,7 @@
 -- A table that answers by number is lawful.
-use Rattle.std.proofs.Common.{◌≡◌, ℕ, zero, suc, ℤ, Bool, true, false, not, List, [], ◌∷◌, Option, Some, None, slice_get, int_cmp, Ordering, Less, Equal, Greater, refl, sym, ap, ◌∙◌, subst, rules}
+use Rattle.std.proofs.Common.{◌≡◌, ℕ, zero, suc, ℤ, Bool, true, false, not, List, [], ◌∷◌, Option, Some, None, slice_get, int_cmp, Ordering, Equal, refl, sym, ap, ◌∙◌, subst, rules}
 use Rattle.std.specs.Prelude.{◌==◌, ◌↔◌, if◌then◌else◌}
 use Rattle.std.specs.Ordering.{int_eq}
-use Rattle.std.specs.Cmp.{Equal-is}
 use Rattle.std.proofs.lemmas.Bool.Decides.{Decides-int_eq}
 use Rattle.std.proofs.lemmas.Map.Lookups.{exact_signed}
 use Rattle.std.proofs.lemmas.Option.{same_Some}
@@ -15,20 +14,19 @@ use Rattle.educe_body_forms.specs.declared.comparison.Comparison.{Comparison}
 use Rattle.educe_body_forms.specs.declared.comparison.Comparison.TheVariants.{PartialEq, PartialOrd, Ord}
 use Rattle.educe_body_forms.specs.declared.form.Known.{Known}
 use Rattle.educe_body_forms.specs.declared.form.Known.TheVariants as known
-use Rattle.educe_body_values.specs.declared.answers.Answer.{Answer}
 use Rattle.educe_body_values.specs.declared.answers.Answers.{Answers}
 use Rattle.educe_body_values.specs.declared.callee.BuiltIn.TheVariants as built_in
 use Rattle.educe_body_values.specs.declared.callee.Callee.{Callee}
 use Rattle.educe_body_values.specs.declared.value.FieldValue.{FieldValue}
 use Rattle.educe_body_values.specs.declared.value.Value.{Value}
-use Rattle.educe_body_values.specs.Answering.{answer_of, first_row, by_number_answer, compared_numbers, hashed_number, or_else}
+use Rattle.educe_body_values.specs.Answering.{answer_of, first_row, by_number_answer, compared_numbers, or_else}
 use Rattle.educe_body_values.specs.Callees.{as_callee}
 use Rattle.educe_body_values.specs.Types.{first_place, type_spellings}
 use Rattle.educe_laws.specs.Cases.{cases_of}
-use Rattle.educe_laws.specs.Comparing.{HaveTypes, HasShape, comparison, asked, said, as_answer}
+use Rattle.educe_laws.specs.Comparing.{HaveTypes, comparison, asked, said, as_answer}
 use Rattle.educe_laws.specs.Comparisons.{trait_of}
 use Rattle.educe_laws.specs.Hashing.{part_said}
-use Rattle.educe_laws.specs.Settings.{How, plainly, kept_at}
+use Rattle.educe_laws.specs.Settings.{How, plainly}
 use Rattle.educe_laws_coherence.specs.Lawful.{says_at, feeds_at, as_truth, as_order, as_partial_order, as_part, TakesPart, IsFoundAt, AreEquivalences}
 use Rattle.educe_laws_coherence.specs.Lawful.{AreTotalOrders, ArePartialOrders, AreEqualWhereTrue, AreSomeOf, FeedAlike, IsLawful, IsPartiallyLawful, HasNoMethods, IsByNumber, HaveShape}
 use Rattle.educe_laws_coherence.proofs.Chains.{IsOrdered, ordered_by, equivalence_by, partial_by, total_by}

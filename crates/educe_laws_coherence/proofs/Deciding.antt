@@ -59,14 +59,14 @@ no_truth Ord orders p = tt
 
 -- What is known where it differs, and else what stands behind it, is the first of both orders that is not Equal.
 known_then : (w r : Known) → IsNoTruth w → order_in (if is_apart w then w else r) ≡ partial_ordering_then (order_in w) (order_in r)
-known_then (Truth b) r no = absurd no
-known_then (Order Less) r no = refl
-known_then (Order Equal) r no = refl
-known_then (Order Greater) r no = refl
-known_then (PartialOrder None) r no = refl
-known_then (PartialOrder (Some Less)) r no = refl
-known_then (PartialOrder (Some Equal)) r no = refl
-known_then (PartialOrder (Some Greater)) r no = refl
+known_then (Truth b) r order = absurd order
+known_then (Order Less) r order = refl
+known_then (Order Equal) r order = refl
+known_then (Order Greater) r order = refl
+known_then (PartialOrder None) r order = refl
+known_then (PartialOrder (Some Less)) r order = refl
+known_then (PartialOrder (Some Equal)) r order = refl
+known_then (PartialOrder (Some Greater)) r order = refl
 
 -- The discriminants first, and what is known behind them where those are Equal.
 pub first_known : (which : Comparison) (o : Ordering) (known : Known) → known ≡ as_known which (order_in known)

@@ -1,5 +1,5 @@
 -- The fields of one case: what they say of two or three values among those on which a table is lawful.
-use Rattle.std.proofs.Common.{◌≡◌, ℕ, ◌+◌, ℤ, pos, Bool, true, false, List, [], ◌∷◌, map, Option, Some, None, slice_get, Ordering, Less, Equal, Greater, refl, sym, ap, ◌∙◌, subst}
+use Rattle.std.proofs.Common.{◌≡◌, ℕ, ◌+◌, ℤ, pos, Bool, true, List, [], ◌∷◌, map, Option, Some, None, slice_get, Ordering, Equal, refl, sym, ap, ◌∙◌, subst}
 use Rattle.std.specs.Prelude.{unwrap_or, IsTrue, IsSome}
 use Rattle.std.specs.List.{AllByRecursion, Contains, filter}
 use Rattle.std.specs.Option.{option_map}
@@ -18,7 +18,7 @@ use Rattle.educe_body_values.specs.declared.answers.Answers.{Answers}
 use Rattle.educe_body_values.specs.declared.value.FieldValue.{FieldValue}
 use Rattle.educe_body_values.specs.declared.value.Value.{Value}
 use Rattle.educe_laws.specs.Cases.{cases_of, case_of}
-use Rattle.educe_laws.specs.Comparing.{HaveTypes, Compared, paired_from, compared, says, says_true, equal, order, as_answer}
+use Rattle.educe_laws.specs.Comparing.{HaveTypes, Compared, paired_from, compared, says, says_true, equal, order}
 use Rattle.educe_laws.specs.Comparisons.{trait_of}
 use Rattle.educe_laws.specs.Hashing.{valued, valued_from, feeds, fed_by, AllFeed}
 use Rattle.educe_laws.specs.Rows.{is_order}

@@ -8,7 +8,6 @@ use Rattle.educe_bound_traits.specs.declared.traits.Trait.TheVariants as trait
 use Rattle.educe_body_forms.specs.declared.body.Body.{Body}
 use Rattle.educe_body_forms.specs.declared.comparison.Comparison.{Comparison}
 use Rattle.educe_body_forms.specs.declared.comparison.Comparison.TheVariants.{PartialEq, PartialOrd, Ord}
-use Rattle.educe_body_items.specs.declared.items.Function.{Function}
 use Rattle.educe_body_items.specs.declared.items.Item.{Item}
 use Rattle.educe_body_items.specs.declared.items.Item.TheVariants.{Impl}
 use Rattle.educe_body_values.specs.declared.answers.Answers.{Answers}
@@ -22,8 +21,8 @@ use Rattle.educe_laws.specs.Discriminants.{HaveDiscriminants}
 use Rattle.educe_laws.specs.Hashing.{hash_of}
 use Rattle.educe_laws.specs.Rows.{is_order}
 use Rattle.educe_laws_coherence.specs.Relations.{IsEquivalenceAmong, IsTotalOrderAmong, IsPartialOrderAmong, IsEqualWhereTrue, IsSomeOf, FeedsAlike}
-use Rattle.educe_laws_coherence.specs.Lawful.{Lists, HaveMatchingSettings, AreEquivalences, AreEqualWhereTrue, AreSomeOf, FeedAlike, IsLawful, IsPartiallyLawful, CoversEachTwo, HaveShape}
-use Rattle.educe_laws_coherence.specs.Coherence.{IsDerivedBody, compares, hashes, AreCoherent, ArePartiallyCoherent, IsCoherent, CoherenceLaws}
+use Rattle.educe_laws_coherence.specs.Lawful.{Lists, HaveMatchingSettings, AreEquivalences, AreEqualWhereTrue, AreSomeOf, FeedAlike, CoversEachTwo, HaveShape}
+use Rattle.educe_laws_coherence.specs.Coherence.{IsDerivedBody, compares, hashes, IsCoherent, CoherenceLaws}
 use Rattle.educe_laws_coherence.proofs.Chains.{IsOrdered, ordered_by, ordered_alike, equivalence_by, partial_by, total_by}
 use Rattle.educe_laws_coherence.proofs.ByNumber.{by_number_lawful, by_number_partially_lawful}
 use Rattle.educe_laws_coherence.proofs.Fields.{AreRuled, total_ruled, partial_ruled}

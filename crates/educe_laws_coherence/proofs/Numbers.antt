@@ -1,11 +1,10 @@
 -- The discriminants of values, as numbers that are compared.
-use Rattle.std.proofs.Common.{◌≡◌, ℕ, zero, suc, ◌+◌, ◌⊎◌, inl, inr, ℤ, pos, Bool, true, false, List, [], ◌∷◌}
-use Rattle.std.proofs.Common.{map, length, Option, Some, None, slice_get, int_cmp, Ordering, Less, Equal, Greater, refl, sym, ap, ◌∙◌, subst, arith}
+use Rattle.std.proofs.Common.{◌≡◌, ℕ, zero, suc, ◌+◌, ℤ, pos, false, List, [], ◌∷◌}
+use Rattle.std.proofs.Common.{map, Option, Some, None, slice_get, int_cmp, Ordering, Less, Equal, Greater, refl, sym, ap, ◌∙◌, subst}
 use Rattle.std.specs.Prelude.{unwrap_or}
 use Rattle.std.specs.List.{AllByRecursion, IsDistinct}
 use Rattle.std.specs.Option.{option_map}
-use Rattle.std.specs.Ordering.{int_eq, ordering_reverse, ordering_then, is_gt}
-use Rattle.std.specs.Cmp.{IsTotalOrder}
+use Rattle.std.specs.Ordering.{int_eq, ordering_reverse}
 use Rattle.std.proofs.lemmas.Bool.{true≢false}
 use Rattle.std.proofs.lemmas.Cmp.{int_cmp_total}
 use Rattle.std.proofs.lemmas.Map.Lookups.{exact_signed}
@@ -22,7 +21,7 @@ use Rattle.educe_syntax.specs.Shape.TheVariants.{Struct, Enum}
 use Rattle.educe_syntax.specs.Variant.{Variant}
 use Rattle.educe_body_values.specs.declared.answers.Answers.{Answers}
 use Rattle.educe_body_values.specs.declared.value.Value.{Value}
-use Rattle.educe_laws.specs.Cases.{cases_of, shape_cases, fields_in}
+use Rattle.educe_laws.specs.Cases.{shape_cases, fields_in}
 use Rattle.educe_laws.specs.Comparing.{HasShape, number_order}
 use Rattle.educe_laws.specs.Discriminants.{Counted, counted_from, counted, discriminant, discriminants, discriminant_of, flat, HaveDiscriminants}
 use Rattle.educe_laws_coherence.proofs.Lexicographic.{IsChain}

@@ -1,5 +1,5 @@
 -- Values of a definition among which a table is lawful: what the derived functions mean of them is coherent.
-use Rattle.std.proofs.Common.{◌≡◌, ℕ, zero, suc, ℤ, pos, Bool, true, List, [], ◌∷◌, ◌++◌, Option, Some, None, slice_get, int_cmp, Ordering, Less, Equal, Greater, refl, sym, ap, ◌∙◌, subst, rules}
+use Rattle.std.proofs.Common.{◌≡◌, ℕ, zero, suc, ℤ, pos, Bool, true, List, [], ◌∷◌, ◌++◌, Option, Some, slice_get, int_cmp, Ordering, Less, Equal, Greater, refl, sym, ap, ◌∙◌, subst, rules}
 use Rattle.std.specs.Prelude.{◌==◌, ◌&&◌, unwrap_or, IsTrue}
 use Rattle.std.specs.List.{AllByRecursion, Contains}
 use Rattle.std.specs.Option.{option_map}
@@ -47,6 +47,13 @@ variant_alike : (shape : Shape) (a b : Value) → a.variant ≡ b.variant → (x
 variant_alike (Struct shape) a b one xs ys same = same
 variant_alike (Enum variants) a b one xs ys same = λ i. pos (one i) ∷ same i
 
+-- What stands behind an order is an order where it counts.
+some_then : (o : Ordering) (r : Option Ordering) → r ≡ Some (unwrap_or r Equal)
+    → partial_ordering_then (Some o) r ≡ Some (unwrap_or (partial_ordering_then (Some o) r) Equal)
+some_then Less r is = refl
+some_then Equal r is = is
+some_then Greater r is = refl
+
 module _ (table : Answers) (d : DeriveInput) where
   -- Whether two values are equal.
   abbrev pub same : Value → Value → Bool
@@ -66,12 +73,6 @@ module _ (table : Answers) (d : DeriveInput) where
   -- The order by `Ord`, which any two values have.
   abbrev pub ordered_as : Value → Value → Ordering
   ordered_as a b = unwrap_or (compared_as Ord a b) Equal
-
-  some_then : (o : Ordering) (r : Option Ordering) → r ≡ Some (unwrap_or r Equal)
-      → partial_ordering_then (Some o) r ≡ Some (unwrap_or (partial_ordering_then (Some o) r) Equal)
-  some_then Less r is = refl
-  some_then Equal r is = is
-  some_then Greater r is = refl
 
   pub is_ordered : (a b : Value) → compared_as Ord a b ≡ Some (ordered_as a b)
   is_ordered a b = some_then (int_cmp (number a) (number b)) (inner Ord a b) (ap order_in (order_known Ord table refl (compared Ord d a b)))

@@ -19,7 +19,7 @@ abbrev pub IsLessOrEqual : {A : Type 0} → (Ordering → A) → A → Type 0
 IsLessOrEqual order answer = (answer ≡ order Less) ⊎ (answer ≡ order Equal)
 
 -- The answers are a total order among these: each two are answered Less, Equal or Greater; the answer is reversed when the two are
--- exchanged; and Less or Equal is transitive.
+-- exchanged; and Less or Equal is transitive, from which it follows that each of the three answers is.
 pub record IsTotalOrderAmong {X A : Type 0} (In : X → Type 0) (answer : X → X → A) (order : Ordering → A) : Type 0 where
   pub decided : (x y : X) → In x → In y → (o : Ordering) × (answer x y ≡ order o)
   pub reversed : (x y : X) (o : Ordering) → In x → In y → answer x y ≡ order o → answer y x ≡ order (ordering_reverse o)
@@ -30,8 +30,8 @@ pub record IsTotalOrderAmong {X A : Type 0} (In : X → Type 0) (answer : X → 
 abbrev pub IsSomeLessOrEqual : {A : Type 0} → (Option Ordering → A) → A → Type 0
 IsSomeLessOrEqual partial answer = IsLessOrEqual (λ o. partial (Some o)) answer
 
--- The answers are a partial order among these: each two are answered an order in `Some`, or `None`; the answer is reversed when the
--- two are exchanged, and `None` stays; and Less or Equal is transitive.
+-- The answers are a partial order among these: each two are answered `Some` of an order, or `None`; the order in `Some` is reversed when
+-- the two are exchanged, and `None` stays; and Less or Equal is transitive, from which it follows that each of the three orders is.
 pub record IsPartialOrderAmong {X A : Type 0} (In : X → Type 0) (answer : X → X → A) (partial : Option Ordering → A) : Type 0 where
   pub decided : (x y : X) → In x → In y → (p : Option Ordering) × (answer x y ≡ partial p)
   pub reversed : (x y : X) (p : Option Ordering)
