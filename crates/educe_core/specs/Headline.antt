@@ -66,7 +66,8 @@ IsAlone source e = (other : EduceError) → other.kind ≢ Alloc → IsCause sou
 -- tokens; no cause of a listed trait stands, and the settings of the type, of its variants and of its fields are what their
 -- attributes say; the items hold one block for each listed trait of the definition, and nothing else; over each table, and the
 -- values that it covers, their functions evaluate to what the traits mean; where the bound of a trait is the automatic one, its own
--- predicates suffice, and none of them can be dropped; and the derived comparisons and `Hash` are coherent.
+-- predicates suffice, and none of them can be dropped; and over tables that are lawful on the values that they cover, the derived
+-- comparisons and `Hash` are coherent.
 pub record IsExpansion (source : List ℕ) (items : List Item) (written : List ℕ) : Type 0 where
   pub definition : DeriveInput
   pub defines : Defines (chars source) definition

@@ -3,7 +3,7 @@ pub mod Composed
 pub mod Expansion
 pub mod Run
 pub mod Laws
-pub mod Coherence
+pub mod CoherenceLaw
 -- What clauses say of the handlers and of their items.
 pub use Rattle.educe_laws.specs.Comparisons
 pub use Rattle.educe_laws.specs.Rows
@@ -20,6 +20,10 @@ pub use Rattle.educe_laws.specs.Arms
 pub use Rattle.educe_laws.specs.Blocks
 pub use Rattle.educe_laws.specs.Handled
 pub use Rattle.educe_laws.specs.Handlers
+-- What clauses say of how the derived functions fit together.
+pub use Rattle.educe_laws_coherence.specs.Relations
+pub use Rattle.educe_laws_coherence.specs.Lawful
+pub use Rattle.educe_laws_coherence.specs.Coherence
 -- What clauses say of devices and of how a run ends, and the types that they name.
 pub use Rattle.educe_core_devices.specs.Devices
 pub use Rattle.educe_core_devices.specs.Plan as Planned

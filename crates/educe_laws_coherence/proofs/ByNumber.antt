@@ -1,6 +1,6 @@
 -- A table that answers by number is lawful.
 use Rattle.std.proofs.Common.{◌≡◌, ℕ, zero, suc, ℤ, Bool, true, false, not, List, [], ◌∷◌, Option, Some, None, slice_get, int_cmp, Ordering, Equal, refl, sym, ap, ◌∙◌, subst, rules}
-use Rattle.std.specs.Prelude.{◌==◌, ◌↔◌, if◌then◌else◌}
+use Rattle.std.specs.Prelude.{◌==◌, ◌↔◌, if◌then◌else◌, IsTrue, IsSome}
 use Rattle.std.specs.Ordering.{int_eq}
 use Rattle.std.proofs.lemmas.Bool.Decides.{Decides-int_eq}
 use Rattle.std.proofs.lemmas.Map.Lookups.{exact_signed}
@@ -8,7 +8,6 @@ use Rattle.std.proofs.lemmas.Option.{same_Some}
 use Rattle.educe_syntax.specs.DeriveInput.{DeriveInput}
 use Rattle.educe_syntax.specs.Few.{all_fields}
 use Rattle.educe_syntax.specs.Field.{Field}
-use Rattle.educe_bound_traits.specs.declared.traits.Trait.{Trait}
 use Rattle.educe_bound_traits.specs.declared.traits.Trait.TheVariants as trait
 use Rattle.educe_body_forms.specs.declared.comparison.Comparison.{Comparison}
 use Rattle.educe_body_forms.specs.declared.comparison.Comparison.TheVariants.{PartialEq, PartialOrd, Ord}
@@ -25,13 +24,18 @@ use Rattle.educe_body_values.specs.Types.{first_place, type_spellings}
 use Rattle.educe_laws.specs.Cases.{cases_of}
 use Rattle.educe_laws.specs.Comparing.{HaveTypes, comparison, asked, said, as_answer}
 use Rattle.educe_laws.specs.Comparisons.{trait_of}
+use Rattle.educe_laws.specs.Discriminants.{HaveDiscriminants}
 use Rattle.educe_laws.specs.Hashing.{part_said}
+use Rattle.educe_laws.specs.Rows.{is_order}
 use Rattle.educe_laws.specs.Settings.{How, plainly}
 use Rattle.educe_laws_coherence.specs.Lawful.{says_at, feeds_at, as_truth, as_order, as_partial_order, as_part, TakesPart, IsFoundAt, AreEquivalences}
-use Rattle.educe_laws_coherence.specs.Lawful.{AreTotalOrders, ArePartialOrders, AreEqualWhereTrue, AreSomeOf, FeedAlike, IsLawful, IsPartiallyLawful, HasNoMethods, IsByNumber, HaveShape}
+use Rattle.educe_laws_coherence.specs.Lawful.{AreTotalOrders, ArePartialOrders, AreEqualWhereTrue, AreSomeOf, FieldsFeedAlike, IsLawful, IsLawfulForPartialOrd, HasNoMethods, HasPlainFields, IsByNumber, HaveShape}
+use Rattle.educe_laws_coherence.specs.Lawful.{Lists, AtEachField, CoversEachTwo}
 use Rattle.educe_laws_coherence.proofs.Chains.{IsOrdered, ordered_by, equivalence_by, partial_by, total_by}
 use Rattle.educe_laws_coherence.proofs.Deciding.{order_in, order_said}
+use Rattle.educe_laws_coherence.proofs.Fields.{all_say}
 use Rattle.educe_laws_coherence.proofs.Numbers.{number_chain, number_turned, number_same}
+use Rattle.educe_laws_coherence.proofs.Whole.{of_case}
 
 same_type : (m n : ℕ) → m ≡ n → (m == n) ≡ true
 same_type m n h = search rules
@@ -149,7 +153,7 @@ module _ (table : Answers) (d : DeriveInput) (values : List Value) (numbers : Is
       partial_says v place fs f exists at none taken x y in_x in_y
       ∙ ap as_partial_order (ap (order_said Ord) (sym (ord_says v place fs f exists at no_order ordered x y in_x in_y) ∙ is))
 
-  pub hash_by_number : HasNoMethods d trait.PartialEq → HasNoMethods d trait.Hash → FeedAlike table d values
+  pub hash_by_number : HasNoMethods d trait.PartialEq → HasNoMethods d trait.Hash → FieldsFeedAlike table d values
   hash_by_number none no_hash v place fs f exists at taken hashed x y in_x in_y is = (
     x.number,
     hash_feeds v place fs f exists at no_hash hashed x,
@@ -157,20 +161,43 @@ module _ (table : Answers) (d : DeriveInput) (values : List Value) (numbers : Is
         ∙ ap (λ (n : ℤ). as_part n) (sym (equal_numbers x.number y.number (ap truth_in (sym (eq_says v place fs f exists at none taken x y in_x in_y) ∙ is)))),
   )
 
-module _ (table : Answers) (d : DeriveInput) (values : List Value) (numbers : IsByNumber table) (none : (which : Trait) → HasNoMethods d which) (shapes : HaveShape d values) where
+module _ (table : Answers) (d : DeriveInput) (values : List Value) (numbers : IsByNumber table) (plain : HasPlainFields d) (shapes : HaveShape d values) where
   -- A table that has no rows and answers by number is lawful, where no field has a method.
   pub by_number_lawful : IsLawful table d values
   by_number_lawful = record {
-    equivalences = equality_by_number table d values numbers shapes (none trait.PartialEq);
-    total_orders = order_by_number table d values numbers shapes (none trait.Ord);
-    equal_where_true = equal_by_number table d values numbers shapes (none trait.PartialEq) (none trait.Ord);
-    some_of = some_of_by_number table d values numbers shapes (none trait.PartialOrd) (none trait.Ord);
-    feed_alike = hash_by_number table d values numbers shapes (none trait.PartialEq) (none trait.Hash);
+    equivalences = equality_by_number table d values numbers shapes (plain.compared PartialEq);
+    total_orders = order_by_number table d values numbers shapes (plain.compared Ord);
+    equal_where_true = equal_by_number table d values numbers shapes (plain.compared PartialEq) (plain.compared Ord);
+    some_of = some_of_by_number table d values numbers shapes (plain.compared PartialOrd) (plain.compared Ord);
+    feed_alike = hash_by_number table d values numbers shapes (plain.compared PartialEq) plain.hashed;
   }
 
-  -- It is lawful for `PartialOrd` alone too.
-  pub by_number_partially_lawful : IsPartiallyLawful table d values
-  by_number_partially_lawful = record {
-    partial_orders = partial_by_number table d values numbers shapes (none trait.PartialOrd);
-    equal_where_true = partial_equal_by_number table d values numbers shapes (none trait.PartialEq) (none trait.PartialOrd);
+  -- It is lawful for `PartialOrd` too.
+  pub by_number_lawful_for_partial_ord : IsLawfulForPartialOrd table d values
+  by_number_lawful_for_partial_ord = record {
+    partial_orders = partial_by_number table d values numbers shapes (plain.compared PartialOrd);
+    equal_where_true = partial_equal_by_number table d values numbers shapes (plain.compared PartialEq) (plain.compared PartialOrd);
   }
+
+  -- Each field that takes part says something of two values.
+  say_by_number : (which : Comparison)
+      → AtEachField d values (λ place field In. TakesPart (trait_of which) d field → (x y : FieldValue) → In x → In y → IsSome (says_at which table d place field x y))
+  say_by_number PartialEq v place fs f exists at taken x y in_x in_y =
+      subst IsSome (sym (eq_says table d values numbers shapes v place fs f exists at (plain.compared PartialEq) taken x y in_x in_y)) refl
+  say_by_number PartialOrd v place fs f exists at taken x y in_x in_y =
+      subst IsSome (sym (partial_says table d values numbers shapes v place fs f exists at (plain.compared PartialOrd) taken x y in_x in_y)) refl
+  say_by_number Ord v place fs f exists at taken x y in_x in_y =
+      subst IsSome (sym (ord_says table d values numbers shapes v place fs f exists at (plain.compared Ord) taken x y in_x in_y)) refl
+
+  -- The table covers each two of the values, where the discriminants have numbers.
+  pub by_number_covers : ((which : Comparison) → Lists d (trait_of which) → IsTrue (is_order (trait_of which)) → HaveDiscriminants table d) → CoversEachTwo table d values
+  by_number_covers have which lists a b among_a among_b =
+      let shape = shapes a among_a in
+      record {
+        first = shape;
+        second = shapes b among_b;
+        each = λ one.
+            all_say table d values a.variant shape.fields shape.exists which (say_by_number which) lists a b
+            (of_case table d values shapes a shape a among_a shape refl) (of_case table d values shapes a shape b among_b (shapes b among_b) one);
+        ordered = have which lists;
+      }

@@ -24,8 +24,8 @@ use Rattle.educe_laws.specs.Hashing.{valued, valued_from, feeds, fed_by, AllFeed
 use Rattle.educe_laws.specs.Rows.{is_order}
 use Rattle.educe_laws.specs.Settings.{is_kept}
 use Rattle.educe_laws_coherence.specs.Relations.{IsEquivalenceAmong}
-use Rattle.educe_laws_coherence.specs.Lawful.{Lists, rank_at, MatchInCase, says_at, feeds_at, as_truth, as_order, as_partial_order}
-use Rattle.educe_laws_coherence.specs.Lawful.{IsFoundAt, AtEachField, TakesPart, AreEquivalences, AreTotalOrders, ArePartialOrders, AreEqualWhereTrue, AreSomeOf, FeedAlike}
+use Rattle.educe_laws_coherence.specs.Lawful.{Lists, rank_at, AreHashedCompared, MatchInCase, says_at, feeds_at, as_truth, as_order, as_partial_order}
+use Rattle.educe_laws_coherence.specs.Lawful.{IsFoundAt, AtEachField, TakesPart, AreEquivalences, AreTotalOrders, ArePartialOrders, AreEqualWhereTrue, AreSomeOf, FieldsFeedAlike}
 use Rattle.educe_laws_coherence.proofs.Lexicographic.{ranked, leading, IsChain}
 use Rattle.educe_laws_coherence.proofs.Sorting.{each_weaker, each_ranked, each_unranked, ranked_alike, IsAlike, AreAlike}
 use Rattle.educe_laws_coherence.proofs.Chains.{leading_turned, leading_chained, leading_alike, leading_equal, each_equal, IsOrdered, chained, total_ordered, partial_ordered}
@@ -212,6 +212,18 @@ module _ (table : Answers) (d : DeriveInput) (values : List Value) (v : ℕ) (fs
         (column a s.place) (column b s.place) (column c s.place) (found a of_a s facts.1) (found b of_b s facts.1) (found c of_c s facts.1))
         (by_rank which) in_order)
 
+  -- Each field that takes part says something of both values, where each says something at its place.
+  pub all_say : (which : Comparison)
+      → AtEachField d values (λ place field In. TakesPart (trait_of which) d field → (x y : FieldValue) → In x → In y → IsSome (says_at which table d place field x y))
+      → Lists d (trait_of which) → (a b : Value) → IsOf a → IsOf b → AllByRecursion (λ c. IsSome (says which table c)) (compared which d a b)
+  all_say which say listed a b own other =
+      subst (AllByRecursion (λ c. IsSome (says which table c))) (sym (compared_is which a b own other))
+      (each_image (λ c. IsSome (says which table c)) (seen (trait_of which) d (column a) (column b)) (kept (trait_of which))
+      (each_weaker (IsKeptAt (trait_of which)) (λ s. IsSome (says_at which table d s.place s.field (column a s.place) (column b s.place)))
+      (λ s facts.
+      say v s.place fs s.field exists facts.1 (record { lists = listed; kept = facts.0 }) (column a s.place) (column b s.place) (found a own s facts.1) (found b other s facts.1))
+      (kept (trait_of which)) (each_kept (trait_of which))))
+
   -- ---- two traits, by matching settings
 
   module _ (matching : MatchInCase d fs) where
@@ -299,46 +311,55 @@ module _ (table : Answers) (d : DeriveInput) (values : List Value) (v : ℕ) (fs
           ∙ sym (ap (order_said Ord) said))
           (kept trait.Ord) matched))
 
-    -- Values that are equal feed the same.
-    module _ (feed : FeedAlike table d values) (eq_listed : Lists d trait.PartialEq) (hash_listed : Lists d trait.Hash) where
-      -- The field feeds the same of both.
-      abbrev FeedsBoth : Value → Value → Spot → Type 0
-      FeedsBoth a b s = (n : ℤ) × (feeds_at table d s.place s.field (column a s.place) ≡ Some n) × (feeds_at table d s.place s.field (column b s.place) ≡ Some n)
+  -- ---- hash
 
-      feed_both : (a b : Value) → IsOf a → IsOf b → AreEqual a b → AllByRecursion (FeedsBoth a b) (kept trait.Hash)
-      feed_both a b own other each =
-          let Hashed : Spot → Type 0 = λ s. takes trait.Hash d s ≡ true → takes trait.PartialEq d s ≡ true in
-          let Equals : Spot → Type 0 = λ s. takes trait.PartialEq d s ≡ true → SaysEqual a b s in
-          let hashed = each_spot (λ field. is_kept trait.Hash d field ≡ true → is_kept trait.PartialEq d field ≡ true) 0 fs (matching.hashed eq_listed hash_listed) in
-          each_that_passes (FeedsBoth a b) (takes trait.Hash d) (spots 0 fs)
-          (each_weaker (λ s. IsAt fs s × (Hashed s × Equals s)) (λ s. takes trait.Hash d s ≡ true → FeedsBoth a b s)
-          (λ s facts kept_is.
-          feed v s.place fs s.field exists facts.0 (record { lists = eq_listed; kept = facts.1.0 kept_is }) (record { lists = hash_listed; kept = kept_is })
-          (column a s.place) (column b s.place) (found a own s facts.0) (found b other s facts.0) (facts.1.1 (facts.1.0 kept_is)))
-          (spots 0 fs) (each_both (IsAt fs) (λ s. Hashed s × Equals s) (spots 0 fs) (each_at fs) (each_both Hashed Equals (spots 0 fs) hashed each)))
+  -- Values that are equal feed the same.
+  module _ (hashed_compared : AreHashedCompared d fs) (feed : FieldsFeedAlike table d values) (eq_listed : Lists d trait.PartialEq) (hash_listed : Lists d trait.Hash) where
+    -- The field feeds the same of both.
+    abbrev FeedsBoth : Value → Value → Spot → Type 0
+    FeedsBoth a b s = (n : ℤ) × (feeds_at table d s.place s.field (column a s.place) ≡ Some n) × (feeds_at table d s.place s.field (column b s.place) ≡ Some n)
 
-      valued_of : (a : Value) → IsOf a → valued trait.Hash d a ≡ map (given trait.Hash d (column a)) (kept trait.Hash)
-      valued_of a own =
-          ap (λ fields. valued_from trait.Hash d 0 fields a.fields) (case_is a own)
-          ∙ valued_is trait.Hash d (column a) (all_fields d) 0 fs a.fields own.types (column_fits a)
+    feed_both : (a b : Value) → IsOf a → IsOf b → AreEqual a b → AllByRecursion (FeedsBoth a b) (kept trait.Hash)
+    feed_both a b own other each =
+        let Hashed : Spot → Type 0 = λ s. takes trait.Hash d s ≡ true → takes trait.PartialEq d s ≡ true in
+        let Equals : Spot → Type 0 = λ s. takes trait.PartialEq d s ≡ true → SaysEqual a b s in
+        let hashed = each_spot (λ field. is_kept trait.Hash d field ≡ true → is_kept trait.PartialEq d field ≡ true) 0 fs hashed_compared in
+        each_that_passes (FeedsBoth a b) (takes trait.Hash d) (spots 0 fs)
+        (each_weaker (λ s. IsAt fs s × (Hashed s × Equals s)) (λ s. takes trait.Hash d s ≡ true → FeedsBoth a b s)
+        (λ s facts kept_is.
+        feed v s.place fs s.field exists facts.0 (record { lists = eq_listed; kept = facts.1.0 kept_is }) (record { lists = hash_listed; kept = kept_is })
+        (column a s.place) (column b s.place) (found a own s facts.0) (found b other s facts.0) (facts.1.1 (facts.1.0 kept_is)))
+        (spots 0 fs) (each_both (IsAt fs) (λ s. Hashed s × Equals s) (spots 0 fs) (each_at fs) (each_both Hashed Equals (spots 0 fs) hashed each)))
 
-      pub all_feed : (a b : Value) → IsOf a → IsOf b → AreEqual a b → AllFeed table (valued trait.Hash d a)
-      all_feed a b own other each =
-          subst (AllFeed table) (sym (valued_of a own))
-          (each_image (λ v. IsSome (feeds table v)) (given trait.Hash d (column a)) (kept trait.Hash)
-          (each_weaker (FeedsBoth a b) (λ s. IsSome (feeds table (given trait.Hash d (column a) s)))
-          (λ s both. some_is (feeds_at table d s.place s.field (column a s.place)) both.0 both.1) (kept trait.Hash) (feed_both a b own other each)))
+    valued_of : (a : Value) → IsOf a → valued trait.Hash d a ≡ map (given trait.Hash d (column a)) (kept trait.Hash)
+    valued_of a own =
+        ap (λ fields. valued_from trait.Hash d 0 fields a.fields) (case_is a own)
+        ∙ valued_is trait.Hash d (column a) (all_fields d) 0 fs a.fields own.types (column_fits a)
 
-      abbrev part_of_field : Value → Spot → ℤ
-      part_of_field a s = unwrap_or (feeds_at table d s.place s.field (column a s.place)) (pos 0)
+    pub all_feed : (a b : Value) → IsOf a → IsOf b → AreEqual a b → AllFeed table (valued trait.Hash d a)
+    all_feed a b own other each =
+        subst (AllFeed table) (sym (valued_of a own))
+        (each_image (λ v. IsSome (feeds table v)) (given trait.Hash d (column a)) (kept trait.Hash)
+        (each_weaker (FeedsBoth a b) (λ s. IsSome (feeds table (given trait.Hash d (column a) s)))
+        (λ s both. some_is (feeds_at table d s.place s.field (column a s.place)) both.0 both.1) (kept trait.Hash) (feed_both a b own other each)))
 
-      fed : (a : Value) → IsOf a → fed_by table (valued trait.Hash d a) ≡ map (part_of_field a) (kept trait.Hash)
-      fed a own = ap (fed_by table) (valued_of a own) ∙ map_twice (given trait.Hash d (column a)) (λ v. unwrap_or (feeds table v) (pos 0)) (kept trait.Hash)
+    pub all_feed_second : (a b : Value) → IsOf a → IsOf b → AreEqual a b → AllFeed table (valued trait.Hash d b)
+    all_feed_second a b own other each =
+        subst (AllFeed table) (sym (valued_of b other))
+        (each_image (λ v. IsSome (feeds table v)) (given trait.Hash d (column b)) (kept trait.Hash)
+        (each_weaker (FeedsBoth a b) (λ s. IsSome (feeds table (given trait.Hash d (column b) s)))
+        (λ s both. some_is (feeds_at table d s.place s.field (column b s.place)) both.0 both.2) (kept trait.Hash) (feed_both a b own other each)))
 
-      pub fed_alike : (a b : Value) → IsOf a → IsOf b → AreEqual a b → fed_by table (valued trait.Hash d a) ≡ fed_by table (valued trait.Hash d b)
-      fed_alike a b own other each =
-          fed a own
-          ∙ (map_alike (part_of_field a) (part_of_field b) (kept trait.Hash)
-          (each_weaker (FeedsBoth a b) (λ s. part_of_field a s ≡ part_of_field b s)
-          (λ s both. ap (λ o. unwrap_or o (pos 0)) (both.1 ∙ sym both.2)) (kept trait.Hash) (feed_both a b own other each))
-          ∙ sym (fed b other))
+    abbrev part_of_field : Value → Spot → ℤ
+    part_of_field a s = unwrap_or (feeds_at table d s.place s.field (column a s.place)) (pos 0)
+
+    fed : (a : Value) → IsOf a → fed_by table (valued trait.Hash d a) ≡ map (part_of_field a) (kept trait.Hash)
+    fed a own = ap (fed_by table) (valued_of a own) ∙ map_twice (given trait.Hash d (column a)) (λ v. unwrap_or (feeds table v) (pos 0)) (kept trait.Hash)
+
+    pub fed_alike : (a b : Value) → IsOf a → IsOf b → AreEqual a b → fed_by table (valued trait.Hash d a) ≡ fed_by table (valued trait.Hash d b)
+    fed_alike a b own other each =
+        fed a own
+        ∙ (map_alike (part_of_field a) (part_of_field b) (kept trait.Hash)
+        (each_weaker (FeedsBoth a b) (λ s. part_of_field a s ≡ part_of_field b s)
+        (λ s both. ap (λ o. unwrap_or o (pos 0)) (both.1 ∙ sym both.2)) (kept trait.Hash) (feed_both a b own other each))
+        ∙ sym (fed b other))

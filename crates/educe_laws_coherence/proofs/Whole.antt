@@ -22,7 +22,7 @@ use Rattle.educe_laws.specs.Comparisons.{trait_of}
 use Rattle.educe_laws.specs.Discriminants.{HaveDiscriminants}
 use Rattle.educe_laws.specs.Hashing.{valued, fed_by, variant_parts, hash_of, HashCovers}
 use Rattle.educe_laws.specs.Rows.{is_order}
-use Rattle.educe_laws_coherence.specs.Lawful.{Lists, MatchInCase, HaveMatchingSettings, AreEquivalences, AreEqualWhereTrue, AreSomeOf, FeedAlike, HaveShape}
+use Rattle.educe_laws_coherence.specs.Lawful.{Lists, AreHashedCompared, MatchInCase, HaveMatchingSettings, AreEquivalences, AreEqualWhereTrue, AreSomeOf, FieldsFeedAlike, HaveShape}
 use Rattle.educe_laws_coherence.proofs.Lexicographic.{IsChain}
 use Rattle.educe_laws_coherence.proofs.Chains.{chain_then, chain_alike, then_turned, then_alike, then_equal}
 use Rattle.educe_laws_coherence.proofs.Deciding.{order_in, as_known, first_known, order_known}
@@ -83,10 +83,10 @@ module _ (table : Answers) (d : DeriveInput) where
 
     -- The fields of the case of a value, and another value of that case.
     module _ (a : Value) (shape : HasShape d a) where
-      abbrev IsOfCase : Value → Type 0
+      abbrev pub IsOfCase : Value → Type 0
       IsOfCase = fields.IsOf table d values a.variant shape.fields shape.exists
 
-      of_case : (b : Value) → Among b → HasShape d b → a.variant ≡ b.variant → IsOfCase b
+      pub of_case : (b : Value) → Among b → HasShape d b → a.variant ≡ b.variant → IsOfCase b
       of_case b among other same = record {
         among = among;
         variant_is = sym same;
@@ -231,7 +231,10 @@ module _ (table : Answers) (d : DeriveInput) where
 
     -- ---- hash
 
-    module _ (matching : HaveMatchingSettings d) (feed : FeedAlike table d values) (eq_lists : Lists d trait.PartialEq) (hash_lists : Lists d trait.Hash) where
+    module _ (hashed_compared : AllByRecursion (AreHashedCompared d) (cases_of d)) (feed : FieldsFeedAlike table d values) (eq_lists : Lists d trait.PartialEq) (hash_lists : Lists d trait.Hash) where
+      hashed_case : (a : Value) (shape : HasShape d a) → AreHashedCompared d shape.fields
+      hashed_case a shape = case_has (AreHashedCompared d) (cases_of d) a.variant shape.fields hashed_compared shape.exists
+
       pub hash_covered : (a b : Value) → Among a → Among b → same a b ≡ true → HashCovers table d a
       hash_covered a b among_a among_b is =
           let shape = shapes a among_a in
@@ -239,7 +242,17 @@ module _ (table : Answers) (d : DeriveInput) where
           let other = of_case a shape b among_b (shapes b among_b) (one_case a b is) in
           record {
             shape = shape;
-            each = fields.all_feed table d values a.variant shape.fields shape.exists (matching_case a shape matching) feed eq_lists hash_lists a b own other (same_fields a shape a b own other is);
+            each = fields.all_feed table d values a.variant shape.fields shape.exists (hashed_case a shape) feed eq_lists hash_lists a b own other (same_fields a shape a b own other is);
+          }
+
+      pub second_covered : (a b : Value) → Among a → Among b → same a b ≡ true → HashCovers table d b
+      second_covered a b among_a among_b is =
+          let shape = shapes a among_a in
+          let own = of_case a shape a among_a shape refl in
+          let other = of_case a shape b among_b (shapes b among_b) (one_case a b is) in
+          record {
+            shape = shapes b among_b;
+            each = fields.all_feed_second table d values a.variant shape.fields shape.exists (hashed_case a shape) feed eq_lists hash_lists a b own other (same_fields a shape a b own other is);
           }
 
       pub hash_alike : (a b : Value) → Among a → Among b → same a b ≡ true → hash_of table d a ≡ hash_of table d b
@@ -249,4 +262,4 @@ module _ (table : Answers) (d : DeriveInput) where
           let own = of_case a shape a among_a shape refl in
           let other = of_case a shape b among_b (shapes b among_b) one in
           variant_alike d.shape a b one (fed_by table (valued trait.Hash d a)) (fed_by table (valued trait.Hash d b))
-          (fields.fed_alike table d values a.variant shape.fields shape.exists (matching_case a shape matching) feed eq_lists hash_lists a b own other (same_fields a shape a b own other is))
+          (fields.fed_alike table d values a.variant shape.fields shape.exists (hashed_case a shape) feed eq_lists hash_lists a b own other (same_fields a shape a b own other is))

@@ -41,13 +41,17 @@ AreRankedAlike definition fields =
     → int_lt (rank_at trait.PartialOrd definition i f) (rank_at trait.PartialOrd definition j g)
     ≡ int_lt (rank_at trait.Ord definition i f) (rank_at trait.Ord definition j g)
 
+-- Each field of a case that takes part in `Hash` takes part in `PartialEq`.
+abbrev pub AreHashedCompared : DeriveInput → List Field → Type 0
+AreHashedCompared definition fields =
+    AllByRecursion (λ field. is_kept trait.Hash definition field ≡ true → is_kept trait.PartialEq definition field ≡ true) fields
+
 -- The settings of the fields of a case match: the same fields take part in all listed comparisons; each field that takes part in
 -- `Hash` takes part in `PartialEq`; and both orders rank them alike.
 pub record MatchInCase (definition : DeriveInput) (fields : List Field) : Type 0 where
   pub compared : (which other : Comparison) → Lists definition (trait_of which) → Lists definition (trait_of other)
       → AllByRecursion (λ field. is_kept (trait_of which) definition field ≡ is_kept (trait_of other) definition field) fields
-  pub hashed : Lists definition trait.PartialEq → Lists definition trait.Hash
-      → AllByRecursion (λ field. is_kept trait.Hash definition field ≡ true → is_kept trait.PartialEq definition field ≡ true) fields
+  pub hashed : Lists definition trait.PartialEq → Lists definition trait.Hash → AreHashedCompared definition fields
   pub ranked : Lists definition trait.PartialOrd → Lists definition trait.Ord → AreRankedAlike definition fields
 
 -- The settings of a definition match: those of the fields of the struct, or of each variant, do.
@@ -138,8 +142,8 @@ AreSomeOf table definition values =
     → IsSomeOf In (says_at PartialOrd table definition place field) as_partial_order (says_at Ord table definition place field) as_order)
 
 -- Where two field values are equal, the field feeds a hasher the same of both.
-abbrev pub FeedAlike : Answers → DeriveInput → List Value → Type 0
-FeedAlike table definition values =
+abbrev pub FieldsFeedAlike : Answers → DeriveInput → List Value → Type 0
+FieldsFeedAlike table definition values =
     AtEachField definition values (λ place field In.
     TakesPart trait.PartialEq definition field → TakesPart trait.Hash definition field
     → FeedsAlike In (feeds_at table definition place field) as_part (says_at PartialEq table definition place field) as_truth)
@@ -152,19 +156,21 @@ pub record IsLawful (table : Answers) (definition : DeriveInput) (values : List 
   pub total_orders : AreTotalOrders table definition values
   pub equal_where_true : AreEqualWhereTrue Ord table definition values
   pub some_of : AreSomeOf table definition values
-  pub feed_alike : FeedAlike table definition values
+  pub feed_alike : FieldsFeedAlike table definition values
 
--- The table is lawful for `PartialOrd` alone, whether `Ord` is listed or not: among the field values that are found at the place of a
--- field, what it says to `PartialOrd` is a partial order, and Some(Equal) exactly where they are equal.
-pub record IsPartiallyLawful (table : Answers) (definition : DeriveInput) (values : List Value) : Type 0 where
+-- The table is lawful on these values for `PartialOrd`, whether `Ord` is listed or not: among the field values that are found at the
+-- place of a field, what it says to `PartialOrd` is a partial order, and Some(Equal) exactly where they are equal.
+pub record IsLawfulForPartialOrd (table : Answers) (definition : DeriveInput) (values : List Value) : Type 0 where
   pub partial_orders : ArePartialOrders table definition values
   pub equal_where_true : AreEqualWhereTrue PartialOrd table definition values
 
--- For each listed comparison the table covers each two of the values, of which one may stand for both.
+-- For a comparison the table covers each two of the values, and each value with itself.
+abbrev pub CoversFor : Comparison → Answers → DeriveInput → List Value → Type 0
+CoversFor which table definition values = (a b : Value) → Contains values a → Contains values b → Covers which table definition a b
+
+-- For each listed comparison the table covers each two of the values, and each value with itself.
 abbrev pub CoversEachTwo : Answers → DeriveInput → List Value → Type 0
-CoversEachTwo table definition values =
-    (which : Comparison) (a b : Value) → Lists definition (trait_of which) → Contains values a → Contains values b
-    → Covers which table definition a b
+CoversEachTwo table definition values = (which : Comparison) → Lists definition (trait_of which) → CoversFor which table definition values
 
 -- ---- a lawful table
 
@@ -173,6 +179,11 @@ abbrev pub HasNoMethods : DeriveInput → Trait → Type 0
 HasNoMethods definition which =
     (variant place : ℕ) (fields : List Field) (field : Field) → slice_get (cases_of definition) variant ≡ Some fields
     → slice_get fields place ≡ Some field → TakesPart which definition field → (kept_at which definition place field).how ≡ plainly
+
+-- No field has a method of a comparison or of `Hash` in which it takes part.
+pub record HasPlainFields (definition : DeriveInput) : Type 0 where
+  pub compared : (which : Comparison) → HasNoMethods definition (trait_of which)
+  pub hashed : HasNoMethods definition trait.Hash
 
 -- The table has no rows and answers by number.
 pub record IsByNumber (table : Answers) : Type 0 where
