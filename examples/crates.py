@@ -108,7 +108,7 @@ def resolve(folder, program, manifest):
         answer = run_cargo(folder, program, "generate-lockfile")
         if answer.returncode == 0:
             return None
-        named = re.search(r"no matching package named `([^`]+)`|for the requirement `([^ `]+)|package `?([\w-]+)[ `]", answer.stderr)
+        named = re.search(r"(?:no matching package named|searched package name:) `([^`]+)`|for the requirement `([^ `]+)|package `?([\w-]+)[ `]", answer.stderr)
         missing = next(filter(None, named.groups()), None) if named else None
         if missing is None or not without_dependency(manifest, missing):
             return missing or answer.stderr.strip().split("\n")[0]
@@ -145,8 +145,8 @@ def try_crate(source, program, derive, temporary):
     declare_macro(folder, manifest)
     passed, lines = test(folder, program)
     if passed is not None:
-        print(f"{name}: {count} derives, {passed} tests pass", flush=True)
-        return True
+        print(f"{name}: {count} derives, " + (f"{passed} tests pass" if passed else "compiled, no unit tests"), flush=True)
+        return True if passed else None
     shutil.rmtree(folder)
     resolve(folder, program, copy_of(source, folder))
     built_in, _ = test(folder, program)
@@ -163,7 +163,7 @@ def main():
     crates = [name for name in sorted(os.listdir(registry)) if os.path.isfile(os.path.join(registry, name, "Cargo.toml"))]
     chosen = [name for name in crates if not names or name in names or re.sub(r"-\d.*", "", name) in names]
     results = [try_crate(os.path.join(registry, name), program, derive, temporary) for name in chosen]
-    print(f"{results.count(True)} crates pass, {results.count(False)} do not, {results.count(None)} were not tried")
+    print(f"{results.count(True)} crates pass, {results.count(False)} do not, {results.count(None)} ran no test")
     sys.exit(not results or False in results)
 
 if __name__ == "__main__":
