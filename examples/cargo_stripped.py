@@ -12,10 +12,12 @@ import sys
 from strip import stripped
 
 SOURCE = r'''//! A file with definitions: #[educe(Debug)] is no attribute here.
+use educe::Educe;
 use std::rc::Rc;
 
 /* Nor /* here: #[educe(Debug)] */ */
 /// A handle.
+#[derive(Educe)]
 #[educe(PartialEq)] #[must_use]
 #[educe(
     Debug(name = "Shown"),
@@ -30,7 +32,7 @@ pub struct Handle<T> where T: Fn() -> u8 {
 
 mod levels {
     #[educe(PartialEq, PartialOrd, Default)]
-    #[derive(Clone)]
+    #[derive(Clone, educe::Educe)]
     pub(crate) enum Level { Low, #[educe(Default)] High(#[educe(PartialEq(ignore))]u8) }
 }
 
