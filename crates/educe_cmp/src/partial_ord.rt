@@ -3,7 +3,8 @@ use crate::handling::comparison_block;
 use educe_attrs::Stop;
 use educe_body::{Comparison, Items};
 use educe_bound::Trait;
-use educe_handlers::{EnumPart, StructPart, Task, TraitHandler, TraitHandlerContext};
+use educe_handlers::{EnumPart, StructPart, TraitHandler, TraitHandlerContext};
+use educe_settings::Task;
 use educe_syntax::{DeriveInput, Predicates};
 use std::alloc::Global;
 
@@ -26,8 +27,12 @@ impl TraitHandler for PartialOrdHandler {
         listed: &[Trait],
         ctx: &TraitHandlerContext,
     ) -> Result<(Items, Predicates), Stop> {
-        let which = Trait::PartialOrd;
-        let task = Task { which, ast, listed };
+        let trait_ = Trait::PartialOrd;
+        let task = Task {
+            trait_,
+            ast,
+            listed,
+        };
         comparison_block(alloc, Comparison::PartialOrd, task, ctx)
     }
 }

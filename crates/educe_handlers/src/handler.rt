@@ -6,15 +6,15 @@ ghost use Rattle.educe_syntax.specs.Shape.{Shape};
 ghost use Rattle.educe_bound_traits.specs.declared.traits.Trait.{Trait};
 ghost use Rattle.educe_attrs.specs.Causes.{NoCause, OfStop};
 ghost use Rattle.educe_attrs.specs.Phases.{OfHandler};
-ghost use Rattle.educe_laws.specs.Blocks.{IsBlock, EachEvaluates};
-ghost use Rattle.educe_laws.specs.Handled.{handling};
-ghost use Rattle.educe_laws.specs.Handlers.{IsReady, AddsBlock, AddsMeaning, AreNoted, traits_through};
-ghost use Rattle.educe_laws.specs.Headers.{ImplAdds};
+ghost use Rattle.educe_meaning.specs.Blocks.{IsBlock, EachEvaluates};
+ghost use Rattle.educe_settings.specs.Handled.{handling};
+ghost use Rattle.educe_meaning.specs.Handlers.{IsReady, AddsBlock, AddsMeaning, AreNoted, traits_through};
+ghost use Rattle.educe_meaning.specs.Headers.{ImplAdds};
 
+use crate::context::TraitHandlerContext;
 use educe_attrs::Stop;
 use educe_body::Items;
 use educe_bound::Trait;
-use educe_handlers_bounds::TraitHandlerContext;
 use educe_syntax::{DeriveInput, Predicates};
 use std::alloc::Global;
 

@@ -2,14 +2,14 @@
 ghost use Rattle.std.specs.Prelude.{◌≡◌, ◌++◌, map, IfOk, OnOk};
 ghost use Rattle.std.specs.List.{flat_map};
 ghost use Rattle.educe_bound_traits.specs.declared.traits.Trait.TheVariants.{Clone};
-ghost use Rattle.educe_handlers.specs.CaseSettings.{settings_in};
-ghost use Rattle.educe_handlers.specs.Ranked.{kept_of};
-ghost use Rattle.educe_laws.specs.Cases.{fields_in, cases_of};
-ghost use Rattle.educe_laws.specs.Settings.{settings_of, kept_fields, all_kept};
+ghost use Rattle.educe_settings.specs.CaseSettings.{settings_in};
+ghost use Rattle.educe_settings.specs.Ranked.{kept_of};
+ghost use Rattle.educe_settings.specs.Cases.{fields_in, cases_of};
+ghost use Rattle.educe_settings.specs.Settings.{settings_of, kept_fields, all_kept};
 
 use educe_attrs::FieldSettings;
-use educe_handlers::{Ranked, Task};
 use educe_make_markers::add_case;
+use educe_settings::{Ranked, Task};
 use educe_syntax::{Field, Shape, Variant};
 use educe_tokens::Seq;
 use std::alloc::{AllocError, Global};

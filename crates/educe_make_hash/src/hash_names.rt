@@ -3,7 +3,7 @@ ghost use Rattle.std.specs.Prelude.{◌≡◌, IfOk};
 ghost use Rattle.educe_tokens.specs.Appends.{no_place};
 ghost use Rattle.educe_tokens.specs.Spells.{IsWord};
 ghost use Rattle.educe_handlers.specs.OneWord.{IsWord-prop};
-ghost use Rattle.educe_laws.specs.HashBodies.{AreHashNames};
+ghost use Rattle.educe_meaning.specs.HashBodies.{AreHashNames};
 
 use educe_body::UsedIdents;
 use educe_handlers::{select, select_prefix};

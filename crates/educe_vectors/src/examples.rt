@@ -1,9 +1,10 @@
 //! The worked examples: a name, a text, and what is answered to it.
 
-use educe_vectors_runs::check_table;
+use crate::tables::check_table;
 use std::test::Fail;
 
 mod builders;
+mod commands;
 mod devices;
 mod discriminants;
 mod enums;

@@ -1,7 +1,6 @@
-//! Worked examples of words that are no command, inputs past the limit or not UTF-8, and devices that
-//! fail.
+//! Worked examples of inputs past the limit or not UTF-8, and of devices that fail.
 
-use educe_vectors_runs::Case;
+use crate::program::Case;
 use std::alloc::Global;
 use std::test::Fail;
 
@@ -18,15 +17,6 @@ fn check_blanks(alloc: Global, count: usize, code: u8, notes: &str) -> Result<()
 #[test]
 fn blanks_up_to_the_limit_are_no_definition(rt: HostRuntime) -> Result<(), Fail> {
     check_blanks(rt.alloc(), 131_072, 1, "1:1: syntax error\n")
-}
-
-#[test]
-fn unknown_words_show_the_usage(rt: HostRuntime) -> Result<(), Fail> {
-    let case = Case {
-        word: "expnd",
-        ..Case::of(b"", 2, "", "usage: educe expand\n")
-    };
-    case.check(rt.alloc())
 }
 
 #[test]
@@ -88,7 +78,7 @@ fn a_failed_write_is_a_fault(rt: HostRuntime) -> Result<(), Fail> {
         )
     };
     let notes = Case {
-        word: "expnd",
+        words: &["expnd"],
         failing_notes: &[1],
         ..Case::of(b"", 4, "", "usage: edu")
     };

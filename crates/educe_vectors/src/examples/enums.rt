@@ -1,7 +1,7 @@
 //! Worked examples of enums: the text of their comparisons, and where and why they are rejected
 //! (documentation of `educe`, PartialEq; PartialOrd; Ord; Rust Reference, Enumerations).
 
-use educe_vectors_runs::check_table;
+use crate::tables::check_table;
 use std::test::Fail;
 
 static TEXTS: &str = r#"

@@ -2,7 +2,7 @@ use Rattle.std.proofs.Common.{◌≡◌, ap, ◌∙◌}
 use Rattle.educe_tokens.specs.Copied.{copied}
 use Rattle.educe_tokens.specs.Lexes.{lexemes}
 use Rattle.educe_tokens.proofs.Appending.{lexemes-Appends}
-use Rattle.educe_laws.specs.Making.{default_tokens}
+use Rattle.educe_meaning.specs.Making.{default_tokens}
 use Rattle.educe_make_default.proofs.DefaultTexts.{default_fits, default_kept}
 use Rattle.educe_make_default.proofs.default_texts.default_call.Goals as goal
 

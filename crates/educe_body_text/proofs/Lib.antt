@@ -1,0 +1,2 @@
+pub mod EqDecides
+pub mod OrderDecides

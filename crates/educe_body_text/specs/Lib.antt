@@ -1,0 +1,15 @@
+pub mod Spelled
+pub mod Words
+pub mod OneToken
+pub mod Parts
+pub mod GrammarParts
+pub mod PathParts
+pub mod PathLaws
+pub mod ValueParts
+pub mod ValueLaws
+pub mod Leaves
+pub mod Calls
+pub mod Patterns
+pub mod EqText
+pub mod KeyText
+pub mod OrderText
