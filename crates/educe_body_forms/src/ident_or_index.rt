@@ -96,7 +96,8 @@ impl IdentOrIndex {
         self.push_name(alloc, &mut tokens)?;
         tokens.append(value.duplicate(alloc)?)?;
         quote(alloc, &mut tokens, ",")?;
-        tokens.into_tokens(alloc)
+        let initializer = tokens.into_tokens(alloc)?;
+        Ok(initializer)
     }
 
     /// Appends the name of the field and a colon, where it has a name.
