@@ -166,7 +166,8 @@ pub fn generated_lint_attributes(
 {
     let mut tokens = TokenStream::new(alloc);
     push_lints(alloc, &mut tokens, attributes)?;
-    tokens.into_slice(alloc)
+    let slice = tokens.into_slice(alloc)?;
+    Ok(slice)
 }
 
 /// The attributes of an impl that is generated for a type with these attributes:
@@ -184,5 +185,6 @@ pub fn generated_impl_attributes(
     let mut tokens = TokenStream::new(alloc);
     quote(alloc, &mut tokens, "# [ automatically_derived ]")?;
     push_lints(alloc, &mut tokens, attributes)?;
-    tokens.into_slice(alloc)
+    let slice = tokens.into_slice(alloc)?;
+    Ok(slice)
 }

@@ -11,7 +11,8 @@ use Rattle.educe_bound.specs.declared.bound.Bound.TheVariants.{Disabled, Auto, A
 use Rattle.educe_bound.specs.Predicates.{Key, exceptions_of, AreByBound}
 use Rattle.educe_bound.specs.Sets.{AreOnceByBound}
 use Rattle.educe_bound.proofs.Once.{auto_is, all_is}
-use Rattle.educe_meaning.specs.Headers.{AreCopied, ArePacked, Inherits}
+use Rattle.educe_meaning.specs.Headers.{ArePacked, Inherits}
+use Rattle.educe_settings.specs.Packed.{AreCopied}
 use Rattle.educe_settings.specs.Rows.{reads_fields}
 use Rattle.educe_settings.specs.Settings.{bound_for}
 use Rattle.educe_settings.specs.Types.{AreTypes}

@@ -19,7 +19,7 @@ use Rattle.educe_attrs.specs.FieldSettings.{FieldSettings}
 use Rattle.educe_body_values.specs.declared.answers.Answers.{Answers}
 use Rattle.educe_bound_traits.specs.declared.traits.Trait.TheVariants as trait
 use Rattle.educe_body_forms.specs.declared.comparison.Comparison.{Comparison}
-use Rattle.educe_body_forms.specs.declared.comparison.Comparison.TheVariants.{PartialEq}
+use Rattle.educe_body_forms.specs.declared.comparison.Comparison.TheVariants.{PartialEq, PartialOrd, Ord}
 use Rattle.educe_body_values.specs.declared.environment.Binding.{Binding}
 use Rattle.educe_body_values.specs.declared.environment.Env.{Env}
 use Rattle.educe_body_values.specs.declared.environment.Own.{Own}

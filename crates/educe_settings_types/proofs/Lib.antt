@@ -1,4 +1,4 @@
-pub mod Visits
+pub mod Sees
 pub mod CheckedTypes
 pub mod Bitwise
 pub mod Variants

@@ -1,5 +1,5 @@
 use Rattle.std.proofs.Common.{subst, map}
-use Rattle.educe_handlers.specs.Ranked.{kept_of}
+use Rattle.educe_settings.specs.Ranked.{kept_of}
 use Rattle.educe_meaning.specs.Arms.{IsPatternBy}
 use Rattle.educe_handlers.proofs.Named.{name_copied}
 use Rattle.educe_cmp.proofs.arms.fields_block.Goals as goal

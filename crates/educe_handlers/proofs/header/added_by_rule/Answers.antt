@@ -7,7 +7,7 @@ use Rattle.educe_meaning.specs.Headers.{ArePacked, Inherits, prerequisites}
 use Rattle.educe_settings.specs.Rows.{reads_fields}
 use Rattle.educe_meaning.proofs.ReadHeaders.{parts_read, names_read, types_read}
 use Rattle.educe_handlers.specs.Adding.{Adds}
-use Rattle.educe_handlers.specs.SeenTypes.{read_of, touched_of}
+use Rattle.educe_settings.specs.SeenTypes.{read_of, touched_of}
 use Rattle.educe_handlers.proofs.RuledBounds.{own_is}
 use Rattle.educe_handlers.proofs.header.added_by_rule.Goals as goal
 

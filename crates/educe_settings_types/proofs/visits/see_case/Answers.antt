@@ -3,7 +3,7 @@ use Rattle.educe_settings.specs.declared.ranked.Ranked.{Ranked}
 use Rattle.educe_settings.specs.Ranked.{kept_of}
 use Rattle.educe_settings.specs.Settings.{kept_fields}
 use Rattle.educe_settings.specs.Order.{IsInOrder}
-use Rattle.educe_settings_types.proofs.Visits.{sees_one}
+use Rattle.educe_settings_types.proofs.Sees.{sees_one}
 use Rattle.educe_settings_types.proofs.visits.see_case.Goals as goal
 
 pub returns-clause-types : goal.returns-clause-types

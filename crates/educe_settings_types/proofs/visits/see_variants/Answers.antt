@@ -3,7 +3,7 @@ use Rattle.std.proofs.lemmas.List.{take_all}
 use Rattle.educe_syntax.specs.Variant.{Variant}
 use Rattle.educe_settings_types.specs.Visits.{Sees}
 use Rattle.educe_settings.proofs.Uncaused.{variant_stopped}
-use Rattle.educe_settings_types.proofs.Visits.{sees_none, sees_more}
+use Rattle.educe_settings_types.proofs.Sees.{sees_none, sees_more}
 use Rattle.educe_settings.specs.Cases.{fields_in}
 use Rattle.educe_settings_types.proofs.visits.see_variants.Goals as goal
 

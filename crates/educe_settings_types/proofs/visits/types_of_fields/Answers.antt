@@ -1,4 +1,4 @@
-use Rattle.educe_settings_types.proofs.Visits.{sees_all}
+use Rattle.educe_settings_types.proofs.Sees.{sees_all}
 use Rattle.educe_settings_types.proofs.visits.types_of_fields.Goals as goal
 
 pub returns-clause-types : goal.returns-clause-types

@@ -11,8 +11,8 @@ use Rattle.educe_bound.specs.declared.bound.Bound.{Bound}
 use Rattle.educe_bound.specs.Predicates.{keys_of, asks_for, AreByBound, SufficeBy, AreMinimalBy, AreRead}
 use Rattle.educe_bound.proofs.bound.Bound.into_where_predicates_by_generic_parameters_check_types.Goals as goal
 
-pub returns-in-Auto-clause-keys : goal.returns-in-Auto-clause-keys
-returns-in-Auto-clause-keys c =
+pub returns-in_ok-needed-in-Auto-clause-keys : goal.returns-in_ok-needed-in-Auto-clause-keys
+returns-in_ok-needed-in-Auto-clause-keys c =
     let ex = c.args.exceptions.now in
     let params = c.args.params.now in
     let self = c.args.self_ident.now.text in
@@ -21,8 +21,8 @@ returns-in-Auto-clause-keys c =
     subst (λ (found : List WherePredicate). AreByBound c.args.self.now ex params self which types (keys_of found)) (sym c.into_list.ensures.list)
     (subst (λ (bound : Bound). AreByBound bound ex params self which types (keys_of c.in_ok-needed.needed)) (sym c.in-Auto.is) c.in_ok-needed.ensures.keys)
 
-pub returns-in-Auto-clause-suffice : goal.returns-in-Auto-clause-suffice
-returns-in-Auto-clause-suffice c =
+pub returns-in_ok-needed-in-Auto-clause-suffice : goal.returns-in_ok-needed-in-Auto-clause-suffice
+returns-in_ok-needed-in-Auto-clause-suffice c =
     let ex = c.args.exceptions.now in
     let params = c.args.params.now in
     let self = c.args.self_ident.now.text in
@@ -33,8 +33,8 @@ returns-in-Auto-clause-suffice c =
     (subst (λ (bound : Bound). SufficeBy bound ex params self which types (keys_of needed)) (sym c.in-Auto.is)
     (always_suffice ex params self (asks_for which) types (keys_of needed) c.in_ok-needed.ensures.keys))
 
-pub returns-in-Auto-clause-minimal : goal.returns-in-Auto-clause-minimal
-returns-in-Auto-clause-minimal c = λ read.
+pub returns-in_ok-needed-in-Auto-clause-minimal : goal.returns-in_ok-needed-in-Auto-clause-minimal
+returns-in_ok-needed-in-Auto-clause-minimal c = λ read.
     let ex = c.args.exceptions.now in
     let params = c.args.params.now in
     let self = c.args.self_ident.now.text in
@@ -46,5 +46,5 @@ returns-in-Auto-clause-minimal c = λ read.
     (subst (λ (bound : Bound). AreMinimalBy bound ex params self which types (keys_of needed)) (sym c.in-Auto.is)
     (always_minimal ex params self (asks_for which) types (keys_of needed) readings c.in_ok-needed.ensures.keys))
 
-pub returns-in-Auto-clause-read : goal.returns-in-Auto-clause-read
-returns-in-Auto-clause-read c = λ bound names types. subst AreRead (sym c.into_list.ensures.list) (c.in_ok-needed.ensures.read names types)
+pub returns-in_ok-needed-in-Auto-clause-read : goal.returns-in_ok-needed-in-Auto-clause-read
+returns-in_ok-needed-in-Auto-clause-read c = λ bound names types. subst AreRead (sym c.into_list.ensures.list) (c.in_ok-needed.ensures.read names types)

@@ -36,8 +36,8 @@ returns-in-Auto c =
       read = λ bound names types. c.needed_predicates.ensures.read names types;
     }
 
-pub returns-in-All : goal.returns-in-All
-returns-in-All c =
+pub returns-in_ok-predicates_on_params-in-All : goal.returns-in_ok-predicates_on_params-in-All
+returns-in_ok-predicates_on_params-in-All c =
     let ex = c.args.exceptions.now in
     let params = c.args.params.now in
     let self = c.args.self_ident.now.text in
@@ -57,7 +57,7 @@ returns-in-Custom c =
     let self = c.args.self_ident.now.text in
     let which = c.args.bound_trait in
     let types = map (λ (t : Bor Ty). t.now) c.args.types.now in
-    let listed = c.in-Custom.predicates.now in
+    let listed = c.in-Custom.predicates in
     record {
       keys = once_if c.args.self.now ex params self which types (keys_of listed) c.set_of-in-Custom.result
           (subst (λ (bound : Bound). AreByBound bound ex params self which types (keys_of listed)) (sym c.in-Custom.is) refl) c.set_of-in-Custom.ensures.keys;

@@ -23,16 +23,16 @@ pub invariant_of-self-in-Err-add : goal.invariant_of-self-in-Err-add
 invariant_of-self-in-Err-add c =
     let set = c.self.inside in
     let numbers = popped set.numbers c.push.new.self c.pop.new.self c.len-place.result c.pop.result c.in_ok-push.ensures.ok c.pop.ensures.some c.pop.ensures.none c.pop.ensures.empty in
-    let list = popped set.list c.push-2.new.self c.pop-2.new.self c.in_ok-copy.copy c.pop-2.result c.in-Ok.ensures.ok c.pop-2.ensures.some c.pop-2.ensures.none c.pop-2.ensures.empty in
-    kept_same set.list c.pop-2.new.self set.interner c.add.new.self set.numbers c.pop.new.self c.self.invariant c.in-Err-add.ensures.err numbers list
+    let list = popped set.list c.push-2.new.self c.pop-in-Err-add.new.self c.in_ok-copy.copy c.pop-in-Err-add.result c.in-Ok.ensures.ok c.pop-in-Err-add.ensures.some c.pop-in-Err-add.ensures.none c.pop-in-Err-add.ensures.empty in
+    kept_same set.list c.pop-in-Err-add.new.self set.interner c.add.new.self set.numbers c.pop.new.self c.self.invariant c.in-Err-add.ensures.err numbers list
 
 pub returns-in-Err-add-clause-err : goal.returns-in-Err-add-clause-err
 returns-in-Err-add-clause-err c =
-    popped c.self.inside.list c.push-2.new.self c.pop-2.new.self c.in_ok-copy.copy c.pop-2.result c.in-Ok.ensures.ok c.pop-2.ensures.some c.pop-2.ensures.none c.pop-2.ensures.empty ∙ c.self.view_is
+    popped c.self.inside.list c.push-2.new.self c.pop-in-Err-add.new.self c.in_ok-copy.copy c.pop-in-Err-add.result c.in-Ok.ensures.ok c.pop-in-Err-add.ensures.some c.pop-in-Err-add.ensures.none c.pop-in-Err-add.ensures.empty ∙ c.self.view_is
 
 pub invariant_of-self-in-Err-push : goal.invariant_of-self-in-Err-push
 invariant_of-self-in-Err-push c =
     let set = c.self.inside in
-    let numbers = popped set.numbers c.push.new.self c.pop-in-Err-push.new.self c.len-place.result c.pop-in-Err-push.result c.in_ok-push.ensures.ok c.pop-in-Err-push.ensures.some c.pop-in-Err-push.ensures.none
-    c.pop-in-Err-push.ensures.empty in
-    kept_same set.list c.push-2.new.self set.interner set.interner set.numbers c.pop-in-Err-push.new.self c.self.invariant refl numbers c.in-Err.ensures.err
+    let numbers = popped set.numbers c.push.new.self c.pop-in-Err.new.self c.len-place.result c.pop-in-Err.result c.in_ok-push.ensures.ok c.pop-in-Err.ensures.some c.pop-in-Err.ensures.none
+    c.pop-in-Err.ensures.empty in
+    kept_same set.list c.push-2.new.self set.interner set.interner set.numbers c.pop-in-Err.new.self c.self.invariant refl numbers c.in-Err.ensures.err
