@@ -19,7 +19,7 @@ returns-in_ok-needed-in-Auto-clause-keys c =
     let which = c.args.bound_trait in
     let types = map (λ (t : Bor Ty). t.now) c.args.types.now in
     subst (λ (found : List WherePredicate). AreByBound c.args.self.now ex params self which types (keys_of found)) (sym c.into_list.ensures.list)
-    (subst (λ (bound : Bound). AreByBound bound ex params self which types (keys_of c.in_ok-needed.needed)) (sym c.in-Auto.is) c.in_ok-needed.ensures.keys)
+    (subst (λ (bound : Bound). AreByBound bound ex params self which types (keys_of c.in_ok-needed-in-Auto.needed)) (sym c.in-Auto.is) c.in_ok-needed-in-Auto.ensures.keys)
 
 pub returns-in_ok-needed-in-Auto-clause-suffice : goal.returns-in_ok-needed-in-Auto-clause-suffice
 returns-in_ok-needed-in-Auto-clause-suffice c =
@@ -28,10 +28,10 @@ returns-in_ok-needed-in-Auto-clause-suffice c =
     let self = c.args.self_ident.now.text in
     let which = c.args.bound_trait in
     let types = map (λ (t : Bor Ty). t.now) c.args.types.now in
-    let needed = c.in_ok-needed.needed in
+    let needed = c.in_ok-needed-in-Auto.needed in
     subst (λ (found : List WherePredicate). SufficeBy c.args.self.now ex params self which types (keys_of found)) (sym c.into_list.ensures.list)
     (subst (λ (bound : Bound). SufficeBy bound ex params self which types (keys_of needed)) (sym c.in-Auto.is)
-    (always_suffice ex params self (asks_for which) types (keys_of needed) c.in_ok-needed.ensures.keys))
+    (always_suffice ex params self (asks_for which) types (keys_of needed) c.in_ok-needed-in-Auto.ensures.keys))
 
 pub returns-in_ok-needed-in-Auto-clause-minimal : goal.returns-in_ok-needed-in-Auto-clause-minimal
 returns-in_ok-needed-in-Auto-clause-minimal c = λ read.
@@ -40,11 +40,11 @@ returns-in_ok-needed-in-Auto-clause-minimal c = λ read.
     let self = c.args.self_ident.now.text in
     let which = c.args.bound_trait in
     let types = map (λ (t : Bor Ty). t.now) c.args.types.now in
-    let needed = c.in_ok-needed.needed in
+    let needed = c.in_ok-needed-in-Auto.needed in
     let readings = all_more IsReadType IsReading (λ ty is. (depth_limit, is)) types read in
     subst (λ (found : List WherePredicate). AreMinimalBy c.args.self.now ex params self which types (keys_of found)) (sym c.into_list.ensures.list)
     (subst (λ (bound : Bound). AreMinimalBy bound ex params self which types (keys_of needed)) (sym c.in-Auto.is)
-    (always_minimal ex params self (asks_for which) types (keys_of needed) readings c.in_ok-needed.ensures.keys))
+    (always_minimal ex params self (asks_for which) types (keys_of needed) readings c.in_ok-needed-in-Auto.ensures.keys))
 
 pub returns-in_ok-needed-in-Auto-clause-read : goal.returns-in_ok-needed-in-Auto-clause-read
-returns-in_ok-needed-in-Auto-clause-read c = λ bound names types. subst AreRead (sym c.into_list.ensures.list) (c.in_ok-needed.ensures.read names types)
+returns-in_ok-needed-in-Auto-clause-read c = λ bound names types. subst AreRead (sym c.into_list.ensures.list) (c.in_ok-needed-in-Auto.ensures.read names types)

@@ -43,11 +43,11 @@ returns-in_ok-predicates_on_params-in-All c =
     let self = c.args.self_ident.now.text in
     let which = c.args.bound_trait in
     let types = map (λ (t : Bor Ty). t.now) c.args.types.now in
-    let listed = c.in_ok-predicates_on_params.field-0 in
+    let listed = c.in_ok-predicates_on_params-in-All.field-0 in
     record {
-      keys = once_if c.args.self.now ex params self which types (keys_of listed) c.set_of.result
-          (subst (λ (bound : Bound). AreByBound bound ex params self which types (keys_of listed)) (sym c.in-All.is) c.in_ok-predicates_on_params.ensures.keys) c.set_of.ensures.keys;
-      read = λ bound names types. c.set_of.ensures.read (c.in_ok-predicates_on_params.ensures.read names);
+      keys = once_if c.args.self.now ex params self which types (keys_of listed) c.set_of-in-All.result
+          (subst (λ (bound : Bound). AreByBound bound ex params self which types (keys_of listed)) (sym c.in-All.is) c.in_ok-predicates_on_params-in-All.ensures.keys) c.set_of-in-All.ensures.keys;
+      read = λ bound names types. c.set_of-in-All.ensures.read (c.in_ok-predicates_on_params-in-All.ensures.read names);
     }
 
 pub returns-in-Custom : goal.returns-in-Custom
