@@ -24,8 +24,11 @@ pub(crate) fn refused(alloc: Global, meta: &Meta) -> Result<FieldAttribute, Educ
     ensures reads { Reads fields.no_row fields.IsOfNothing meta.now result }
     ensures refused { MatchResult result (λ _. ⊥) (fields.IsOutOfPlace meta.now) }
 {
-    read_meta(alloc, &Row::EMPTY, meta)?;
-    Ok(FieldAttribute)
+    // With `?` the clause would be of the converted error, and not of the one that is handed on.
+    match read_meta(alloc, &Row::EMPTY, meta) {
+        Ok(_) => Ok(FieldAttribute),
+        Err(error) => Err(error),
+    }
 }
 
 /// The forms of the attribute that a field allows, of the trait at this place in `Trait::VARIANTS`:

@@ -1,7 +1,6 @@
 -- What is said of a field, and what a reversed field makes of it.
 use Rattle.std.proofs.Common.{◌≡◌, Bool, true, false, Option, Some, None, refl}
 use Rattle.std.specs.Prelude.{IsSome}
-use Rattle.std.specs.Option.{option_map}
 use Rattle.educe_body_forms.specs.declared.comparison.Comparison.TheVariants.{PartialEq}
 use Rattle.educe_body_forms.specs.declared.form.Known.{Known}
 use Rattle.educe_body_values.specs.declared.answers.Answer.{Answer}
