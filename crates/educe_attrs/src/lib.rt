@@ -1,6 +1,7 @@
 //! The attributes of a definition: for each trait a module with its builders and what they build
 //! for a type, a variant or a field (documentation of `educe`, each trait's section). Also
-//! re-exports what users of attributes need of the layers below.
+//! re-exports what users of attributes need of the layers below. `IdentOrIndex`, a field's name or
+//! index, is in the crate `educe_body_forms`, with the bindings that are made of it.
 #![tactic(auto)]
 
 mod bound_only;

@@ -1,6 +1,6 @@
 //! Bodies and items: the forms, the functions and items that hold them, what these are printed as,
 //! and what bodies evaluate to. This crate has no code of its own: it passes on what users of bodies
-//! name.
+//! name. The evaluator, `eval`, is in the crate `educe_body_eval`.
 #![tactic(auto)]
 
 pub use educe_body_forms::{

@@ -70,7 +70,8 @@ fn predicate_of(
     which: Trait,
 ) -> Result<WherePredicate, AllocError>
     ensures key { IfOk result (λ found. spec.key_of found ≡ needs.key_of (spec.asks_for which) asked.now) }
-    ensures read { (params : List GenericParam) (ex : Exceptions) (self : List ℕ) → needs.IsAskedRead params ex self asked.now → IfOk result IsReadPredicate }
+    ensures read { (params : List GenericParam) (ex : Exceptions) (self : List ℕ) →
+        needs.IsAskedRead params ex self asked.now → IfOk result IsReadPredicate }
 {
     match asked {
         Asked::Itself(ty) => predicate_on(alloc, *ty, which),
@@ -85,7 +86,8 @@ fn predicates_of(
     which: Trait,
 ) -> Result<PredicateSet, AllocError>
     ensures keys { IfOk result (λ found. Extends [] (needs.keys_of (spec.asks_for which) asked.now) (spec.keys_of found)) }
-    ensures read { (params : List GenericParam) (ex : Exceptions) (self : List ℕ) → needs.AreAskedRead params ex self asked.now → IfOk result spec.AreRead }
+    ensures read { (params : List GenericParam) (ex : Exceptions) (self : List ℕ) →
+        needs.AreAskedRead params ex self asked.now → IfOk result spec.AreRead }
 {
     let mut found = PredicateSet::new(alloc);
     for one in asked {
@@ -105,7 +107,8 @@ pub fn needed_predicates(
     self_ident: &Ident,
     exceptions: &BoundExceptions,
 ) -> Result<PredicateSet, AllocError>
-    ensures keys { IfOk result (λ found. AreOwn exceptions.now params.now self_ident.now.text (spec.asks_for which) (needs.types_of types.now) (spec.keys_of found)) }
+    ensures keys { IfOk result (λ found. AreOwn exceptions.now params.now self_ident.now.text (spec.asks_for which)
+        (needs.types_of types.now) (spec.keys_of found)) }
     ensures read { AreNames params.now → AllByRecursion IsReadType (needs.types_of types.now) → IfOk result spec.AreRead }
 {
     let asker = Asker::new(alloc, exceptions, params, &self_ident.text)?;

@@ -32,11 +32,16 @@ impl Bound {
         self_ident: &Ident,
         exceptions: &BoundExceptions,
     ) -> Result<Predicates, AllocError>
-        ensures keys { IfOk result (λ found. spec.AreByBound self.now exceptions.now params.now self_ident.now.text bound_trait (map (λ (t : Bor Ty). t.now) types.now) (spec.keys_of found)) }
+        ensures keys { IfOk result (λ found. spec.AreByBound self.now exceptions.now params.now self_ident.now.text
+            bound_trait (map (λ (t : Bor Ty). t.now) types.now) (spec.keys_of found)) }
         // Under the automatic bound the predicates suffice, and none can be dropped.
-        ensures suffice { IfOk result (λ found. spec.SufficeBy self.now exceptions.now params.now self_ident.now.text bound_trait (map (λ (t : Bor Ty). t.now) types.now) (spec.keys_of found)) }
-        ensures minimal { AllByRecursion IsReadType (map (λ (t : Bor Ty). t.now) types.now) → IfOk result (λ found. spec.AreMinimalBy self.now exceptions.now params.now self_ident.now.text bound_trait (map (λ (t : Bor Ty). t.now) types.now) (spec.keys_of found)) }
-        ensures read { spec.IsReadBound self.now → AreNames params.now → AllByRecursion IsReadType (map (λ (t : Bor Ty). t.now) types.now) → IfOk result spec.AreRead }
+        ensures suffice { IfOk result (λ found. spec.SufficeBy self.now exceptions.now params.now self_ident.now.text
+            bound_trait (map (λ (t : Bor Ty). t.now) types.now) (spec.keys_of found)) }
+        ensures minimal { AllByRecursion IsReadType (map (λ (t : Bor Ty). t.now) types.now) →
+            IfOk result (λ found. spec.AreMinimalBy self.now exceptions.now params.now self_ident.now.text bound_trait
+            (map (λ (t : Bor Ty). t.now) types.now) (spec.keys_of found)) }
+        ensures read { spec.IsReadBound self.now → AreNames params.now →
+            AllByRecursion IsReadType (map (λ (t : Bor Ty). t.now) types.now) → IfOk result spec.AreRead }
     {
         match self {
             Bound::Disabled => Ok(Seq::new(alloc)),
@@ -67,8 +72,10 @@ impl Bound {
         self_ident: &Ident,
         exceptions: &BoundExceptions,
     ) -> Result<PredicateSet, AllocError>
-        ensures keys { IfOk result (λ found. AreOnceByBound self.now exceptions.now params.now self_ident.now.text bound_trait (map (λ (t : Bor Ty). t.now) types.now) (spec.keys_of found)) }
-        ensures read { spec.IsReadBound self.now → AreNames params.now → AllByRecursion IsReadType (map (λ (t : Bor Ty). t.now) types.now) → IfOk result spec.AreRead }
+        ensures keys { IfOk result (λ found. AreOnceByBound self.now exceptions.now params.now self_ident.now.text
+            bound_trait (map (λ (t : Bor Ty). t.now) types.now) (spec.keys_of found)) }
+        ensures read { spec.IsReadBound self.now → AreNames params.now →
+            AllByRecursion IsReadType (map (λ (t : Bor Ty). t.now) types.now) → IfOk result spec.AreRead }
     {
         match self {
             Bound::Disabled => Ok(PredicateSet::new(alloc)),
@@ -89,7 +96,8 @@ impl Bound {
         types: &[&Ty],
         self_ident: &Ident,
     ) -> Result<Predicates, AllocError>
-        ensures keys { IfOk result (λ found. spec.AreCopies self.now params.now self_ident.now.text (map (λ (t : Bor Ty). t.now) types.now) (spec.keys_of found)) }
+        ensures keys { IfOk result (λ found. spec.AreCopies self.now params.now self_ident.now.text
+            (map (λ (t : Bor Ty). t.now) types.now) (spec.keys_of found)) }
         ensures read { AreNames params.now → AllByRecursion IsReadType (map (λ (t : Bor Ty). t.now) types.now) → IfOk result spec.AreRead }
     {
         match self {

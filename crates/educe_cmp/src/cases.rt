@@ -89,6 +89,7 @@ fn variant_arms(
     for variant in variants {
         match variant_arm(alloc, which, task, &plain, names, variant) {
             Ok(arm) => arms.push(arm)?,
+            // (`?` would convert the rejection, which its clause takes as it is.)
             Err(stop) => return Err(stop),
         }
     }

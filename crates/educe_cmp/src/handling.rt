@@ -58,7 +58,8 @@ pub fn comparison_block(
     requires same { task.trait_ ≡ comparisons.trait_of which }
     requires ready { IsReady task.trait_ task.ast.now task.listed.now ctx.now }
     ensures block { IfOk result (λ found. IsComparisonBlock which task.entry.ast.now found.0) }
-    ensures means { IfOk result (λ found. length task.entry.ast.now.tokens ≤ 2 ^ 64 → AllByRecursion (EachEvaluates task.entry.ast.now) found.0) }
+    ensures means { IfOk result (λ found. length task.entry.ast.now.tokens ≤ 2 ^ 64 →
+        AllByRecursion (EachEvaluates task.entry.ast.now) found.0) }
     ensures added { IfOk result (λ found. ImplAdds task.entry.ast.now task.entry.trait_ found.1) }
     ensures uncaused { IfOk result (λ _. NoCause (OfHandler (handling task.entry.ast.now) task.entry.trait_)) }
     ensures err { IfErr result (λ s. OfStop (OfHandler (handling task.entry.ast.now) task.entry.trait_) s) }

@@ -65,6 +65,7 @@ fn read(alloc: Global, source: &str) -> Result<DeriveInput, EduceError>
 {
     let tokens = match lex(alloc, source) {
         Ok(tokens) => tokens,
+        // (`?` would convert the rejection, which its clause takes as it is.)
         Err(lexical) => return Err(lexical),
     };
     match TokenSlice::new(alloc, tokens) {
@@ -93,10 +94,12 @@ fn expanded(alloc: Global, source: &str) -> Result<Expansion, EduceError>
 {
     let ast = match read(alloc, source) {
         Ok(ast) => ast,
+        // (`?` would convert the rejection, which its clause takes as it is.)
         Err(unread) => return Err(unread),
     };
     let items = match derive_input_handler(alloc, &ast) {
         Ok(items) => items,
+        // (`?` would convert the rejection, which its clause takes as it is.)
         Err(error) => return Err(error),
     };
     let tokens = count(&ast.tokens);

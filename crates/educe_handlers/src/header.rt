@@ -38,8 +38,10 @@ fn own_set(
     types: &SeenTypes<'_>,
 ) -> Result<PredicateSet, AllocError>
     ensures keys { let which = task.entry.trait_ in let ast = task.entry.ast.now in
-        IfOk result (λ found. AreOnceByBound bound.now (exceptions_of which) ast.generics.params ast.ident.text which (touched_of types.now) (keys_of found)) }
-    ensures read { IsReadBound bound.now → AreNames task.entry.ast.now.generics.params → AllByRecursion IsReadType (touched_of types.now) → IfOk result AreRead }
+        IfOk result (λ found. AreOnceByBound bound.now (exceptions_of which) ast.generics.params ast.ident.text which
+            (touched_of types.now) (keys_of found)) }
+    ensures read { IsReadBound bound.now → AreNames task.entry.ast.now.generics.params →
+        AllByRecursion IsReadType (touched_of types.now) → IfOk result AreRead }
 {
     let exceptions = exceptions_of(task.trait_);
     bound.predicate_set(
@@ -60,8 +62,10 @@ fn own_predicates(
     types: &SeenTypes<'_>,
 ) -> Result<Predicates, AllocError>
     ensures keys { let which = task.entry.trait_ in let ast = task.entry.ast.now in
-        IfOk result (λ found. AreByBound bound.now (exceptions_of which) ast.generics.params ast.ident.text which (touched_of types.now) (keys_of found)) }
-    ensures read { IsReadBound bound.now → AreNames task.entry.ast.now.generics.params → AllByRecursion IsReadType (touched_of types.now) → IfOk result AreRead }
+        IfOk result (λ found. AreByBound bound.now (exceptions_of which) ast.generics.params ast.ident.text which
+            (touched_of types.now) (keys_of found)) }
+    ensures read { IsReadBound bound.now → AreNames task.entry.ast.now.generics.params →
+        AllByRecursion IsReadType (touched_of types.now) → IfOk result AreRead }
 {
     let exceptions = exceptions_of(task.trait_);
     bound.into_where_predicates_by_generic_parameters_check_types(
@@ -115,7 +119,8 @@ fn added_by_rule(
     requires types { AreTypes task.trait_ task.ast.now (read_of types.now) (touched_of types.now) }
     requires copied { AreCopied task.ast.now copied }
     requires noted { AreNotedRead ctx.now }
-    ensures adds { IfOk result (λ all. Adds task.entry.trait_ task.entry.ast.now (inherited_from ctx.now (spec.prerequisites task.entry.trait_)) (keys_of all)) }
+    ensures adds { IfOk result (λ all. Adds task.entry.trait_ task.entry.ast.now
+        (inherited_from ctx.now (spec.prerequisites task.entry.trait_)) (keys_of all)) }
     ensures read { IfOk result AreRead }
 {
     let by_copies = are_copied(task.trait_, copied);
@@ -141,7 +146,8 @@ fn added(
     requires types { AreTypes task.trait_ task.ast.now (read_of types.now) (touched_of types.now) }
     requires copied { AreCopied task.ast.now copied }
     requires noted { AreNotedRead ctx.now }
-    ensures adds { IfOk result (λ all. Adds task.entry.trait_ task.entry.ast.now (inherited_from ctx.now (spec.prerequisites task.entry.trait_)) (keys_of all)) }
+    ensures adds { IfOk result (λ all. Adds task.entry.trait_ task.entry.ast.now
+        (inherited_from ctx.now (spec.prerequisites task.entry.trait_)) (keys_of all)) }
     ensures read { IfOk result AreRead }
 {
     match bound {

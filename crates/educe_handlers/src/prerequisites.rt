@@ -30,7 +30,8 @@ pub fn inherit(
     ctx: &TraitHandlerContext,
     own: &mut PredicateSet,
 ) -> Result<(), AllocError>
-    ensures ok { OnOk result (spec.Inherits bound.now (keys_of own.old) (inherited_from ctx.now (spec.prerequisites which)) (keys_of own.new)) }
+    ensures ok { OnOk result (spec.Inherits bound.now (keys_of own.old)
+        (inherited_from ctx.now (spec.prerequisites which)) (keys_of own.new)) }
     ensures kept { HasPrefix own.old own.new }
     ensures read { AreNotedRead ctx.now → AreRead own.old → OnOk result (AreRead own.new) }
 {

@@ -107,7 +107,8 @@ fn all_arms(
     requires clones { task.trait_ ≡ Clone }
     requires settings { settings.now ≡ settings_in Clone task.ast.now (map fields_in variants.now) }
     ensures clone { IfOk result (λ arms. AllZip (spec.IsCloneArm task.entry.ast.now (names_of names.now)) variants.now arms.clone) }
-    ensures clone_from { IfOk result (λ arms. AllZip (spec.IsFromArm task.entry.ast.now (names_of names.now)) variants.now arms.clone_from) }
+    ensures clone_from { IfOk result (λ arms. AllZip (spec.IsFromArm task.entry.ast.now (names_of names.now))
+        variants.now arms.clone_from) }
 {
     let paths = clone_paths(alloc)?;
     let (mut clone, mut clone_from) = (Seq::new(alloc), Seq::new(alloc));

@@ -37,7 +37,8 @@ fn add_variants<'d, 's>(
     all: &mut Vec<Ranked<'d, 's>>,
 ) -> Result<(), AllocError>
     requires { settings.now ≡ settings_in Clone task.ast.now (map fields_in variants.now) }
-    ensures { OnOk result (map kept_of all.new.items ≡ map kept_of all.old.items ++ flat_map (kept_fields Clone task.entry.ast.now) (map fields_in variants.now)) }
+    ensures { OnOk result (map kept_of all.new.items ≡ map kept_of all.old.items ++ flat_map
+        (kept_fields Clone task.entry.ast.now) (map fields_in variants.now)) }
 {
     for (place, variant) in variants.iter().enumerate() {
         let fields = variant.fields.fields.as_slice();
@@ -54,7 +55,8 @@ fn add_all<'d, 's>(
     all: &mut Vec<Ranked<'d, 's>>,
 ) -> Result<(), AllocError>
     requires { settings.now ≡ settings_in Clone task.ast.now (cases_of task.ast.now) }
-    ensures { OnOk result (map kept_of all.new.items ≡ map kept_of all.old.items ++ flat_map (kept_fields Clone task.entry.ast.now) (cases_of task.entry.ast.now)) }
+    ensures { OnOk result (map kept_of all.new.items ≡ map kept_of all.old.items ++ flat_map
+        (kept_fields Clone task.entry.ast.now) (cases_of task.entry.ast.now)) }
 {
     match &task.ast.shape {
         Shape::Struct(shape) => {

@@ -127,6 +127,7 @@ fn variant_cases<'d>(
     for variant in variants {
         match variant_case(alloc, task, own, variant) {
             Ok(case) => cases.push(case)?,
+            // (`?` would convert the rejection, which its clause takes as it is.)
             Err(stop) => return Err(stop),
         }
     }

@@ -33,7 +33,8 @@ fn entry_key(
     settings: &FieldSettings,
 ) -> Result<EntryKey, AllocError>
     requires { case.now.unit ≡ false }
-    ensures { IfOk result (spec.IsEntryKey (names_of names.now) (form_of (shown_of case.now)) (key_with case.now.named settings.now (kept_of ranked.now))) }
+    ensures { IfOk result (spec.IsEntryKey (names_of names.now) (form_of (shown_of case.now))
+        (key_with case.now.named settings.now (kept_of ranked.now))) }
 {
     if !case.named {
         return Ok(EntryKey::Unnamed);
@@ -120,7 +121,8 @@ fn field_forms(
     requires brackets { case.now.unit ≡ false }
     requires reading { CanRead reading }
     ensures { let text = key_with case.now.named settings.now (kept_of ranked.now) in
-        IfOk result (spec.AreFormsBy (names_of names.now) (form_of (shown_of case.now)) text (reading_of reading.entry) (kept_of ranked.now) (how_of ranked.now.how)) }
+        IfOk result (spec.AreFormsBy (names_of names.now) (form_of (shown_of case.now)) text (reading_of reading.entry)
+            (kept_of ranked.now) (how_of ranked.now.how)) }
 {
     let key = entry_key(alloc, names, case, ranked, settings)?;
     let held = read(alloc, reading, ranked)?;
@@ -144,7 +146,8 @@ fn forms_on(
     requires reading { CanRead reading }
     requires fields { map kept_of fields.now ≡ kept_in case.now }
     ensures { (definition : DeriveInput) → AreSettled definition case.now →
-        IfOk result (spec.AreEntries definition (names_of names.now) (shown_of case.now) (reading_of reading.entry) (map kept_of fields.now)) }
+        IfOk result (spec.AreEntries definition (names_of names.now) (shown_of case.now) (reading_of reading.entry)
+            (map kept_of fields.now)) }
 {
     let settings = case.settings.as_slice();
     let mut forms = Seq::new(alloc);
@@ -166,7 +169,8 @@ pub fn entries(
     requires brackets { case.now.unit ≡ false }
     requires reading { CanRead reading }
     ensures { (definition : DeriveInput) → AreSettled definition case.now →
-        IfOk result (spec.AreEntries definition (names_of names.now) (shown_of case.now) (reading_of reading.entry) (shown_fields definition (shown_of case.now))) }
+        IfOk result (spec.AreEntries definition (names_of names.now) (shown_of case.now) (reading_of reading.entry)
+            (shown_fields definition (shown_of case.now))) }
 {
     let kept = shown_fields(alloc, case)?;
     forms_on(alloc, names, case, reading, &kept)

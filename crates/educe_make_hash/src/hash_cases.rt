@@ -125,6 +125,7 @@ fn variant_arms(
     for (place, variant) in variants.iter().enumerate() {
         match variant_arm(alloc, task, &plain, names, place, variant) {
             Ok(arm) => arms.push(arm)?,
+            // (`?` would convert the rejection, which its clause takes as it is.)
             Err(stop) => return Err(stop),
         }
     }

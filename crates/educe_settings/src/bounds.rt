@@ -23,8 +23,12 @@ use std::alloc::Global;
 pub fn bound_of_type(alloc: Global, task: Task<'_, '_>) -> Result<Bound, Stop>
     requires { task.listed.now ≡ listing.listed task.ast.now }
     ensures ok { IfOk result (settings.IsBoundOf task.entry.trait_ task.entry.ast.now) }
-    ensures uncaused { IfOk result (λ _. NoCause (OfPlace task.entry.trait_ (rows.type_row task.entry.trait_ task.entry.ast.now) (listing.listed task.entry.ast.now) task.entry.ast.now.attrs)) }
-    ensures err { IfErr result (λ s. OfStop (OfPlace task.entry.trait_ (rows.type_row task.entry.trait_ task.entry.ast.now) (listing.listed task.entry.ast.now) task.entry.ast.now.attrs) s) }
+    ensures uncaused { IfOk result (λ _. NoCause (OfPlace task.entry.trait_
+        (rows.type_row task.entry.trait_ task.entry.ast.now)
+        (listing.listed task.entry.ast.now) task.entry.ast.now.attrs)) }
+    ensures err { IfErr result (λ s. OfStop (OfPlace task.entry.trait_
+        (rows.type_row task.entry.trait_ task.entry.ast.now)
+        (listing.listed task.entry.ast.now) task.entry.ast.now.attrs) s) }
 {
     let Values { bound, .. } = type_values(alloc, task)?;
     Ok(bound_said(bound))

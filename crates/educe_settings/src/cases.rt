@@ -53,6 +53,7 @@ fn settings_of_variants(
     for variant in variants {
         match variant_settings(alloc, task, variant) {
             Ok(settings) => all.push(settings)?,
+            // (`?` would convert the rejection, which its clause takes as it is.)
             Err(stop) => return Err(stop),
         }
     }

@@ -29,8 +29,10 @@ pub fn variant_settings(
 ) -> Result<Seq<FieldSettings>, Stop>
     requires { task.listed.now ≡ listed task.ast.now }
     ensures are { IfOk result (λ all. all ≡ map (settings_of task.entry.trait_ task.entry.ast.now) (fields_in variant.now)) }
-    ensures place { IfOk result (λ _. NoCause (OfPlace task.entry.trait_ (rows.variant_row task.entry.trait_) (listed task.entry.ast.now) variant.now.attrs)) }
-    ensures read { IfOk result (λ _. HaveNoCauses task.entry.trait_ (rows.field_row task.entry.trait_) (listed task.entry.ast.now) (fields_in variant.now)) }
+    ensures place { IfOk result (λ _. NoCause (OfPlace task.entry.trait_ (rows.variant_row task.entry.trait_)
+        (listed task.entry.ast.now) variant.now.attrs)) }
+    ensures read { IfOk result (λ _. HaveNoCauses task.entry.trait_ (rows.field_row task.entry.trait_)
+        (listed task.entry.ast.now) (fields_in variant.now)) }
     ensures err { IfErr result (λ s. OfStop (OfVariant task.entry.trait_ task.entry.ast.now variant.now) s) }
 {
     let _values = variant_values(alloc, task, variant)?;

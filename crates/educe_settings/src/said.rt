@@ -19,9 +19,15 @@ use std::alloc::Global;
 /// memory fails.
 pub fn type_values(alloc: Global, task: Task<'_, '_>) -> Result<Values, Stop>
     requires { task.listed.now ≡ listing.listed task.ast.now }
-    ensures are { IfOk result (λ values. values ≡ places.place_settings task.entry.trait_ (rows.type_row task.entry.trait_ task.entry.ast.now) (listing.listed task.entry.ast.now) task.entry.ast.now.attrs) }
-    ensures uncaused { IfOk result (λ _. NoCause (places.OfPlace task.entry.trait_ (rows.type_row task.entry.trait_ task.entry.ast.now) (listing.listed task.entry.ast.now) task.entry.ast.now.attrs)) }
-    ensures err { IfErr result (λ s. OfStop (places.OfPlace task.entry.trait_ (rows.type_row task.entry.trait_ task.entry.ast.now) (listing.listed task.entry.ast.now) task.entry.ast.now.attrs) s) }
+    ensures are { IfOk result (λ values. values ≡ places.place_settings task.entry.trait_
+        (rows.type_row task.entry.trait_ task.entry.ast.now)
+        (listing.listed task.entry.ast.now) task.entry.ast.now.attrs) }
+    ensures uncaused { IfOk result (λ _. NoCause (places.OfPlace task.entry.trait_
+        (rows.type_row task.entry.trait_ task.entry.ast.now)
+        (listing.listed task.entry.ast.now) task.entry.ast.now.attrs)) }
+    ensures err { IfErr result (λ s. OfStop (places.OfPlace task.entry.trait_
+        (rows.type_row task.entry.trait_ task.entry.ast.now)
+        (listing.listed task.entry.ast.now) task.entry.ast.now.attrs) s) }
 {
     let attributes = task.ast.attrs.as_slice();
     place_settings(
@@ -37,8 +43,10 @@ pub fn type_values(alloc: Global, task: Task<'_, '_>) -> Result<Values, Stop>
 /// memory fails.
 pub fn variant_values(alloc: Global, task: Task<'_, '_>, variant: &Variant) -> Result<Values, Stop>
     requires { task.listed.now ≡ listing.listed task.ast.now }
-    ensures are { IfOk result (λ values. values ≡ places.place_settings task.entry.trait_ (rows.variant_row task.entry.trait_) (listing.listed task.entry.ast.now) variant.now.attrs) }
-    ensures uncaused { IfOk result (λ _. NoCause (places.OfPlace task.entry.trait_ (rows.variant_row task.entry.trait_) (listing.listed task.entry.ast.now) variant.now.attrs)) }
+    ensures are { IfOk result (λ values. values ≡ places.place_settings task.entry.trait_
+        (rows.variant_row task.entry.trait_) (listing.listed task.entry.ast.now) variant.now.attrs) }
+    ensures uncaused { IfOk result (λ _. NoCause (places.OfPlace task.entry.trait_
+        (rows.variant_row task.entry.trait_) (listing.listed task.entry.ast.now) variant.now.attrs)) }
     ensures err { IfErr result (λ s. OfStop (OfVariant task.entry.trait_ task.entry.ast.now variant.now) s) }
 {
     let (row, attributes) = (variant_row(task.trait_), variant.attrs.as_slice());
@@ -54,7 +62,8 @@ pub fn field_settings(
 ) -> Result<Seq<FieldSettings>, Stop>
     requires { task.listed.now ≡ listing.listed task.ast.now }
     ensures are { IfOk result (λ all. all ≡ map (settings_of task.entry.trait_ task.entry.ast.now) fields.now) }
-    ensures uncaused { IfOk result (λ _. HaveNoCauses task.entry.trait_ (rows.field_row task.entry.trait_) (listing.listed task.entry.ast.now) fields.now) }
+    ensures uncaused { IfOk result (λ _. HaveNoCauses task.entry.trait_ (rows.field_row task.entry.trait_)
+        (listing.listed task.entry.ast.now) fields.now) }
     ensures err { IfErr result (λ s. OfStop (OfCase task.entry.trait_ task.entry.ast.now fields.now) s) }
 {
     settings_of_fields(

@@ -69,7 +69,8 @@ fn is_unbounded(ast: &DeriveInput, bound: &Bound) -> bool
 
 /// Whether values may be copied as a whole where `Copy` is listed, with this bound.
 fn is_whole(ast: &DeriveInput, bound: &Bound, has_custom_method: bool) -> bool
-    ensures { result ≡ ((not has_custom_method && bitwise.is_closed_shape ast.now.generics.params ast.now.shape) && bitwise.is_unbounded ast.now bound.now) }
+    ensures { result ≡ ((not has_custom_method && bitwise.is_closed_shape ast.now.generics.params ast.now.shape) &&
+        bitwise.is_unbounded ast.now bound.now) }
 {
     !has_custom_method && is_closed_shape(ast) && is_unbounded(ast, bound)
 }

@@ -35,8 +35,10 @@ fn see_shown<'d>(
     types: &mut SeenTypes<'d>,
 ) -> Result<(), Stop>
     requires { task.listed.now ≡ listing.listed task.ast.now }
-    ensures types { OnOk result (SeesEach (kept_by 0 fields.now (map (spec.entry_settings named task.entry.ast.now) fields.now)) types.old types.new) }
-    ensures err { IfErr result (λ s. OfStop (OfFields derived.Debug (spec.entry_row named) (listing.listed task.entry.ast.now) fields.now) s) }
+    ensures types { OnOk result (SeesEach (kept_by 0 fields.now
+        (map (spec.entry_settings named task.entry.ast.now) fields.now)) types.old types.new) }
+    ensures err { IfErr result (λ s. OfStop (OfFields derived.Debug (spec.entry_row named)
+        (listing.listed task.entry.ast.now) fields.now) s) }
 {
     let settings = entry_settings(alloc, task, named, fields)?;
     let shown = kept_fields(alloc, fields, settings.as_slice())?;
@@ -55,7 +57,8 @@ fn see_struct<'d>(
     requires typed { IsTyped task.ast.now task.listed.now }
     requires own { own.now ≡ type_settings derived.Debug task.ast.now }
     requires shape { task.ast.now.shape ≡ Struct shape.now }
-    ensures types { OnOk result (SeesEach (spec.shown_fields task.entry.ast.now (spec.struct_shown task.entry.ast.now shape.now)) types.old types.new) }
+    ensures types { OnOk result (SeesEach (spec.shown_fields task.entry.ast.now
+        (spec.struct_shown task.entry.ast.now shape.now)) types.old types.new) }
     ensures err { IfErr result (λ s. OfStop (OfHandler (handling task.entry.ast.now) derived.Debug) s) }
 {
     let named = struct_named(own, shape);
@@ -71,7 +74,8 @@ fn see_variant<'d>(
 ) -> Result<(), Stop>
     requires typed { IsTyped task.ast.now task.listed.now }
     requires variant { IsOneOf task.ast.now variant.now }
-    ensures types { OnOk result (SeesEach (spec.shown_fields task.entry.ast.now (spec.variant_shown task.entry.ast.now variant.now)) types.old types.new) }
+    ensures types { OnOk result (SeesEach (spec.shown_fields task.entry.ast.now
+        (spec.variant_shown task.entry.ast.now variant.now)) types.old types.new) }
     ensures err { IfErr result (λ s. OfStop (OfHandler (handling task.entry.ast.now) derived.Debug) s) }
 {
     let values = naming_values(alloc, task, variant)?;
@@ -95,6 +99,7 @@ fn see_variants<'d>(
     for variant in variants {
         match see_variant(alloc, task, variant, types) {
             Ok(()) => {}
+            // (`?` would convert the rejection, which its clause takes as it is.)
             Err(stop) => return Err(stop),
         }
     }

@@ -72,6 +72,7 @@ pub fn values_of_variants(
         let fields = variant.fields.fields.as_slice();
         match values_of(alloc, task, written, fields) {
             Ok(settings) => all.push(settings)?,
+            // (`?` would convert the rejection, which its clause takes as it is.)
             Err(stop) => return Err(stop),
         }
     }

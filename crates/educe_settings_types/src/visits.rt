@@ -68,6 +68,7 @@ fn see_variants<'d>(
     for variant in variants {
         match see_variant(alloc, task, variant, types) {
             Ok(()) => {}
+            // (`?` would convert the rejection, which its clause takes as it is.)
             Err(stop) => return Err(stop),
         }
     }

@@ -165,7 +165,8 @@ fn earliest<'a>(
     known: Option<Name<'a>>,
     names: Vec<Name<'a>>,
 ) -> Result<Option<Name<'a>>, AllocError>
-    ensures { (lists : List (List Named)) → IsEarliest known.entry lists → IfOk result (λ found. IsEarliest found (lists ++ names.entry.items ∷ [])) }
+    ensures { (lists : List (List Named)) → IsEarliest known.entry lists →
+        IfOk result (λ found. IsEarliest found (lists ++ names.entry.items ∷ [])) }
 {
     let Some(found) = first_repeat(alloc, names.as_slice())? else {
         return Ok(known);

@@ -50,7 +50,8 @@ pub fn whole<T: Drop, F: Fn(&mut ParseStream<'_>) -> Result<T, ParseError>>(
     item: F,
 ) -> Result<T, EduceError>
     requires { F.IsAlwaysCallable item }
-    ensures { (note : Noter T) (program : Parser T) → ReadsAs note (F.post item) → Forgets note program → IsAnswer program tokens.now result }
+    ensures { (note : Noter T) (program : Parser T) → ReadsAs note (F.post item) → Forgets note program →
+        IsAnswer program tokens.now result }
 {
     let mut input = ParseStream::new(alloc, tokens);
     match item(&mut input) {
