@@ -15,4 +15,4 @@ pub use educe_body_values::{
     Answer, Answers, BuiltIn, Callee, DebugShape, Entry, FieldValue, FieldValues, Outcome, Parts,
     Row, Rows, Scope, ShapeForm, Value, built_in, built_in_path, form_laws, key_laws, scope_laws,
 };
-pub use educe_names::{UsedIdents, has_word, name_laws};
+pub use educe_names::{InputWords, UsedIdents, has_word, name_laws};

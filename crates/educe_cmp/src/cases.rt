@@ -1,6 +1,8 @@
 //! The bodies of a struct and of an enum, from the settings of their fields.
-ghost use Rattle.std.specs.Prelude.{◌≡◌, IfOk, IfErr};
+ghost use Rattle.std.specs.Prelude.{◌≡◌, IfOk, IfErr, IfSome};
 ghost use Rattle.std.specs.List.{AllZip};
+ghost use Rattle.std.specs.Option.{option_copied};
+ghost use Rattle.educe_body.specs.Held.{AreWordsOf};
 ghost use Rattle.educe_syntax.specs.Few as few;
 ghost use Rattle.educe_syntax.specs.Shape.TheVariants.{Enum};
 ghost use Rattle.educe_attrs.specs.Causes.{NoCause, OfStop};
@@ -20,7 +22,7 @@ use crate::enum_body::enum_body;
 use crate::names::Names;
 use crate::struct_body::struct_body;
 use educe_attrs::Stop;
-use educe_body::{Arm, Arms, Body, Comparison, Shared};
+use educe_body::{Arm, Arms, Body, Comparison, InputWords, Shared};
 use educe_settings::{Task, field_settings, fields_in_order, variant_fields, variant_settings};
 use educe_syntax::{ExprPath, Field, Variant};
 use educe_tokens::Seq;
@@ -34,17 +36,19 @@ pub fn struct_case(
     task: Task<'_, '_>,
     fields: &[Field],
     copied: bool,
+    words: Option<&InputWords>,
 ) -> Result<Body, Stop>
     requires same { task.trait_ ≡ trait_of which }
     requires listed { task.listed.now ≡ listing.listed task.ast.now }
     requires copied { AreCopied task.ast.now copied }
+    requires words { IfSome (option_copied words) (AreWordsOf task.ast.now.tokens) }
     ensures ok { IfOk result (IsStructBody which task.entry.ast.now fields.now) }
     ensures uncaused { IfOk result (λ _. NoCause (OfCase task.entry.trait_ task.entry.ast.now fields.now)) }
     ensures err { IfErr result (λ s. OfStop (OfCase task.entry.trait_ task.entry.ast.now fields.now) s) }
 {
     let settings = field_settings(alloc, task, fields)?;
     let ordered = fields_in_order(alloc, task, fields, settings.as_slice())?;
-    Ok(struct_body(alloc, which, task.ast, copied, &ordered)?)
+    Ok(struct_body(alloc, which, task.ast, copied, &ordered, words)?)
 }
 
 /// The arm of a variant. It is rejected exactly where an attribute of the variant or of a field or a rank
@@ -103,15 +107,17 @@ pub fn enum_case(
     which: Comparison,
     task: Task<'_, '_>,
     variants: &[Variant],
+    words: Option<&InputWords>,
 ) -> Result<Body, Stop>
     requires same { task.trait_ ≡ trait_of which }
     requires variants { variants.now ≡ few.variants_of task.ast.now }
     requires listed { task.listed.now ≡ listing.listed task.ast.now }
+    requires words { IfSome (option_copied words) (AreWordsOf task.ast.now.tokens) }
     ensures ok { IfOk result (IsEnumBody which task.entry.ast.now variants.now) }
     ensures uncaused { IfOk result (λ _. NoCause (OfShape task.entry.trait_ task.entry.ast.now (Enum variants.now))) }
     ensures err { IfErr result (λ s. OfStop (OfShape task.entry.trait_ task.entry.ast.now (Enum variants.now)) s) }
 {
-    let names = Names::choose(alloc, task.ast)?;
+    let names = Names::choose(alloc, task.ast, words)?;
     let arms = variant_arms(alloc, which, task, &names, variants)?;
     Ok(enum_body(alloc, which, task.ast, &names, variants, arms)?)
 }

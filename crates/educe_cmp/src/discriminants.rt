@@ -37,7 +37,7 @@ pub fn discriminants_of(
     ensures numbers { (table : Answers) (numbers : List ℤ) → HaveNumbers table ast.now numbers →
         IfOk result (λ found. spec.AreNumbers table numbers found.1) }
 {
-    let names = Names::choose(alloc, ast)?;
+    let names = Names::choose(alloc, ast, None)?;
     let ty = discriminant_type(alloc, &ast.attrs)?;
     let constants = constants(alloc, ty, &names.base, variants_of(ast))?;
     Ok((ty, constants))

@@ -1,7 +1,7 @@
 //! The handler of `Eq`.
 use crate::eq_handling::make_eq;
 use educe_attrs::Stop;
-use educe_body::Items;
+use educe_body::{InputWords, Items};
 use educe_bound::Trait;
 use educe_handlers::{TraitHandler, TraitHandlerContext};
 use educe_settings::{Task, checked_bound};
@@ -27,6 +27,7 @@ impl TraitHandler for EqHandler {
         ast: &DeriveInput,
         listed: &[Trait],
         ctx: &TraitHandlerContext,
+        words: Option<&InputWords>,
     ) -> Result<(Items, Predicates), Stop> {
         let trait_ = Trait::Eq;
         let task = Task {
@@ -36,6 +37,6 @@ impl TraitHandler for EqHandler {
         };
         let bound = checked_bound(alloc, task)?;
         let types = seen_types(alloc, task)?;
-        Ok(make_eq(alloc, ast, listed, &bound, &types, ctx)?)
+        Ok(make_eq(alloc, ast, listed, &bound, &types, ctx, words)?)
     }
 }

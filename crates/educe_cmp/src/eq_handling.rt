@@ -1,6 +1,8 @@
 //! The items of `Eq`.
-ghost use Rattle.std.specs.Prelude.{◌≡◌, IfOk};
+ghost use Rattle.std.specs.Prelude.{◌≡◌, IfOk, IfSome};
 ghost use Rattle.std.specs.List.{AllByRecursion};
+ghost use Rattle.std.specs.Option.{option_copied};
+ghost use Rattle.educe_body.specs.Held.{AreWordsOf};
 ghost use Rattle.educe_syntax.specs.Readings.{AreNamed, AreReadGenerics, IsReadType};
 ghost use Rattle.educe_bound_traits.specs.declared.traits.Trait.TheVariants.{Eq};
 ghost use Rattle.educe_settings.specs.EveryType.{behind};
@@ -12,7 +14,7 @@ ghost use Rattle.educe_settings.specs.Settings.{IsBoundOf};
 ghost use Rattle.educe_settings.specs.Types.{AreUnread, checked_types};
 
 use crate::eq_check::check_item;
-use educe_body::{ImplItem, Item, Items};
+use educe_body::{ImplItem, InputWords, Item, Items};
 use educe_bound::{Bound, Trait};
 use educe_handlers::{TraitHandlerContext, impl_alone, impl_of};
 use educe_settings::{SeenTypes, Task};
@@ -39,7 +41,9 @@ fn checked_block(
     ast: &DeriveInput,
     item: ImplItem,
     checked: &Vec<&Ty>,
+    words: Option<&InputWords>,
 ) -> Result<Items, AllocError>
+    requires words { IfSome (option_copied words) (AreWordsOf ast.now.tokens) }
     requires item { spec.IsImpl Eq ast.now spec.AreNone item }
     requires types { behind checked.now.items ≡ checked_types ast.now }
     requires named { AreNamed ast.now }
@@ -47,7 +51,7 @@ fn checked_block(
     requires visits { AllByRecursion IsReadType (behind checked.now.items) }
     ensures { IfOk result (spec.IsCheckedBlock ast.now) }
 {
-    let check = check_item(alloc, ast, &item.generics, checked)?;
+    let check = check_item(alloc, ast, &item.generics, checked, words)?;
     let mut items = Seq::new(alloc);
     items.push(Item::FieldCheck(check))?;
     items.push(Item::Impl(item))?;
@@ -71,7 +75,9 @@ fn eq_items(
     item: ImplItem,
     checked: &Vec<&Ty>,
     checks: bool,
+    words: Option<&InputWords>,
 ) -> Result<Items, AllocError>
+    requires words { IfSome (option_copied words) (AreWordsOf ast.now.tokens) }
     requires item { spec.IsImpl Eq ast.now spec.AreNone item }
     requires types { behind checked.now.items ≡ checked_types ast.now }
     requires named { AreNamed ast.now }
@@ -80,7 +86,7 @@ fn eq_items(
     ensures { IfOk result (spec.IsEqBlockWith checks ast.now) }
 {
     if checks {
-        checked_block(alloc, ast, item, checked)
+        checked_block(alloc, ast, item, checked, words)
     } else {
         plain_block(alloc, ast, item)
     }
@@ -94,8 +100,10 @@ pub fn make_eq(
     bound: &Bound,
     types: &SeenTypes<'_>,
     ctx: &TraitHandlerContext,
+    words: Option<&InputWords>,
 ) -> Result<(Items, Predicates), AllocError>
     requires ready { IsReady Eq ast.now listed.now ctx.now }
+    requires words { IfSome (option_copied words) (AreWordsOf ast.now.tokens) }
     requires bound { IsBoundOf Eq ast.now bound.now }
     requires types { AreUnread (checked_types ast.now) (read_of types.now) (touched_of types.now) }
     ensures block { IfOk result (λ found. spec.IsEqBlock ast.now found.0) }
@@ -109,6 +117,6 @@ pub fn make_eq(
     };
     let (item, added) = impl_of(alloc, task, bound, types, Seq::new(alloc), ctx)?;
     let checks = has_check(bound, &types.touched);
-    let items = eq_items(alloc, ast, item, &types.touched, checks)?;
+    let items = eq_items(alloc, ast, item, &types.touched, checks, words)?;
     Ok((items, added))
 }

@@ -1,6 +1,8 @@
 //! The block of a comparison.
-ghost use Rattle.std.specs.Prelude.{◌≡◌, ◌≤◌, ◌^◌, length, IfOk, IfErr};
+ghost use Rattle.std.specs.Prelude.{◌≡◌, ◌≤◌, ◌^◌, length, IfOk, IfErr, IfSome};
 ghost use Rattle.std.specs.List.{AllByRecursion};
+ghost use Rattle.std.specs.Option.{option_copied};
+ghost use Rattle.educe_body.specs.Held.{AreWordsOf};
 ghost use Rattle.educe_attrs.specs.Causes.{NoCause, OfStop};
 ghost use Rattle.educe_attrs.specs.Phases.{OfHandler};
 ghost use Rattle.educe_meaning.specs.Blocks.{IsComparisonBlock, IsBody, IsFunction, EachEvaluates, function_name};
@@ -13,7 +15,7 @@ ghost use Rattle.educe_settings.specs.Listed as listing;
 
 use crate::cases::{enum_case, struct_case};
 use educe_attrs::Stop;
-use educe_body::{Body, Comparison, Functions, Items};
+use educe_body::{Body, Comparison, Functions, InputWords, Items};
 use educe_handlers::{TraitHandlerContext, function, impl_block};
 use educe_settings::{Task, bound_of_type, is_copied};
 use educe_settings_types::seen_types;
@@ -33,17 +35,27 @@ fn functions(alloc: Global, which: Comparison, body: Body) -> Result<Functions, 
 
 /// The body of a listed comparison. Fields are read by copies where they have to be. It is rejected exactly where an attribute of a variant or a field or a rank
 /// is wrong, or memory fails.
-fn body(alloc: Global, which: Comparison, task: Task<'_, '_>, copied: bool) -> Result<Body, Stop>
+fn body(
+    alloc: Global,
+    which: Comparison,
+    task: Task<'_, '_>,
+    copied: bool,
+    words: Option<&InputWords>,
+) -> Result<Body, Stop>
     requires same { task.trait_ ≡ comparisons.trait_of which }
     requires listed { task.listed.now ≡ listing.listed task.ast.now }
     requires copied { AreCopied task.ast.now copied }
+    requires words { IfSome (option_copied words) (AreWordsOf task.ast.now.tokens) }
     ensures ok { IfOk result (IsBody which task.entry.ast.now) }
     ensures uncaused { IfOk result (λ _. NoCause (OfShape task.entry.trait_ task.entry.ast.now task.entry.ast.now.shape)) }
     ensures err { IfErr result (λ s. OfStop (OfShape task.entry.trait_ task.entry.ast.now task.entry.ast.now.shape) s) }
 {
     match &task.ast.shape {
-        Shape::Struct(shape) => { struct_case(alloc, which, task, shape.fields.as_slice(), copied) }
-        Shape::Enum(variants) => enum_case(alloc, which, task, variants.as_slice()),
+        Shape::Struct(shape) => {
+            let fields = shape.fields.as_slice();
+            struct_case(alloc, which, task, fields, copied, words)
+        }
+        Shape::Enum(variants) => enum_case(alloc, which, task, variants.as_slice(), words),
     }
 }
 
@@ -54,9 +66,11 @@ pub fn comparison_block(
     which: Comparison,
     task: Task<'_, '_>,
     ctx: &TraitHandlerContext,
+    words: Option<&InputWords>,
 ) -> Result<(Items, Predicates), Stop>
     requires same { task.trait_ ≡ comparisons.trait_of which }
     requires ready { IsReady task.trait_ task.ast.now task.listed.now ctx.now }
+    requires words { IfSome (option_copied words) (AreWordsOf task.ast.now.tokens) }
     ensures block { IfOk result (λ found. IsComparisonBlock which task.entry.ast.now found.0) }
     ensures means { IfOk result (λ found. length task.entry.ast.now.tokens ≤ 2 ^ 64 →
         AllByRecursion (EachEvaluates task.entry.ast.now) found.0) }
@@ -66,7 +80,7 @@ pub fn comparison_block(
 {
     let bound = bound_of_type(alloc, task)?;
     let copied = is_copied(alloc, task.ast)?;
-    let body = body(alloc, which, task, copied)?;
+    let body = body(alloc, which, task, copied, words)?;
     let functions = functions(alloc, which, body)?;
     let types = seen_types(alloc, task)?;
     Ok(impl_block(alloc, task, &bound, &types, functions, ctx)?)

@@ -1,4 +1,5 @@
-//! The handlers of the traits that compare: constants and key functions of enums, steps, bodies.
+//! The handlers of the traits that compare: constants and key functions of enums, steps, bodies. The
+//! trait of handlers, the context that they share and the types of discriminants are re-exported.
 #![tactic(auto)]
 
 mod arms;
@@ -21,6 +22,8 @@ mod struct_body;
 
 pub use counting::Constants;
 pub use discriminants::discriminants_of;
+pub use educe_discriminants::DiscriminantType;
+pub use educe_handlers::{TraitHandler, TraitHandlerContext};
 pub use eq::EqHandler;
 pub use ord::{OrdEnumHandler, OrdHandler, OrdStructHandler};
 pub use partial_eq::{PartialEqEnumHandler, PartialEqHandler, PartialEqStructHandler};

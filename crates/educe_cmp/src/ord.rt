@@ -1,7 +1,7 @@
 //! The handler of `Ord`.
 use crate::handling::comparison_block;
 use educe_attrs::Stop;
-use educe_body::{Comparison, Items};
+use educe_body::{Comparison, InputWords, Items};
 use educe_bound::Trait;
 use educe_handlers::{EnumPart, StructPart, TraitHandler, TraitHandlerContext};
 use educe_settings::Task;
@@ -26,6 +26,7 @@ impl TraitHandler for OrdHandler {
         ast: &DeriveInput,
         listed: &[Trait],
         ctx: &TraitHandlerContext,
+        words: Option<&InputWords>,
     ) -> Result<(Items, Predicates), Stop> {
         let trait_ = Trait::Ord;
         let task = Task {
@@ -33,7 +34,7 @@ impl TraitHandler for OrdHandler {
             ast,
             listed,
         };
-        comparison_block(alloc, Comparison::Ord, task, ctx)
+        comparison_block(alloc, Comparison::Ord, task, ctx, words)
     }
 }
 

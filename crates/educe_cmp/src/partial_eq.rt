@@ -1,7 +1,7 @@
 //! The handler of `PartialEq`.
 use crate::handling::comparison_block;
 use educe_attrs::Stop;
-use educe_body::{Comparison, Items};
+use educe_body::{Comparison, InputWords, Items};
 use educe_bound::Trait;
 use educe_handlers::{EnumPart, StructPart, TraitHandler, TraitHandlerContext};
 use educe_settings::Task;
@@ -26,6 +26,7 @@ impl TraitHandler for PartialEqHandler {
         ast: &DeriveInput,
         listed: &[Trait],
         ctx: &TraitHandlerContext,
+        words: Option<&InputWords>,
     ) -> Result<(Items, Predicates), Stop> {
         let trait_ = Trait::PartialEq;
         let task = Task {
@@ -33,7 +34,7 @@ impl TraitHandler for PartialEqHandler {
             ast,
             listed,
         };
-        comparison_block(alloc, Comparison::PartialEq, task, ctx)
+        comparison_block(alloc, Comparison::PartialEq, task, ctx, words)
     }
 }
 

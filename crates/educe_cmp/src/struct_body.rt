@@ -1,5 +1,7 @@
 //! The functions of structs.
-ghost use Rattle.std.specs.Prelude.{List, map, IfOk};
+ghost use Rattle.std.specs.Prelude.{List, map, IfOk, IfSome};
+ghost use Rattle.std.specs.Option.{option_copied};
+ghost use Rattle.educe_body.specs.Held.{AreWordsOf};
 ghost use Rattle.educe_syntax.specs.Field.{Field};
 ghost use Rattle.educe_settings.specs.Ranked.{kept_of};
 ghost use Rattle.educe_meaning.specs.Blocks as spec;
@@ -9,7 +11,7 @@ ghost use Rattle.educe_settings.specs.Settings.{kept_fields};
 ghost use Rattle.educe_settings.specs.Order.{IsInOrder};
 
 use crate::comparing::{comparison_path, neutral, steps};
-use educe_body::{Body, Comparison, Form};
+use educe_body::{Body, Comparison, Form, InputWords};
 use educe_handlers::{Reading, parameter};
 use educe_settings::Ranked;
 use educe_syntax::{DeriveInput, Ident};
@@ -24,13 +26,15 @@ pub fn struct_body(
     ast: &DeriveInput,
     copied: bool,
     fields: &[Ranked<'_, '_>],
+    words: Option<&InputWords>,
 ) -> Result<Body, AllocError>
-    requires { AreCopied ast.now copied }
+    requires copied { AreCopied ast.now copied }
+    requires words { IfSome (option_copied words) (AreWordsOf ast.now.tokens) }
     ensures { (all : List Field) → IsInOrder (trait_of which) (kept_fields (trait_of which) ast.now all) (map kept_of fields.now) →
         IfOk result (spec.IsStructBody which ast.now all) }
 {
     let own = Ident::from_name(alloc, "self")?;
-    let other = parameter(alloc, ast, "other")?;
+    let other = parameter(alloc, ast, words, "other")?;
     let plain = comparison_path(alloc, which)?;
     let (first, second) = (
         Reading::OfBase(&own, copied),

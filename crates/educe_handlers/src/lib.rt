@@ -21,7 +21,7 @@ pub use context::TraitHandlerContext;
 pub use handler::TraitHandler;
 pub use impls::{impl_alone, impl_block, impl_of};
 pub use items::{function, lint_attributes};
-pub use naming::{parameter, select, select_prefix};
+pub use naming::{parameter, select, select_prefix, used_idents};
 pub use parts::{EnumPart, StructPart};
 pub use patterns::{bare_pattern, has_brackets, key, pattern, is_unit};
 pub use reading::{Reading, read};

@@ -2,7 +2,7 @@
 use crate::context::TraitHandlerContext;
 use crate::handler::TraitHandler;
 use educe_attrs::Stop;
-use educe_body::Items;
+use educe_body::{InputWords, Items};
 use educe_bound::Trait;
 use educe_syntax::{DeriveInput, Predicates};
 use std::alloc::Global;
@@ -28,8 +28,9 @@ impl<H: TraitHandler> TraitHandler for StructPart<H> {
         ast: &DeriveInput,
         listed: &[Trait],
         ctx: &TraitHandlerContext,
+        words: Option<&InputWords>,
     ) -> Result<(Items, Predicates), Stop> {
-        H::block(alloc, ast, listed, ctx)
+        H::block(alloc, ast, listed, ctx, words)
     }
 }
 
@@ -53,7 +54,8 @@ impl<H: TraitHandler> TraitHandler for EnumPart<H> {
         ast: &DeriveInput,
         listed: &[Trait],
         ctx: &TraitHandlerContext,
+        words: Option<&InputWords>,
     ) -> Result<(Items, Predicates), Stop> {
-        H::block(alloc, ast, listed, ctx)
+        H::block(alloc, ast, listed, ctx, words)
     }
 }

@@ -1,7 +1,7 @@
 //! The handler of `Clone`.
 use crate::clone_handling::make_clone;
 use educe_attrs::Stop;
-use educe_body::Items;
+use educe_body::{InputWords, Items};
 use educe_bound::Trait;
 use educe_handlers::{EnumPart, StructPart, TraitHandler, TraitHandlerContext};
 use educe_settings::{Task, bound_of_type, has_custom_method, settings_of_cases};
@@ -27,6 +27,7 @@ impl TraitHandler for CloneHandler {
         ast: &DeriveInput,
         listed: &[Trait],
         ctx: &TraitHandlerContext,
+        words: Option<&InputWords>,
     ) -> Result<(Items, Predicates), Stop> {
         let trait_ = Trait::Clone;
         let task = Task {
@@ -39,7 +40,7 @@ impl TraitHandler for CloneHandler {
         let settings = settings.as_slice();
         let copies = can_use_bitwise_copy(alloc, task, has_custom_method(settings))?;
         let types = seen_types(alloc, task)?;
-        Ok(make_clone(alloc, ast, listed, &bound, settings, copies, &types, ctx)?)
+        Ok(make_clone(alloc, ast, listed, &bound, settings, copies, &types, ctx, words)?)
     }
 }
 

@@ -1,6 +1,8 @@
 //! The items of `Clone`.
-ghost use Rattle.std.specs.Prelude.{◌≡◌, map, IfOk, codes};
+ghost use Rattle.std.specs.Prelude.{◌≡◌, map, IfOk, codes, IfSome};
 ghost use Rattle.std.specs.List.{AllByRecursion};
+ghost use Rattle.std.specs.Option.{option_copied};
+ghost use Rattle.educe_body.specs.Held.{AreWordsOf};
 ghost use Rattle.educe_syntax.specs.DeriveInput.{DeriveInput};
 ghost use Rattle.educe_syntax.specs.Few.{all_fields};
 ghost use Rattle.educe_syntax.specs.Readings.{AreNamed, AreReadGenerics};
@@ -28,7 +30,7 @@ use crate::clone_cases::{CloneBlocks, clone_blocks};
 use crate::clone_fields::all_kept;
 use crate::clone_names::CloneNames;
 use educe_attrs::FieldSettings;
-use educe_body::{Body, Form, Forms, Functions, ImplItem, Item, Items};
+use educe_body::{Body, Form, Forms, Functions, ImplItem, InputWords, Item, Items};
 use educe_bound::{Bound, Trait};
 use educe_handlers::{TraitHandlerContext, body_of, function, impl_of};
 use educe_make_markers::method_markers;
@@ -140,8 +142,10 @@ pub fn make_clone(
     copies: bool,
     types: &SeenTypes<'_>,
     ctx: &TraitHandlerContext,
+    words: Option<&InputWords>,
 ) -> Result<(Items, Predicates), AllocError>
     requires ready { IsReady derived.Clone ast.now listed.now ctx.now }
+    requires words { IfSome (option_copied words) (AreWordsOf ast.now.tokens) }
     requires bound { IsBoundOf derived.Clone ast.now bound.now }
     requires settings { settings.now ≡ settings_in derived.Clone ast.now (cases_of ast.now) }
     requires copies { copies ≡ copies_whole ast.now }
@@ -156,7 +160,7 @@ pub fn make_clone(
         ast,
         listed,
     };
-    let names = CloneNames::choose(alloc, ast)?;
+    let names = CloneNames::choose(alloc, ast, words)?;
     let copied = is_copied(alloc, ast)?;
     let functions = functions(alloc, task, &names, settings, copied, copies)?;
     let (item, added) = impl_of(alloc, task, bound, types, functions, ctx)?;

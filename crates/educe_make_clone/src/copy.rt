@@ -1,6 +1,6 @@
 //! The handler of `Copy`.
 use educe_attrs::Stop;
-use educe_body::Items;
+use educe_body::{InputWords, Items};
 use educe_bound::Trait;
 use educe_handlers::{EnumPart, StructPart, TraitHandler, TraitHandlerContext, impl_block};
 use educe_settings::{Task, checked_bound};
@@ -27,6 +27,7 @@ impl TraitHandler for CopyHandler {
         ast: &DeriveInput,
         listed: &[Trait],
         ctx: &TraitHandlerContext,
+        _words: Option<&InputWords>,
     ) -> Result<(Items, Predicates), Stop> {
         let trait_ = Trait::Copy;
         let task = Task {

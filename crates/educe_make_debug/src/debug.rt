@@ -2,7 +2,7 @@
 use crate::debug_handling::make_debug;
 use crate::debug_reading::read;
 use educe_attrs::Stop;
-use educe_body::Items;
+use educe_body::{InputWords, Items};
 use educe_bound::Trait;
 use educe_handlers::{EnumPart, StructPart, TraitHandler, TraitHandlerContext};
 use educe_settings::Task;
@@ -28,6 +28,7 @@ impl TraitHandler for DebugHandler {
         ast: &DeriveInput,
         listed: &[Trait],
         ctx: &TraitHandlerContext,
+        words: Option<&InputWords>,
     ) -> Result<(Items, Predicates), Stop> {
         let trait_ = Trait::Debug;
         let task = Task {
@@ -37,7 +38,7 @@ impl TraitHandler for DebugHandler {
         };
         let (shown, bound) = read(alloc, ast, listed)?;
         let types = seen_types(alloc, task)?;
-        Ok(make_debug(alloc, ast, listed, &shown, &bound, &types, ctx)?)
+        Ok(make_debug(alloc, ast, listed, &shown, &bound, &types, ctx, words)?)
     }
 }
 

@@ -1,6 +1,8 @@
 //! The items of `Debug`.
-ghost use Rattle.std.specs.Prelude.{◌≡◌, map, IfOk, codes};
+ghost use Rattle.std.specs.Prelude.{◌≡◌, map, IfOk, codes, IfSome};
 ghost use Rattle.std.specs.List.{AllByRecursion};
+ghost use Rattle.std.specs.Option.{option_copied};
+ghost use Rattle.educe_body.specs.Held.{AreWordsOf};
 ghost use Rattle.educe_syntax.specs.Readings.{AreNamed, AreReadGenerics};
 ghost use Rattle.educe_bound_traits.specs.declared.traits.Trait.TheVariants.{Debug};
 ghost use Rattle.educe_settings.specs.Ranked.{kept_of};
@@ -21,7 +23,7 @@ use crate::debug_body::body;
 use crate::debug_fields::all_shown;
 use crate::debug_names::DebugNames;
 use crate::debug_shown::Shown;
-use educe_body::{Functions, ImplItem, Item, Items};
+use educe_body::{Functions, ImplItem, InputWords, Item, Items};
 use educe_bound::{Bound, Trait};
 use educe_handlers::{TraitHandlerContext, function, impl_of};
 use educe_make_markers::{MarkerNames, method_markers};
@@ -129,8 +131,10 @@ pub fn make_debug(
     bound: &Bound,
     types: &SeenTypes<'_>,
     ctx: &TraitHandlerContext,
+    words: Option<&InputWords>,
 ) -> Result<(Items, Predicates), AllocError>
     requires ready { IsReady Debug ast.now listed.now ctx.now }
+    requires words { IfSome (option_copied words) (AreWordsOf ast.now.tokens) }
     requires ast { shown.now.ast.now ≡ ast.now }
     requires shown { IsShown shown.now }
     requires read { AreRead ast.now }
@@ -140,7 +144,7 @@ pub fn make_debug(
     ensures added { IfOk result (λ found. ImplAdds ast.now Debug found.1) }
 {
     let kept = fields_of(alloc, ast, shown)?;
-    let names = DebugNames::choose(alloc, ast)?;
+    let names = DebugNames::choose(alloc, ast, words)?;
     let functions = fmt(alloc, ast, &names, shown)?;
     let (item, added) = debug_impl(alloc, ast, listed, bound, types, functions, ctx)?;
     let items = debug_items(alloc, ast, &names, item, &kept)?;

@@ -1,5 +1,7 @@
 //! The names that the block of `Debug` declares.
-ghost use Rattle.std.specs.Prelude.{◌≡◌, ◌++◌, ◌∷◌, [], IfOk, IsTrue};
+ghost use Rattle.std.specs.Prelude.{◌≡◌, ◌++◌, ◌∷◌, [], IfOk, IsTrue, IfSome};
+ghost use Rattle.std.specs.Option.{option_copied};
+ghost use Rattle.educe_body.specs.Held.{AreWordsOf};
 ghost use Rattle.educe_body.specs.Chosen.{AreChosen};
 ghost use Rattle.educe_tokens.specs.Appends.{no_place};
 ghost use Rattle.educe_tokens.specs.Quote.{is_ascii_name};
@@ -7,8 +9,8 @@ ghost use Rattle.educe_tokens.specs.Spells.{IsWord};
 ghost use Rattle.educe_handlers.specs.OneWord.{IsWord-prop};
 ghost use Rattle.educe_meaning.specs.ShownBodies.{AreDebugNames, plain_fmt_names};
 
-use educe_body::{ArgumentNames, Shared, UsedIdents};
-use educe_handlers::{select, select_prefix};
+use educe_body::{ArgumentNames, InputWords, Shared, UsedIdents};
+use educe_handlers::{select, select_prefix, used_idents};
 use educe_syntax::{DeriveInput, Duplicate, Ident};
 use educe_tokens::Spelling;
 use std::alloc::{AllocError, Global};
@@ -149,10 +151,15 @@ impl DebugNames {
 
     /// The names for a definition: each is chosen apart from the words of the input and from the names
     /// before it.
-    pub fn choose(alloc: Global, ast: &DeriveInput) -> Result<DebugNames, AllocError>
+    pub fn choose(
+        alloc: Global,
+        ast: &DeriveInput,
+        words: Option<&InputWords>,
+    ) -> Result<DebugNames, AllocError>
+        requires words { IfSome (option_copied words) (AreWordsOf ast.now.tokens) }
         ensures { IfOk result (λ names. AreDebugNames ast.now (names_of names)) }
     {
-        let mut used = UsedIdents::new(alloc, ast.tokens.as_slice())?;
+        let mut used = used_idents(alloc, ast, words)?;
         let names = FmtNames::select(alloc, &mut used)?;
         let prefix = select_prefix(alloc, &used, "_")?;
         let marker = select_two(alloc, &mut used, "__educe_debug_method_used", "educe__f")?;

@@ -2,7 +2,7 @@
 use crate::default_body::form_of;
 use crate::default_handling::{Own, make_default, own_of};
 use educe_attrs::Stop;
-use educe_body::Items;
+use educe_body::{InputWords, Items};
 use educe_bound::Trait;
 use educe_handlers::{EnumPart, StructPart, TraitHandler, TraitHandlerContext};
 use educe_settings::{Task, type_values};
@@ -28,6 +28,7 @@ impl TraitHandler for DefaultHandler {
         ast: &DeriveInput,
         listed: &[Trait],
         ctx: &TraitHandlerContext,
+        _words: Option<&InputWords>,
     ) -> Result<(Items, Predicates), Stop> {
         let trait_ = Trait::Default;
         let task = Task {

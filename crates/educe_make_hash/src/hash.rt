@@ -1,7 +1,7 @@
 //! The handler of `Hash`.
 use crate::hash_body::body;
 use educe_attrs::Stop;
-use educe_body::Items;
+use educe_body::{InputWords, Items};
 use educe_bound::Trait;
 use educe_handlers::{
     EnumPart, StructPart, TraitHandler, TraitHandlerContext, function, impl_block,
@@ -29,6 +29,7 @@ impl TraitHandler for HashHandler {
         ast: &DeriveInput,
         listed: &[Trait],
         ctx: &TraitHandlerContext,
+        words: Option<&InputWords>,
     ) -> Result<(Items, Predicates), Stop> {
         let trait_ = Trait::Hash;
         let task = Task {
@@ -38,7 +39,7 @@ impl TraitHandler for HashHandler {
         };
         let bound = bound_of_type(alloc, task)?;
         let copied = is_copied(alloc, ast)?;
-        let body = body(alloc, task, copied)?;
+        let body = body(alloc, task, copied, words)?;
         let functions = function(alloc, "hash", body)?;
         let types = seen_types(alloc, task)?;
         Ok(impl_block(alloc, task, &bound, &types, functions, ctx)?)

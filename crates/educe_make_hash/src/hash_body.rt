@@ -1,5 +1,7 @@
 //! The body of `hash`.
-ghost use Rattle.std.specs.Prelude.{◌≡◌, IfOk, IfErr};
+ghost use Rattle.std.specs.Prelude.{◌≡◌, IfOk, IfErr, IfSome};
+ghost use Rattle.std.specs.Option.{option_copied};
+ghost use Rattle.educe_body.specs.Held.{AreWordsOf};
 ghost use Rattle.educe_attrs.specs.Causes.{NoCause, OfStop};
 ghost use Rattle.educe_bound_traits.specs.declared.traits.Trait.TheVariants.{Hash};
 ghost use Rattle.educe_settings.specs.Handled.{OfShape};
@@ -11,7 +13,7 @@ ghost use Rattle.educe_make_hash.specs.HashNames.{names_of};
 use crate::hash_cases::{enum_block, struct_block};
 use crate::hash_names::HashNames;
 use educe_attrs::Stop;
-use educe_body::{Body, Forms};
+use educe_body::{Body, Forms, InputWords};
 use educe_settings::Task;
 use educe_syntax::Shape;
 use educe_tokens::{Seq, Word};
@@ -36,15 +38,21 @@ fn forms(alloc: Global, task: Task<'_, '_>, names: &HashNames, copied: bool) -> 
 }
 
 /// The body of `hash`.
-pub fn body(alloc: Global, task: Task<'_, '_>, copied: bool) -> Result<Body, Stop>
+pub fn body(
+    alloc: Global,
+    task: Task<'_, '_>,
+    copied: bool,
+    words: Option<&InputWords>,
+) -> Result<Body, Stop>
     requires hashes { task.trait_ ≡ Hash }
     requires listed { task.listed.now ≡ listing.listed task.ast.now }
     requires copied { AreCopied task.ast.now copied }
+    requires words { IfSome (option_copied words) (AreWordsOf task.ast.now.tokens) }
     ensures ok { IfOk result (IsHashBody task.entry.ast.now) }
     ensures uncaused { IfOk result (λ _. NoCause (OfShape task.entry.trait_ task.entry.ast.now task.entry.ast.now.shape)) }
     ensures err { IfErr result (λ s. OfStop (OfShape task.entry.trait_ task.entry.ast.now task.entry.ast.now.shape) s) }
 {
-    let names = HashNames::choose(alloc, task.ast)?;
+    let names = HashNames::choose(alloc, task.ast, words)?;
     let block = forms(alloc, task, &names, copied)?;
     let mut params = Seq::new(alloc);
     params.push(Word::new(names.state.text))?;

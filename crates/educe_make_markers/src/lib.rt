@@ -4,5 +4,5 @@
 mod markers;
 mod several_cases;
 
-pub use markers::{MarkerNames, method_markers};
+pub use markers::{MarkerNames, MethodMarker, method_markers};
 pub use several_cases::add_case;

@@ -9,10 +9,7 @@ ghost use Rattle.educe_syntax.specs.Shape.{Shape};
 use educe_attrs::{Stop, Trait, Traits, error_of, is_listed, type_listing};
 use educe_cmp::{EqHandler, OrdHandler, PartialEqHandler, PartialOrdHandler};
 use educe_handlers::{EnumPart, StructPart, TraitHandler, TraitHandlerContext};
-use educe_make_clone::{CloneHandler, CopyHandler};
-use educe_make_debug::DebugHandler;
-use educe_make_default::DefaultHandler;
-use educe_make_hash::HashHandler;
+use educe_make::{CloneHandler, CopyHandler, DebugHandler, DefaultHandler, HashHandler};
 use educe_settings::{Task, has_custom_method, settings_of_cases};
 use educe_settings_types::can_use_bitwise_copy;
 use educe_syntax::{DeriveInput, Shape};
@@ -114,7 +111,7 @@ fn added<H: TraitHandler>(
 {
     let mut ctx = TraitHandlerContext::new(alloc);
     let mut items = Seq::new(alloc);
-    let answered = H::trait_meta_handler(alloc, ast, &mut ctx, &mut items, listed);
+    let answered = H::trait_meta_handler(alloc, ast, &mut ctx, &mut items, listed, None);
     drop(ctx);
     match answered {
         Ok(()) => Ok(spelled(alloc, items)?),

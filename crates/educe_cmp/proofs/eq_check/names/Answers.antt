@@ -1,6 +1,5 @@
 use Rattle.std.proofs.Common.{◌≡◌, [], ◌∷◌, ◌∙◌, ap, sym, subst}
 use Rattle.std.specs.Prelude.{codes}
-use Rattle.educe_body.specs.Held.{AreWordsOf}
 use Rattle.educe_handlers.proofs.Chosen.{chosen_first}
 use Rattle.educe_meaning.specs.Arms.{AreChosenFor}
 use Rattle.educe_meaning.specs.Checks.{plain_names, texts_of}
@@ -19,7 +18,7 @@ returns c =
     subst (AreChosenFor c.args.ast.now plain_names) (sym texts)
     (record {
       words = c.in_ok-used.used;
-      words_are = subst (λ tokens. AreWordsOf tokens c.in_ok-used.used) c.as_slice.ensures c.in_ok-used.ensures;
+      words_are = c.in_ok-used.ensures;
       chosen =
           chosen_first _ _ (codes "__educe_eq_fields") _ (codes "__educe_assert_eq" ∷ codes "T" ∷ []) behind outer.chosen outer.held
           (chosen_first _ _ (codes "__educe_assert_eq") _ (codes "T" ∷ []) last inner.chosen inner.held

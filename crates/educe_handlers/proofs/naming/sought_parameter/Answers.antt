@@ -1,4 +1,4 @@
-use Rattle.std.proofs.Common.{◌≡◌, ℕ, List, [], ◌∷◌, sym, ◌∙◌, subst, chars, arith}
+use Rattle.std.proofs.Common.{◌≡◌, ℕ, List, sym, ◌∙◌, subst, chars, arith}
 use Rattle.std.proofs.lemmas.Bool.{true≢false}
 use Rattle.std.proofs.lemmas.Result.{IfOk-weaker}
 use Rattle.educe_tokens.proofs.Quoting.{ascii_name_is}
@@ -6,19 +6,10 @@ use Rattle.educe_syntax.specs.Ident.{Ident}
 use Rattle.educe_syntax.specs.DeriveInput.{DeriveInput}
 use Rattle.educe_body.specs.Chosen.{IsChosen}
 use Rattle.educe_body.specs.Held.{AreWordsOf}
-use Rattle.educe_body.specs.NameLaws.{lawful_names}
 use Rattle.educe_body.specs.Words.{HasWord}
+use Rattle.educe_handlers.proofs.Chosen.{chosen_is}
 use Rattle.educe_meaning.specs.Blocks.{IsParameter}
-use Rattle.educe_handlers.proofs.naming.parameter.Goals as goal
-
--- a name that is chosen apart from the words of the definition is that of the parameter
-chosen_is : (d : DeriveInput) (words : List (List ℕ)) (plain name : List ℕ) → AreWordsOf d.tokens words → IsChosen words plain name → IsParameter d plain name
-chosen_is d words plain name are chosen = record {
-  count = chosen.count;
-  is = chosen.is;
-  no_word = lawful_names.no_word d.tokens words name (λ word has. (are word).1 has) (lawful_names.chosen words (plain ∷ []) (name ∷ []) (chosen, tt)).0;
-  least = λ fewer less. (are _).0 (chosen.fewest.least fewer less);
-}
+use Rattle.educe_handlers.proofs.naming.sought_parameter.Goals as goal
 
 -- where it is no word of the definition as it is, it is the name
 plain_is : (d : DeriveInput) (plain name : List ℕ) → name ≡ plain → (HasWord d.tokens plain → ⊥) → IsParameter d plain name

@@ -1,2 +1,0 @@
-pub mod EqDecides
-pub mod OrderDecides
