@@ -90,7 +90,7 @@ fn keyed_decision(
     requires { AllZip (spec.IsArm which ast.now (names_of names.now)) variants.now arms }
     ensures { let own = names_of names.now in
         IfOk result (λ decision. (compares : keyed.Form) × spec.IsKeyComparison own compares × spec.IsDecision which
-            ast.now own variants.now compares (spec.are_units variants.now) decision) }
+        ast.now own variants.now compares (spec.are_units variants.now) decision) }
 {
     let compares = key_comparison(alloc, names)?;
     decision(alloc, which, variants, compares, arms)

@@ -17,11 +17,7 @@ use educe_tokens::{Seq, Word};
 use std::alloc::{AllocError, Global};
 
 /// The names that a check declares: its function, the inner one, and the parameter of that.
-fn names(
-    alloc: Global,
-    ast: &DeriveInput,
-    words: Option<&InputWords>,
-) -> Result<Names, AllocError>
+fn names(alloc: Global, ast: &DeriveInput, words: Option<&InputWords>) -> Result<Names, AllocError>
     requires words { IfSome (option_copied words) (AreWordsOf ast.now.tokens) }
     ensures { IfOk result (λ names. AreChosenFor ast.now spec.plain_names (spec.texts_of names)) }
 {

@@ -17,7 +17,10 @@ ghost use Rattle.educe_bound.specs.Sets.{AreOnceByBound};
 
 use crate::context::TraitHandlerContext;
 use crate::prerequisites::inherit;
-use educe_bound::{Bound, Trait, exceptions_of, extend_where_predicates, lifetimes_first, with_predicates, PredicateSet};
+use educe_bound::{
+    Bound, PredicateSet, Trait, exceptions_of, extend_where_predicates, lifetimes_first,
+    with_predicates,
+};
 use educe_settings::{SeenTypes, Task, reads_fields};
 use educe_syntax::{DeriveInput, Generics, Predicates};
 use educe_tokens::Seq;
@@ -39,7 +42,7 @@ fn own_set(
 ) -> Result<PredicateSet, AllocError>
     ensures keys { let which = task.entry.trait_ in let ast = task.entry.ast.now in
         IfOk result (λ found. AreOnceByBound bound.now (exceptions_of which) ast.generics.params ast.ident.text which
-            (touched_of types.now) (keys_of found)) }
+        (touched_of types.now) (keys_of found)) }
     ensures read { IsReadBound bound.now → AreNames task.entry.ast.now.generics.params →
         AllByRecursion IsReadType (touched_of types.now) → IfOk result AreRead }
 {
@@ -63,7 +66,7 @@ fn own_predicates(
 ) -> Result<Predicates, AllocError>
     ensures keys { let which = task.entry.trait_ in let ast = task.entry.ast.now in
         IfOk result (λ found. AreByBound bound.now (exceptions_of which) ast.generics.params ast.ident.text which
-            (touched_of types.now) (keys_of found)) }
+        (touched_of types.now) (keys_of found)) }
     ensures read { IsReadBound bound.now → AreNames task.entry.ast.now.generics.params →
         AllByRecursion IsReadType (touched_of types.now) → IfOk result AreRead }
 {

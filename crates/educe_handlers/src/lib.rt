@@ -23,6 +23,5 @@ pub use impls::{impl_alone, impl_block, impl_of};
 pub use items::{function, lint_attributes};
 pub use naming::{parameter, select, select_prefix, used_idents};
 pub use parts::{EnumPart, StructPart};
-pub use patterns::{bare_pattern, has_brackets, key, pattern, is_unit};
+pub use patterns::{bare_pattern, has_brackets, is_unit, key, pattern};
 pub use reading::{Reading, read};
-

@@ -40,7 +40,9 @@ impl TraitHandler for CloneHandler {
         let settings = settings.as_slice();
         let copies = can_use_bitwise_copy(alloc, task, has_custom_method(settings))?;
         let types = seen_types(alloc, task)?;
-        Ok(make_clone(alloc, ast, listed, &bound, settings, copies, &types, ctx, words)?)
+        Ok(make_clone(
+            alloc, ast, listed, &bound, settings, copies, &types, ctx, words,
+        )?)
     }
 }
 

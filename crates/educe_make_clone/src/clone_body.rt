@@ -77,7 +77,7 @@ fn cloned(
     requires reading { CanRead reading }
     ensures { (definition : DeriveInput) → map kept_of fields.now ≡ kept_fields Clone definition shape.now.fields →
         IfOk result (spec.IsCloneConstruct definition (reading_of reading.entry)
-            (option_map (λ (i : Ident). i.text) (option_copied name.entry)) shape.now) }
+        (option_map (λ (i : Ident). i.text) (option_copied name.entry)) shape.now) }
 {
     let inits = inits(alloc, plain, reading, fields)?;
     Ok(Form::Construct(name_of(alloc, name)?, shape.form, inits))

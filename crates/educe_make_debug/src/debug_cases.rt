@@ -18,10 +18,10 @@ use crate::debug_texts::{path_text, type_name, type_text, variant_name};
 use educe_attrs::{Stop, Values};
 use educe_handlers::is_unit;
 use educe_settings::Task;
+use educe_settings_types::{entry_settings, naming_values, struct_named, variant_named};
 use educe_syntax::{FieldShape, Ident, Shape, Variant};
 use educe_tokens::{Kind, Seq, Span};
 use std::alloc::Global;
-use educe_settings_types::{entry_settings, naming_values, struct_named, variant_named};
 
 /// The case of a struct whose attributes say this, of which this name is shown. It is rejected exactly where
 /// an attribute of a field is wrong, or memory fails.

@@ -122,7 +122,7 @@ fn field_forms(
     requires reading { CanRead reading }
     ensures { let text = key_with case.now.named settings.now (kept_of ranked.now) in
         IfOk result (spec.AreFormsBy (names_of names.now) (form_of (shown_of case.now)) text (reading_of reading.entry)
-            (kept_of ranked.now) (how_of ranked.now.how)) }
+        (kept_of ranked.now) (how_of ranked.now.how)) }
 {
     let key = entry_key(alloc, names, case, ranked, settings)?;
     let held = read(alloc, reading, ranked)?;
@@ -147,7 +147,7 @@ fn forms_on(
     requires fields { map kept_of fields.now ≡ kept_in case.now }
     ensures { (definition : DeriveInput) → AreSettled definition case.now →
         IfOk result (spec.AreEntries definition (names_of names.now) (shown_of case.now) (reading_of reading.entry)
-            (map kept_of fields.now)) }
+        (map kept_of fields.now)) }
 {
     let settings = case.settings.as_slice();
     let mut forms = Seq::new(alloc);
@@ -170,7 +170,7 @@ pub fn entries(
     requires reading { CanRead reading }
     ensures { (definition : DeriveInput) → AreSettled definition case.now →
         IfOk result (spec.AreEntries definition (names_of names.now) (shown_of case.now) (reading_of reading.entry)
-            (shown_fields definition (shown_of case.now))) }
+        (shown_fields definition (shown_of case.now))) }
 {
     let kept = shown_fields(alloc, case)?;
     forms_on(alloc, names, case, reading, &kept)

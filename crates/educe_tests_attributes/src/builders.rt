@@ -1,7 +1,7 @@
 //! The builders with the switches that each place has.
 
-use educe_attrs::{debug, ord, partial_ord};
 use educe_attrs::debug::{FieldName, TypeName};
+use educe_attrs::{debug, ord, partial_ord};
 use educe_syntax::{Ident, parse_ident};
 use educe_tests::{found, lexed_slice};
 use std::alloc::Global;

@@ -2,7 +2,9 @@
 
 use crate::defaults::only_type;
 use educe_bound::{Trait, exceptions_of};
-use educe_bound_classes::{BoundExceptions, IdentSet, find_idents_in_type, type_mentions_ident, type_uses_generic_params};
+use educe_bound_classes::{
+    BoundExceptions, IdentSet, find_idents_in_type, type_mentions_ident, type_uses_generic_params,
+};
 use educe_syntax::{DeriveInput, GenericParam, Params, Ty, text_of_tree};
 use educe_tests::definition;
 use std::alloc::{AllocError, Global};

@@ -1,7 +1,9 @@
 //! What generated items take from the attributes of a type.
 
 use crate::answers::{attributes, with_struct};
-use educe_attrs_generated::{discriminant_type, generated_impl_attributes, generated_lint_attributes, is_packed};
+use educe_attrs_generated::{
+    discriminant_type, generated_impl_attributes, generated_lint_attributes, is_packed,
+};
 use educe_discriminants::DiscriminantType;
 use educe_syntax::Attributes;
 use educe_tests::{check_at, printed};

@@ -3,7 +3,10 @@
 use crate::answers::only_meta;
 use crate::defaults::only_type;
 use crate::words::{predicates_words, tree_words};
-use educe_bound::{Bound, PredicateSet, Trait, exceptions_of, extend_where_predicates, lifetimes_first, with_predicates};
+use educe_bound::{
+    Bound, PredicateSet, Trait, exceptions_of, extend_where_predicates, lifetimes_first,
+    with_predicates,
+};
 use educe_syntax::{DeriveInput, Generics, Params, Predicates, Ty, parse_predicates};
 use educe_tests::{definition, found, lexed_slice};
 use std::alloc::{AllocError, Global};

@@ -3,7 +3,10 @@ ghost use Rattle.educe_attrs_values.specs.Metas.{IsNamed};
 
 use crate::answers::{answer, only_meta};
 use crate::words::{Worded, span_words};
-use educe_attrs_values::{IdentOrBool, ValueKind, meta_2_bool, meta_2_bool_allow_path, meta_2_expr, meta_2_ident, meta_2_ident_and_bool, meta_2_isize, meta_2_path};
+use educe_attrs_values::{
+    IdentOrBool, ValueKind, meta_2_bool, meta_2_bool_allow_path, meta_2_expr, meta_2_ident,
+    meta_2_ident_and_bool, meta_2_isize, meta_2_path,
+};
 use educe_bound::Bound;
 use educe_syntax::{Expr, ExprPath, Ident, Meta, text_of_tree};
 use educe_tests::{check_rows, found};

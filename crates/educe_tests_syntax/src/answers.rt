@@ -1,7 +1,7 @@
 //! What is answered to the texts of tables.
 
-use crate::tree;
 use crate::parser::{Call, answer_text, calls, limits, parts};
+use crate::tree;
 use educe_tests::check_rows;
 use std::alloc::Global;
 use std::test::Fail;

@@ -4,7 +4,11 @@
 
 ghost use Rattle.std.specs.Prelude.{◌≤◌};
 
-use educe_syntax::{parse_derive_input, parse_expr, parse_expr_within, parse_ident, parse_metas, parse_params_within, parse_path, parse_path_within, parse_predicates, parse_predicates_within, parse_type_within};
+use educe_syntax::{
+    parse_derive_input, parse_expr, parse_expr_within, parse_ident, parse_metas,
+    parse_params_within, parse_path, parse_path_within, parse_predicates, parse_predicates_within,
+    parse_type_within,
+};
 use educe_tests::lex_answer;
 use educe_tokens::{EduceError, Kind, TokenSlice};
 use std::alloc::Global;

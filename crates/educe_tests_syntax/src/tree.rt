@@ -4,7 +4,10 @@
 use crate::answers::{Asked, check};
 use crate::common::{copied, lines, told};
 use crate::parser::calls::{metas, path};
-use educe_syntax::{DeriveInput, Duplicate, GenericParam, Generics, Lifetime, Meta, MetaPath, Shape, Ty, TypeForm, is_name, path_to_string, text_of_tree, unraw};
+use educe_syntax::{
+    DeriveInput, Duplicate, GenericParam, Generics, Lifetime, Meta, MetaPath, Shape, Ty, TypeForm,
+    is_name, path_to_string, text_of_tree, unraw,
+};
 use educe_tests::{check_equal, check_text, definition, first, lexed, printed};
 use educe_tokens::{Span, Spelling};
 use std::alloc::{AllocError, Global};

@@ -2,8 +2,8 @@
 
 use crate::common::{characters, or_none, piece_text};
 use crate::pieces::{comments, numbers, quotes, raw_strings};
-use crate::tokens::{kinds, nesting, refusals, values};
 use crate::tokens::described::described;
+use crate::tokens::{kinds, nesting, refusals, values};
 use educe_tests::{check_rows, lex_answer, printed_source};
 use educe_tokens::Token;
 use educe_tokens_pieces::{comment_at, raw_len, str_value};

@@ -1,12 +1,12 @@
 //! Of `educe_tokens_scan`: the piece at the front of a text, and whether a text is one piece.
 
-use crate::answers::check_characters;
 use crate::answers::OfCharacters::PieceAt;
+use crate::answers::check_characters;
 use crate::common::characters;
 use educe_tests::check_at;
-use educe_tokens_pieces::{LiteralKind, PieceKind, TokenKind, UncarriedKind};
 use educe_tokens_pieces::PieceKind::Token;
 use educe_tokens_pieces::TokenKind::Punct;
+use educe_tokens_pieces::{LiteralKind, PieceKind, TokenKind, UncarriedKind};
 use educe_tokens_scan::is_piece;
 use std::alloc::Global;
 use std::test::Fail;

@@ -15,7 +15,10 @@
 
 use crate::outcomes::lent;
 use crate::values::{scope, value};
-use educe_body::{Answer, Answers, Body, Callee, FieldValue, Form, Forms, Init, Inits, Names, Outcome, Position, Row, Scope, Shared, Value, index_word};
+use educe_body::{
+    Answer, Answers, Body, Callee, FieldValue, Form, Forms, Init, Inits, Names, Outcome, Position,
+    Row, Scope, Shared, Value, index_word,
+};
 use educe_body_eval::eval;
 use educe_syntax::{DeriveInput, ExprPath, FieldForm, Ident, parse_expr, parse_ident, parse_path};
 use educe_tests::{LINE, check_at, definition, found, lexed_slice, rows_of};

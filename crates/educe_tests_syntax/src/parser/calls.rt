@@ -1,14 +1,18 @@
 //! What the calls answer: trees by their text and their parts, rejections by their place and words.
 ghost use Rattle.std.specs.Prelude.{◌≤◌};
 
+use super::{Call, Part, kind_name, within_limit};
 use crate::answers::{Asked, check};
 use crate::common::{copied, lines, told};
-use educe_syntax::{DeriveInput, ExprPath, Meta, Metas, Shape, ToTokens, parse_derive_input, parse_expr, parse_expr_within, parse_ident, parse_metas, parse_params_within, parse_path, parse_path_within, parse_predicates, parse_predicates_within, parse_type_within, text_of_tree};
+use educe_syntax::{
+    DeriveInput, ExprPath, Meta, Metas, Shape, ToTokens, parse_derive_input, parse_expr,
+    parse_expr_within, parse_ident, parse_metas, parse_params_within, parse_path,
+    parse_path_within, parse_predicates, parse_predicates_within, parse_type_within, text_of_tree,
+};
 use educe_tests::{check_equal, check_text, definition, first, found, lexed_slice, printed};
 use educe_tokens::{EduceError, Seq, Span, TokenSlice};
 use std::alloc::{AllocError, Global};
 use std::test::Fail;
-use super::{Call, Part, kind_name, within_limit};
 
 /// The text of the tree that is answered.
 fn read_text<T: ToTokens + Drop>(

@@ -2,12 +2,12 @@
 //!
 //! `127 times (_) around A in struct S(_);` is `struct S(A);` with `A` in 127 pairs of brackets.
 
+use super::{Call, Part, Refusal, answer, kind_name, refusal_of};
 use crate::answers::{Asked, check};
 use educe_tests::{check_at, lexed};
 use educe_tokens::{Seq, Token, TokenSlice};
 use std::alloc::{AllocError, Global};
 use std::test::Fail;
-use super::{Call, Part, Refusal, answer, kind_name, refusal_of};
 
 /// A part that stands so often in itself around an innermost text, in the place of the `_` of an outer text.
 #[derive(Clone, Copy)]

@@ -1,11 +1,11 @@
 //! Names, metas, paths, expressions and predicates by themselves: beside each text that is read one
 //! that differs by a token and is rejected.
 
+use super::{Call, Refusal, kind_name, refusal_of};
 use crate::answers::{Asked, check};
 use educe_tests::{check_at, lexed_slice};
 use std::alloc::Global;
 use std::test::Fail;
-use super::{Call, Refusal, kind_name, refusal_of};
 
 /// How a call rejects a text, if it does.
 fn refused(alloc: Global, call: Call, text: &str) -> Result<Refusal, Fail> {

@@ -6,6 +6,7 @@ ghost use Rattle.educe_settings.specs.Rows.{is_order};
 ghost use Rattle.educe_syntax.specs.Refusal.{IsDefinition};
 ghost use Rattle.educe_syntax.specs.Shape.{Shape};
 
+use super::readings::{read_definition, spelled};
 use educe_attrs::{Stop, Trait, Traits, error_of, is_listed, type_listing};
 use educe_cmp::{EqHandler, OrdHandler, PartialEqHandler, PartialOrdHandler};
 use educe_handlers::{EnumPart, StructPart, TraitHandler, TraitHandlerContext};
@@ -17,7 +18,6 @@ use educe_tests::{check_at, check_equal, check_rows};
 use educe_tokens::Seq;
 use std::alloc::Global;
 use std::test::Fail;
-use super::readings::{read_definition, spelled};
 
 /// What is answered, where nothing is rejected.
 fn unstopped<T: Drop>(alloc: Global, answer: Result<T, Stop>) -> Result<T, Fail>

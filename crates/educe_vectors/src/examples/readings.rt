@@ -5,7 +5,9 @@ ghost use Rattle.educe_syntax.specs.Readings.{HasReadParts, IsReadField, IsReadP
 ghost use Rattle.educe_syntax.specs.Refusal.{IsDefinition};
 
 use educe_body::{Items, spell};
-use educe_syntax::{DeriveInput, ExprPath, Field, Fields, Shape, ToTokens, parse_path, text_of_tree};
+use educe_syntax::{
+    DeriveInput, ExprPath, Field, Fields, Shape, ToTokens, parse_path, text_of_tree,
+};
 use educe_tests::{definition, lexed_slice};
 use std::alloc::{AllocError, Global};
 use std::test::Fail;

@@ -3,6 +3,7 @@ ghost use Rattle.educe_settings.specs.Ranked.{kept_of};
 ghost use Rattle.educe_make_markers.specs.Marking.{MayMark};
 ghost use Rattle.educe_syntax.specs.Readings.{HasReadParts, IsReadField, IsReadPath};
 
+use super::readings::{field_at, read_definition, read_path, spelled, texts};
 use educe_attrs::Trait;
 use educe_make_markers::{MarkerNames, method_markers};
 use educe_settings::{How, Ranked};
@@ -12,7 +13,6 @@ use educe_tests::{check_rows, check_text, printed};
 use educe_tokens::Span;
 use std::alloc::{AllocError, Global};
 use std::test::Fail;
-use super::readings::{field_at, read_definition, read_path, spelled, texts};
 
 /// What replaces `Self` in a struct with a parameter of each kind.
 fn replacing(alloc: Global) -> Result<ReplaceSelf, Fail> {
