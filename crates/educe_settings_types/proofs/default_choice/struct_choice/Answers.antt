@@ -29,16 +29,16 @@ returns-in-Some-clause-uncaused c =
     let read : AreFieldsRead (is_open ast) ast shape.fields = subst (λ b. AreFieldsRead b ast shape.fields) written (subst (AreFieldsRead c.is_none.result ast) c.as_slice.ensures c.in_ok-settings.ensures.uncaused) in
     struct_uncaused ast lists c.requires.typed.own shape c.requires.shape read
 
-pub returns-clause-are : goal.returns-clause-are
-returns-clause-are c =
+pub returns-in-None-clause-are : goal.returns-in-None-clause-are
+returns-in-None-clause-are c =
     let ast = c.args.task.ast.now in
     let shape = c.args.shape.now in
     let bare : c.is_none.result ≡ true = none_tested c.args.value c.is_none.result c.is_none.ensures ∙ ap is_none c.in-None.is in
     let none : (type_values ast).expression ≡ None = sym c.requires.value ∙ c.in-None.is in
     (struct_chosen ast shape c.requires.shape none, c.in_ok-settings.ensures.settings ∙ (λ i. map (settings_by (bare i) ast) (c.as_slice.ensures i)))
 
-pub returns-clause-uncaused : goal.returns-clause-uncaused
-returns-clause-uncaused c =
+pub returns-in-None-clause-uncaused : goal.returns-in-None-clause-uncaused
+returns-in-None-clause-uncaused c =
     let ast = c.args.task.ast.now in
     let shape = c.args.shape.now in
     let written : c.is_none.result ≡ is_open ast = none_tested c.args.value c.is_none.result c.is_none.ensures ∙ c.requires.typed.bare_is in

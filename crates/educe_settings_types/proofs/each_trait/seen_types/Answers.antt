@@ -101,8 +101,8 @@ returns-in-Default-clause-err c = stop_of_trait c.args.task.trait_ trait.Default
 pub default_types-requires-clause-lists : goal.default_types-requires-clause-lists
 default_types-requires-clause-lists c = subst (λ which. is_listed c.args.task.listed.now which ≡ true) c.in-Default.is c.requires.lists
 
-pub returns-in-Copy-clause-types : goal.returns-in-Copy-clause-types
-returns-in-Copy-clause-types c =
+pub returns-in_ok-copied_types-in-Copy-clause-types : goal.returns-in_ok-copied_types-in-Copy-clause-types
+returns-in_ok-copied_types-in-Copy-clause-types c =
     let ast = c.args.task.ast.now in
-    let types = c.in_ok-copied_types.field-0 in
-    subst (λ which. AreTypes which ast (read_of types) (touched_of types)) (sym c.in-Copy.is) c.in_ok-copied_types.ensures
+    let types = c.in_ok-copied_types-in-Copy.field-0 in
+    subst (λ which. AreTypes which ast (read_of types) (touched_of types)) (sym c.in-Copy.is) c.in_ok-copied_types-in-Copy.ensures
