@@ -2,7 +2,7 @@
 use Rattle.std.proofs.Common.{◌≡◌, ◌&&◌, Bool, true, false, List, [], refl, subst}
 use Rattle.educe_syntax.specs.DeriveInput.{DeriveInput}
 use Rattle.educe_syntax.specs.Ty.{Ty}
-use Rattle.educe_grammar.specs.Naming.{AreNamesApart}
+use Rattle.educe_syntax.specs.Naming.{AreNamesApart}
 use Rattle.educe_bound_classes.specs.Deriving.{Extends}
 use Rattle.educe_bound_classes.specs.Exceptions.{Exceptions}
 use Rattle.educe_bound_traits.specs.declared.traits.Trait.{Trait}
