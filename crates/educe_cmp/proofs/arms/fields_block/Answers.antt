@@ -1,6 +1,8 @@
 use Rattle.std.proofs.Common.{subst, map}
+use Rattle.std.proofs.lemmas.Result.{IfOk-weaker}
 use Rattle.educe_settings.specs.Ranked.{kept_of}
-use Rattle.educe_meaning.specs.Arms.{IsPatternBy}
+use Rattle.educe_cmp.specs.Names.{names_of}
+use Rattle.educe_meaning.specs.Arms.{IsPatternBy, ComparesFields}
 use Rattle.educe_handlers.proofs.Named.{name_copied}
 use Rattle.educe_cmp.proofs.arms.fields_block.Goals as goal
 
@@ -8,7 +10,8 @@ pub returns : goal.returns
 returns c = λ definition said in_order.
     let names = c.args.names.now in
     let variant = c.args.variant.now in
-    record {
+    IfOk-weaker c.block_of.result _ (ComparesFields c.args.which definition (names_of names) variant)
+    (λ block is. record {
       inner = c.in_ok-inner.inner;
       inner_is = subst (λ all. IsPatternBy names.others variant all c.in_ok-inner.inner) said c.in_ok-inner.ensures;
       value = c.in_ok-value.value;
@@ -19,5 +22,6 @@ returns c = λ definition said in_order.
       steps_are = c.in_ok-steps.ensures;
       others = c.in_ok-others.others;
       others_are = c.in_ok-others.ensures;
-      block_is = c.in_ok-block_of.ensures;
-    }
+      block_is = is;
+    })
+    c.block_of.ensures

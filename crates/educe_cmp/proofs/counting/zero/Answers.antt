@@ -25,12 +25,12 @@ word_copied false text = refl
 list_copied : (tokens : List Token) (text : List ℕ) → lexemes tokens ≡ word_lexeme text ∷ [] → IsTrue (may_be_copied (lexemes tokens))
 list_copied tokens text is = subst (λ found. IsTrue (may_be_copied found)) (sym is) (word_copied (spells Ident text) text)
 
-pub new-requires-2 : goal.new-requires-2
-new-requires-2 c =
-    list_copied c.in_ok-new.field-0 c.in_ok-index_word.field-0.text
-    (ap lexemes c.in_ok-new.ensures ∙ one_word _ _ _ _ c.new-tokens.ensures refl c.in_ok-push_word.ensures.ok)
+pub new-requires : goal.new-requires
+new-requires c =
+    list_copied c.in_ok-into_slice.field-0 c.in_ok-index_word.field-0.text
+    (ap lexemes c.in_ok-into_slice.ensures ∙ one_word _ _ _ _ c.new-tokens.ensures refl c.in_ok-push_word.ensures.ok)
 
 pub returns : goal.returns
 returns c =
-    ap lexemes (c.new-2.ensures ∙ c.in_ok-new.ensures)
+    ap lexemes (c.new.ensures ∙ c.in_ok-into_slice.ensures)
     ∙ one_word _ _ _ (codes "0") c.new-tokens.ensures (c.in_ok-index_word.ensures ∙ decimal_digit 0 (omega arith)) c.in_ok-push_word.ensures.ok

@@ -14,7 +14,7 @@ returns c =
     let last = c.in_ok-parameter.parameter.text ∷ [] in
     let behind = c.in_ok-inner.inner.text ∷ last in
     let words = ap texts_of (three_pushed _ _ _ _ _ _ _ c.new-names.ensures c.in_ok-push.ensures.ok c.in_ok-push-2.ensures.ok c.in_ok-push-3.ensures.ok) in
-    let texts : texts_of c.push-3.new.self ≡ c.in_ok-outer.outer.text ∷ behind = words ∙ (λ i. c.new-2.ensures i ∷ c.new-3.ensures i ∷ c.new-4.ensures i ∷ []) in
+    let texts : texts_of c.push-3.new.self ≡ c.in_ok-outer.outer.text ∷ behind = words ∙ (λ i. c.new.ensures i ∷ c.new-2.ensures i ∷ c.new-3.ensures i ∷ []) in
     subst (AreChosenFor c.args.ast.now plain_names) (sym texts)
     (record {
       words = c.in_ok-used.used;
