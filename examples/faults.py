@@ -43,7 +43,8 @@ def definitions():
     first = "#[educe(Debug(name = x), Clone(method(c)), PartialEq(method(e)), Ord(rank = 2, reverse))] a: Vec<T>"
     second = "#[educe(Debug(method(d)), Hash(ignore), Default = 3)] b: Box<Self>"
     variants = f"A, #[educe(Default)] B {{ {first}, {second} }}, C(&'a T, (T, u8)) = 7"
-    yield Case("all nine traits", ["expand"], f"#[educe({traits})] #[allow(x)] enum E<'a, T: 'a> {{ {variants} }}".encode(), 0)
+    text = f"#[educe({traits})] #[allow(x)] enum E<'a, T: 'a> {{ {variants} }}"
+    yield Case("all nine traits", ["expand"], text.encode(), 0)
 
 
 class Runs:
@@ -72,7 +73,8 @@ class Runs:
         self.count += 1
         if not is_right:
             self.wrong += 1
-            print(f"WRONG: {case.name}, {fault}: status {ended.status}, {ended.out[:100]!r}, {ended.err[:300]!r}", flush=True)
+            written = f"{ended.out[:100]!r}, {ended.err[:300]!r}"
+            print(f"WRONG: {case.name}, {fault}: status {ended.status}, {written}", flush=True)
 
     def right(self, case):
         """How the program ends over a case without a fault."""
@@ -84,8 +86,8 @@ class Runs:
 
     def with_faults(self, case, **faults):
         """How the program ends over a case where the library makes calls fail, and whether one did."""
-        faults = {"MARK": self.mark, **faults}
-        environment = {**os.environ, "LD_PRELOAD": self.library, **{f"FAULT_{name}": str(of) for name, of in faults.items()}}
+        environment = {**os.environ, "LD_PRELOAD": self.library, "FAULT_MARK": str(self.mark)}
+        environment.update({f"FAULT_{name}": str(value) for name, value in faults.items()})
         before = os.fstat(self.mark).st_size
         ended = self.run(case, env=environment, pass_fds=(self.mark,))
         return ended, os.fstat(self.mark).st_size > before
@@ -100,14 +102,17 @@ def numbers():
 
 
 def in_turn(runs, case, is_right, kind, error, step=0, on=False):
-    """Has one call after the other fail, alone or with all later ones, until none comes any more."""
+    """Has one call after the other fail, alone or with all later ones, until none comes any more. The first one comes,
+    but a read only where the command reads."""
     right = runs.right(case)
+    calls = kind != "read" or case.words == ["expand"]
     for number in numbers():
         last = 10**9 if on else number
         ended, came = runs.with_faults(case, KIND=kind, FIRST=number, LAST=last, ERROR=error, STEP=step)
         fault = f"{kind} {number}{' and all later ones' if on else ''}: {errno.errorcode[error]}, step {step}"
         if not came:
-            runs.check(case, f"{fault}, which does not come", ended, ended == right)
+            is_last = number > 1 or not calls
+            runs.check(case, f"{fault}, which does not come", ended, ended == right and is_last)
             return
         runs.check(case, fault, ended, is_right(ended, right, number))
 
@@ -151,11 +156,12 @@ def check_writes(runs):
             ended, _ = runs.with_faults(case, KIND="write", STEP=step)
             runs.check(case, f"writes of at most {step} bytes", ended, ended == right)
 
-        def is_right(ended, right, number, step):
-            return ended.status == 4 and is_front(ended, right) and len(ended.out) + len(ended.err) == (number - 1) * step
+        def is_right(ended, right, number):
+            moved = len(ended.out) + len(ended.err)
+            return ended.status == 4 and is_front(ended, right) and moved == (number - 1) * step
 
-        for step, error in itertools.product((7 if written < 1_000 else 100, LIMIT * 100), (errno.EIO, errno.ENOSPC)):
-            in_turn(runs, case, lambda *found, step=step: is_right(*found, step), "write", error, step)
+        for step, error in itertools.product((7 if written < 1_000 else 100, written), (errno.EIO, errno.ENOSPC)):
+            in_turn(runs, case, is_right, "write", error, step)
 
 
 def check_outputs(runs):
@@ -175,7 +181,8 @@ def check_outputs(runs):
                 os.close(reading)
                 ended = runs.run(case, restore_signals=restores, **{name: writing})
                 os.close(writing)
-                runs.check(case, f"{name} is a broken pipe, signal {'kept' if restores else 'ignored'}", ended, ended == ends)
+                signal = "as usual" if restores else "ignored"
+                runs.check(case, f"{name} is a broken pipe, SIGPIPE {signal}", ended, ended == ends)
             reading, writing = os.pipe2(os.O_NONBLOCK)
             os.write(writing, b"x" * 10**6)
             ended = runs.run(case, **{name: writing})
@@ -211,7 +218,8 @@ def check_arguments(runs):
 
 
 # Around what nests: a type that each trait uses, the value of a field, and the value of a discriminant.
-TYPE = f"#[educe({NINE})] struct S<'a, T> {{ #[educe(Clone(method(c)), Debug(method(d)), Default(expression = b))] a: _ }}"
+METHODS = "Clone(method(c)), Debug(method(d)), Default(expression = b)"
+TYPE = f"#[educe({NINE})] struct S<'a, T> {{ #[educe({METHODS})] a: _ }}"
 VALUE = "#[educe(Default)] struct S { #[educe(Default = _)] a: u8 }"
 NUMBER = "#[educe(PartialOrd, Ord)] enum E { A = _, B }"
 
@@ -310,7 +318,8 @@ def check_stack(runs):
             runs.check(case, "nesting", ended, ended.err.endswith(b": nested too deeply\n"))
     for front, part, end, back in LONG:
         most = (LIMIT - len(front + back)) // len(part + end)
-        in_small_stack(runs, Case(f"{most} times {part}", ["expand"], (front + part * most + end * most + back).encode(), 0))
+        text = front + part * most + end * most + back
+        in_small_stack(runs, Case(f"{most} times {part}", ["expand"], text.encode(), 0))
     in_small_stack(runs, Case("the largest sample", ["sample", "1000"], b"", 0))
 
 

@@ -9,7 +9,8 @@
 # past the limits, in a stack of 512 KiB.
 #
 # The exit status has to be the one that README.md lists for the fault, and what is written the front of what is written
-# without it. Prints each run that ends otherwise, and how many faults and texts were tried. Ends with 0 if all were right.
+# without it. Prints each run that ends otherwise, and how many faults and texts were tried. Ends with 0 if all were
+# right.
 #
 # Everything is made in a temporary folder. Where cc or python3 is missing, nothing is done. It takes a few minutes.
 set -eu
@@ -29,8 +30,8 @@ trap 'rm -rf "$folder"' EXIT
 cat > "$folder/faults.c" << 'LIBRARY'
 /* Faults, as the environment asks for them: FAULT_KIND is what fails (`memory`, `read` or `write`), FAULT_FIRST and
    FAULT_LAST are the numbers of the first and the last call that fails, from 1, and FAULT_ERROR is the number of the
-   error. FAULT_STEP is how many bytes a read or a write moves at most. Each fault is a byte in the file FAULT_MARK, which
-   is the number of an open one. */
+   error. FAULT_STEP is how many bytes such a call moves at most. Each fault is a byte in the file FAULT_MARK, which is
+   the number of an open one. */
 #define _GNU_SOURCE
 #include <errno.h>
 #include <stdlib.h>
@@ -76,7 +77,8 @@ static int fails(enum kind of) {
     return 1;
 }
 
-static size_t moved(size_t size) { return step && size > step ? step : size; }
+/* How many of so many bytes a call moves at most. */
+static size_t moved(enum kind of, size_t size) { return of == kind && step && size > step ? step : size; }
 
 void *malloc(size_t size) { return fails(MEMORY) ? NULL : __libc_malloc(size); }
 
@@ -107,7 +109,7 @@ void *mmap64(void *at, size_t size, int protection, int flags, int file, off_t o
 ssize_t read(int file, void *room, size_t size) {
     if (file == 0) {
         if (fails(READ)) return -1;
-        size = moved(size);
+        size = moved(READ, size);
     }
     return syscall(SYS_read, file, room, size);
 }
@@ -117,7 +119,7 @@ ssize_t __read(int file, void *room, size_t size) { return read(file, room, size
 ssize_t write(int file, const void *bytes, size_t size) {
     if (file == 1 || file == 2) {
         if (fails(WRITE)) return -1;
-        size = moved(size);
+        size = moved(WRITE, size);
     }
     return syscall(SYS_write, file, bytes, size);
 }
