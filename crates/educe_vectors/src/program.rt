@@ -23,7 +23,7 @@ pub fn shown(bytes: &[u8]) -> &str {
 }
 
 /// The exit status of a run with these words.
-fn run_words<S: Source + Drop, K: Sink, E: Sink>(
+pub fn run_words<S: Source + Drop, K: Sink, E: Sink>(
     alloc: Global,
     words: &[&str],
     source: Result<S, AllocError>,

@@ -53,7 +53,7 @@ use std::alloc::Global;
 use std::test::Fail;
 
 /// What a source is expanded to.
-fn expansion(alloc: Global, source: &str) -> Result<Expansion, Fail> {
+pub fn expansion(alloc: Global, source: &str) -> Result<Expansion, Fail> {
     if source.len() > SOURCE_LIMIT {
         return Err(Fail::from("too long"));
     }

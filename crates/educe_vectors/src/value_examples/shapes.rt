@@ -186,47 +186,6 @@ the formatter and the variables are no words of the input
 : holds fn fmt ( & self , _f : & mut :: core :: fmt :: Formatter < '_ > )
 : holds Self :: V1 => _f . write_str ( "Enum" ) ,
 : holds Self :: V2 { f1 : __f1 , } => { let mut builder = _f . debug_struct ( "Enum::V" ) ; builder . field ( "f" , __f1 ) ; builder . finish ( ) } ,
-
-all nine traits
-/// A shape of the plane.
-#[derive(Educe)]
-#[educe(Debug, Clone, Copy, PartialEq, Eq, PartialOrd, Ord, Hash, Default)]
-#[allow(dead_code)]
-#[repr(u8)]
-pub enum Shape<T> {
-    /// No shape.
-    #[educe(Default)]
-    None,
-    Dot(T, T),
-    Line { from: (T, T), to: (T, T) },
-    Circle { center: (T, T), radius: T } = 10,
-    Square(T),
-    Rect { w: T, h: T },
-    Ring(T, T),
-    Arc {
-        start: i32,
-        end: i32,
-        #[educe(PartialEq(ignore), PartialOrd(ignore), Hash(ignore))]
-        label: &'static str,
-    },
-    Star(u8),
-    Text(#[educe(Debug(ignore))] &'static str),
-    Group(u32, u32),
-    Other,
-}
-: items 10
-: holds # [ allow ( dead_code ) ] impl < T > :: core :: fmt :: Debug for Shape < T >
-: holds # [ allow ( dead_code ) ] impl < T > :: core :: clone :: Clone for Shape < T >
-: holds # [ allow ( dead_code ) ] impl < T > :: core :: marker :: Copy for Shape < T > where T : :: core :: marker :: Copy , ( T , T ) : :: core :: marker :: Copy , T : :: core :: clone :: Clone , ( T , T ) : :: core :: clone :: Clone
-: holds # [ allow ( dead_code ) ] impl < T > :: core :: cmp :: PartialEq for Shape < T >
-: holds fn __educe_assert_eq < _T : ? Sized + :: core :: cmp :: Eq > ( ) { }
-: holds # [ allow ( dead_code ) ] impl < T > :: core :: cmp :: Eq for Shape < T >
-: holds # [ allow ( dead_code ) ] impl < T > :: core :: cmp :: PartialOrd for Shape < T >
-: holds # [ allow ( dead_code ) ] impl < T > :: core :: cmp :: Ord for Shape < T >
-: holds Self :: Other => const { let base : :: core :: primitive :: u8 = 10 ; base . wrapping_add ( 8usize as :: core :: primitive :: u8 ) } ,
-: holds Self :: Arc { start : _s_start , end : _s_end , label : _ , } => { if let Self :: Arc { start : _o_start , end : _o_end , label : _ , } = other { match :: core :: cmp :: Ord :: cmp ( _s_start , _o_start ) {
-: holds # [ allow ( dead_code ) ] impl < T > :: core :: hash :: Hash for Shape < T >
-: holds # [ allow ( dead_code ) ] impl < T > :: core :: default :: Default for Shape < T >
 "#;
 
 #[test]
