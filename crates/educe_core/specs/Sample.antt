@@ -23,7 +23,7 @@ abbrev pub sample_text : ℕ → List ℕ
 sample_text count = codes "#[educe(PartialEq, PartialOrd, Ord, Hash)] #[repr(u16)] enum Sample<T> {" ++ (sample_variants count ++ codes " }")
 
 -- The item is the implementation of a trait.
-abbrev pub is_impl : Item → Bool
+unfoldable pub is_impl : Item → Bool
 is_impl (Impl item) = true
 is_impl (New item) = false
 is_impl (FieldCheck item) = false

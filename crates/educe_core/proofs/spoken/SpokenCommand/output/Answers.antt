@@ -22,3 +22,11 @@ returns-in-Sample-clause-cause c = subst (λ (s : Spoken). IfErr c.sampled_line.
 pub returns-in-Sample-clause-invalid : goal.returns-in-Sample-clause-invalid
 returns-in-Sample-clause-invalid c =
     subst (λ (s : Spoken). IfOk c.sampled_line.result (λ x. (e : EduceError) → e.kind ≢ Alloc → (meaning s).IsCause c.args.input.now e → ⊥)) (sym c.in-Sample.is) c.sampled_line.ensures.invalid
+
+pub returns-in-Expand-clause-valid : goal.returns-in-Expand-clause-valid
+returns-in-Expand-clause-valid c =
+    subst (λ (s : Spoken). (meaning s).IsValid c.args.input.now → IfErr c.expanded_text.result (λ (e : EduceError). e.kind ≡ Alloc)) (sym c.in-Expand.is) c.expanded_text.ensures.valid
+
+pub returns-in-Sample-clause-valid : goal.returns-in-Sample-clause-valid
+returns-in-Sample-clause-valid c =
+    subst (λ (s : Spoken). (meaning s).IsValid c.args.input.now → IfErr c.sampled_line.result (λ (e : EduceError). e.kind ≡ Alloc)) (sym c.in-Sample.is) c.sampled_line.ensures.valid
