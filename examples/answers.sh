@@ -4,7 +4,7 @@
 #
 # Usage: examples/answers.sh PROGRAM
 #
-# First the rows with values of five files in crates/educe_vectors_values/src/examples, which rt ci has the evaluator
+# First the rows with values of five files in crates/educe_vectors/src/value_examples, which rt ci has the evaluator
 # answer: here compiled code answers them. It is each definition without its `educe` attributes, what the built
 # program prints for it, and functions that answer as the rows say. A call that no row names panics. `Ord` and
 # `PartialOrd` ask for other traits, which are added where they are not listed. What `default` makes by an expression
@@ -19,8 +19,8 @@
 # Then the definitions of clones.py, on all pairs of a few values: what is made and what is called is what `Clone` means.
 #
 # Last the evaluator is asked the same about these enums and definitions, where rt is there: evaluated.py prints them as
-# tables of worked examples, which take the place of those of educe_vectors_values in a copy of the crates, whose tests
-# rt runs. That proves nothing.
+# tables of worked examples, which take the place of those of educe_vectors in a copy of the crates, whose other tests
+# are left out and which rt then tests. That proves nothing.
 #
 # Where rustc is missing, nothing is done.
 set -eu
@@ -38,7 +38,7 @@ fi
 
 folder=$(mktemp -d)
 trap 'rm -rf "$folder"' EXIT
-tables=../crates/educe_vectors_values/src/examples
+tables=../crates/educe_vectors/src/value_examples
 status=0
 PYTHONDONTWRITEBYTECODE=1
 export PYTHONDONTWRITEBYTECODE
@@ -52,11 +52,16 @@ if ! command -v rt > /dev/null; then
 fi
 mkdir "$folder/copy"
 tar -C .. --exclude=out -cf - crates crates.txt HANDLES | tar -C "$folder/copy" -xf -
-cd "$folder/copy/crates/educe_vectors_values"
-printf 'mod clones;\nmod enums;\n' > src/examples.rt
-rm src/examples/*
+cd "$folder/copy/crates/educe_vectors"
+python3 - src/lib.rt << 'LEFT_OUT'
+import re, sys
+text = open(sys.argv[1]).read()
+open(sys.argv[1], "w").write(re.sub(r"#\[cfg\(test\)\]\nmod (bound_examples|examples);\n", "", text))
+LEFT_OUT
+rm -r src/examples src/examples.rt src/bound_examples src/bound_examples.rt src/value_examples/*
+printf 'mod clones;\nmod enums;\n' > src/value_examples.rt
 for table in clones enums; do
-  python3 "$examples/evaluated.py" "$program" "$folder" $table > src/examples/$table.rt || status=1
+  python3 "$examples/evaluated.py" "$program" "$folder" $table > src/value_examples/$table.rt || status=1
 done
 rt try --test || status=1
 exit $status

@@ -77,6 +77,9 @@ ENUMS = [
     ("one rank in two variants", f"{EACH} enum E {{ A(#[educe(Ord(rank = 5))] u8, #[educe(Ord(rank(-9223372036854775808)))] u8), B(#[educe(Ord(rank = 5))] u8, u8) }}", apart(("01", "01"), ("10", "10"))),
     ("methods", f"{EACH} enum E {{ A(#[educe(PartialEq(method = same_digit), Ord(method = by_digit))] u8, u8), B {{ x: u8, #[educe(Ord(method = backwards, rank = -1))] y: u8 }} }}", apart(("0%1", "01"), ("0%1", "01-"))),
     ("a method of each order", "#[educe(PartialOrd, Ord)] enum E { A(#[educe(PartialOrd(method = no_order), Ord(method = backwards))] u8), B { #[educe(PartialOrd(method = \"part_by_digit\", rank = 1), Ord(rank = 1))] x: u8, y: u8 } }", apart((), ("0-", "10"), ("0!", "10%"))),
+    ("reversed fields", f"{EACH} enum E {{ A(#[educe(Ord(reverse))] u8, u8), B {{ x: u8, #[educe(PartialOrd(reverse, rank = -1))] y: u8 }} }}", apart(("01", "01"), ("0-1", "01-"))),
+    ("a reversed method", f"{EACH} enum E {{ A(#[educe(Ord(method = backwards, reverse))] u8), B }}", apart(("0", ""), ("0", ""))),
+    ("a field that one order reverses", "#[educe(PartialOrd, Ord)] enum E { A(#[educe(PartialOrd = true, Ord(reverse))] u8), B(#[educe(PartialOrd(reverse), Ord(reverse = false))] u8) }", apart((), ("0-", "0"), ("0", "0-"))),
     ("never equal", "#[educe(PartialEq)] enum E { A(#[educe(PartialEq(method(never)))] u8), B, C { x: u8 } }", alike("0!", "", "0")),
     # Names.
     ("fields that are named as generated names are", f"{EACH} enum E {{ A {{ other: u8, this: u8 }}, B {{ discriminant: u8, base: u8 }}, C {{ _other: u8, __this: u8 }} }}", alike("01", "01", "01")),

@@ -3,7 +3,7 @@ pairs of a few values.
 
 Usage: evaluated.py PROGRAM FOLDER enums|clones > TABLE
 
-See answers.sh, which calls it. The tables have the form of those in crates/educe_vectors_values/src/examples, so the
+See answers.sh, which calls it. The tables have the form of those in crates/educe_vectors/src/value_examples, so the
 evaluator can be asked what compiled code is asked by pairs.py and clones.py. Its values are fewer: a variant with fields
 has two or three. Definitions without values have no rows. Where the whole value is copied, there is no `clone_from`.
 """
@@ -37,7 +37,7 @@ METHODS = {
 HEAD = """//! Worked examples on all pairs of a few values (documentation of `educe`, PartialEq; PartialOrd; Ord; Clone; Copy).
 //! examples/evaluated.py prints them.
 
-use educe_vectors_runs::check_table;
+use crate::tables::check_table;
 use std::test::Fail;
 """
 

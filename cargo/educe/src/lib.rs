@@ -177,7 +177,8 @@
 //!
 //! ## `Ord`
 //!
-//! If `PartialOrd` is listed too, it uses a field's attribute of `Ord`, unless the field has one of `PartialOrd`.
+//! `reverse` sorts by a field downwards. If `PartialOrd` is listed too, it uses a field's attribute of `Ord`, unless the field
+//! has one of `PartialOrd`.
 //!
 //! ```
 //! use educe::Educe;
@@ -187,12 +188,8 @@
 //! struct Job {
 //!     #[educe(PartialEq(ignore), Ord(ignore))]
 //!     name: &'static str,
-//!     #[educe(Ord(method = descending))]
+//!     #[educe(Ord(reverse))]
 //!     priority: u8,
-//! }
-//!
-//! fn descending(a: &u8, b: &u8) -> std::cmp::Ordering {
-//!     b.cmp(a)
 //! }
 //!
 //! let mut jobs = [Job { name: "clean", priority: 1 }, Job { name: "build", priority: 9 }];

@@ -47,6 +47,37 @@ pub enum Level {
     Note = -1,
 }
 
+/// A message, the newest first; of one second the more urgent one first, and then by its text.
+#[derive(Educe)]
+#[educe(Debug, Clone, PartialEq, Eq, PartialOrd, Ord)]
+pub struct Message {
+    #[educe(Ord(reverse, rank = 1))]
+    pub second: u64,
+    #[educe(Ord(reverse, rank = 2, method = urgency))]
+    pub level: Level,
+    #[educe(Ord(rank = 3))]
+    pub text: &'static str,
+}
+
+/// Notes and warnings are equally urgent, and errors more.
+fn urgency(a: &Level, b: &Level) -> Ordering {
+    (*a == Level::Error).cmp(&(*b == Level::Error))
+}
+
+/// A place in a league: the clubs without points last, the others by points and goals downwards.
+#[derive(Educe)]
+#[educe(Debug, Clone, PartialEq, PartialOrd)]
+pub enum Standing {
+    Playing {
+        #[educe(PartialOrd(reverse))]
+        points: u32,
+        #[educe(PartialOrd(reverse))]
+        goals: f64,
+        name: &'static str,
+    },
+    Waiting(&'static str),
+}
+
 #[cfg(test)]
 mod tests {
     use super::*;
@@ -94,6 +125,61 @@ mod tests {
         assert!(early < late);
         assert_eq!(late, late);
         assert_eq!(late.partial_cmp(&late), None);
+    }
+
+    #[test]
+    fn messages_are_sorted_as_a_model_does() {
+        let mut messages = Vec::new();
+        for text in ["b", "a"] {
+            for level in [Level::Note, Level::Error, Level::Warning] {
+                for second in [1, 3, 2] {
+                    messages.push(Message {
+                        second,
+                        level,
+                        text,
+                    });
+                }
+            }
+        }
+        let key = |message: &Message| {
+            let is_urgent = message.level == Level::Error;
+            (u64::MAX - message.second, !is_urgent, message.text)
+        };
+        for a in &messages {
+            for b in &messages {
+                assert_eq!(a.cmp(b), key(a).cmp(&key(b)));
+                assert_eq!(a.partial_cmp(b), Some(a.cmp(b)));
+            }
+        }
+        let mut model = messages.clone();
+        model.sort_by_key(key);
+        messages.sort();
+        assert_eq!(messages, model);
+    }
+
+    #[test]
+    fn standings_are_sorted_downwards() {
+        let playing = |points, goals, name| Standing::Playing {
+            points,
+            goals,
+            name,
+        };
+        let sorted = [
+            playing(9, 1.0, "a"),
+            playing(7, 5.0, "b"),
+            playing(7, 4.0, "a"),
+            playing(7, 4.0, "b"),
+            Standing::Waiting("a"),
+            Standing::Waiting("b"),
+        ];
+        for (place, low) in sorted.iter().enumerate() {
+            for (other, high) in sorted.iter().enumerate() {
+                assert_eq!(low.partial_cmp(high), Some(place.cmp(&other)));
+            }
+        }
+        let unknown = playing(7, f64::NAN, "c");
+        assert_eq!(unknown.partial_cmp(&sorted[1]), None);
+        assert_eq!(unknown.partial_cmp(&sorted[0]), Some(Ordering::Greater));
     }
 
     #[test]

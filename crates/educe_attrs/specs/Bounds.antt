@@ -5,13 +5,13 @@ use Rattle.educe_bound.specs.Bounds as value
 use Rattle.educe_bound.specs.declared.bound.Bound.TheVariants.{Auto}
 use Rattle.educe_attrs_values.specs.declared.choices.WherePredicatesOrBool.{WherePredicatesOrBool}
 use Rattle.educe_attrs_rows.specs.declared.row.Row.{Row}
-use Rattle.educe_attrs_rows.specs.declared.row.TheConstants.Row.{EMPTY}
+use Rattle.educe_attrs_rows.specs.Rows.{empty_row}
 use Rattle.educe_attrs_places.specs.declared.place.FieldSettings.{FieldSettings}
 use Rattle.educe_attrs.specs.declared.bound_only.TypeAttribute.{TypeAttribute}
 
 -- The row that allows the trait alone and `bound`.
 abbrev pub bound_row : Bool → Bool → Row
-bound_row flag bound = record EMPTY { flag = flag; bound = bound }
+bound_row flag bound = record empty_row { flag = flag; bound = bound }
 
 -- The bound that is set; else the bounds that the trait needs.
 abbrev pub bound_of : Option WherePredicatesOrBool → Bound

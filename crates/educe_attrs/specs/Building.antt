@@ -18,7 +18,8 @@ SaysAs row IsOf meta attribute = (values : Values) × Says row meta values × Is
 -- The postcondition of a call that reads a meta: the attribute of its values, and then there is no cause; or a
 -- rejection with a cause.
 abbrev pub Reads : {A : Type 0} → Row → (FieldSettings → A → Type 0) → Meta → Result A EduceError → Type 0
-Reads row IsOf meta result = MatchResult result (λ attribute. SaysAs row IsOf meta attribute × HasNoCause row meta) (λ e. IsCause row meta e)
+Reads row IsOf meta result =
+    MatchResult result (λ attribute. SaysAs row IsOf meta attribute × HasNoCause row meta) (λ e. IsCause row meta e)
 
 -- The error has the cause, or is out of memory.
 pub data OfError (P : Cause) : EduceError → Type 0 where

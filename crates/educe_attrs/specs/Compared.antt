@@ -2,19 +2,20 @@
 use Rattle.std.specs.Prelude.{◌≡◌, ℤ, Bool, false, if◌then◌else◌, Option, Some, None, unwrap_or}
 use Rattle.educe_tokens.specs.declared.span.Span.{Span}
 use Rattle.educe_attrs_rows.specs.declared.row.Row.{Row}
-use Rattle.educe_attrs_rows.specs.declared.row.TheConstants.Row.{EMPTY}
+use Rattle.educe_attrs_rows.specs.Rows.{empty_row}
 use Rattle.educe_attrs_rows.specs.declared.row.Equals.TheVariants.{Nothing, Truth}
 use Rattle.educe_attrs_rows.specs.declared.values.Rank.{Rank}
 use Rattle.educe_attrs_places.specs.declared.place.FieldSettings.{FieldSettings}
 use Rattle.educe_attrs.specs.declared.compared.FieldAttribute.{FieldAttribute}
 
--- The row that allows `ignore`, also as a truth value after `=`, `method` and `rank`.
-abbrev pub compared_row : Bool → Bool → Bool → Row
-compared_row ignore method rank = record EMPTY {
+-- The row that allows `ignore`, also as a truth value after `=`, `method`, `rank` and `reverse`.
+abbrev pub compared_row : Bool → Bool → Bool → Bool → Row
+compared_row ignore method rank reverse = record empty_row {
   equals = if ignore then Truth else Nothing;
   ignore = ignore;
   method = method;
   rank = rank;
+  reverse = reverse;
 }
 
 -- The attribute of a field without a rank, of these settings.

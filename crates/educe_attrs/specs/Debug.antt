@@ -3,7 +3,7 @@ use Rattle.std.specs.Prelude.{◌≡◌, Bool, true, false, not, if◌then◌els
 use Rattle.educe_attrs_values.specs.declared.choices.IdentOrBool.{IdentOrBool}
 use Rattle.educe_attrs_values.specs.declared.choices.IdentOrBool.TheVariants as said
 use Rattle.educe_attrs_rows.specs.declared.row.Row.{Row}
-use Rattle.educe_attrs_rows.specs.declared.row.TheConstants.Row.{EMPTY}
+use Rattle.educe_attrs_rows.specs.Rows.{empty_row}
 use Rattle.educe_attrs_rows.specs.declared.row.Equals.{Equals}
 use Rattle.educe_attrs_rows.specs.declared.row.Equals.TheVariants as equals
 use Rattle.educe_attrs_rows.specs.declared.row.NameKind.TheVariants as kind
@@ -36,7 +36,7 @@ type_name_of own (Some (said.Bool false)) = type_name.Disable
 -- The row that allows the trait alone, a name, also after `=`, `named_field` and `bound`; its usage lines show what
 -- changes the builder's own.
 abbrev pub type_row : TypeAttributeBuilder → Row
-type_row builder = record EMPTY {
+type_row builder = record empty_row {
   flag = builder.enable_flag;
   equals = if builder.enable_name then equals.Ident else equals.Nothing;
   name = if builder.enable_name then Some (kind.Name (is_disabled builder.name)) else None;
@@ -73,7 +73,7 @@ field_equals false false = equals.Nothing
 
 -- The row that allows a name and `ignore`, both also after `=`, and `method`.
 abbrev pub field_row : FieldAttributeBuilder → Row
-field_row builder = record EMPTY {
+field_row builder = record empty_row {
   equals = field_equals builder.enable_name builder.enable_ignore;
   name = if builder.enable_name then Some kind.Ident else None;
   ignore = builder.enable_ignore;

@@ -4,7 +4,7 @@ use Rattle.educe_syntax.specs.Expr.{Expr}
 use Rattle.educe_syntax.specs.Ty.{Ty}
 use Rattle.educe_attrs_generated.specs.Adjusted as value
 use Rattle.educe_attrs_rows.specs.declared.row.Row.{Row}
-use Rattle.educe_attrs_rows.specs.declared.row.TheConstants.Row.{EMPTY}
+use Rattle.educe_attrs_rows.specs.Rows.{empty_row}
 use Rattle.educe_attrs_rows.specs.declared.row.Equals.TheVariants as equals
 use Rattle.educe_attrs_rows.specs.declared.values.Values.{Values}
 use Rattle.educe_attrs_places.specs.declared.place.FieldSettings.{FieldSettings}
@@ -25,7 +25,7 @@ IsAdjusted (Some said) ty (Some x) = value.IsAdjusted said ty x
 
 -- The row that allows the trait alone, `new`, `expression` and `bound`.
 abbrev pub type_row : TypeAttributeBuilder → Row
-type_row builder = record EMPTY {
+type_row builder = record empty_row {
   flag = builder.enable_flag;
   new = builder.enable_new;
   expression = builder.enable_expression;
@@ -44,7 +44,7 @@ pub record IsTyped (settings : FieldSettings) (attribute : TypeAttribute) : Type
 
 -- The row that allows the trait alone, and the value, also after `=`.
 abbrev pub field_row : FieldAttributeBuilder → Row
-field_row builder = record EMPTY {
+field_row builder = record empty_row {
   flag = builder.enable_flag;
   equals = if builder.enable_expression then equals.Expr else equals.Nothing;
   expression = builder.enable_expression;

@@ -25,5 +25,6 @@ pub all_handled : (h : Handling) (listed : List Trait) (some : Trait) → Contai
 all_handled = phased.all_handled
 
 -- A cause of a listed trait's handler is a cause of the last phase.
-pub one_refused : (h : Handling) (listed : List Trait) (which : Trait) → Contains listed which → (e : EduceError) → OfHandler h which e → OfLast h listed e
+pub one_refused : (h : Handling) (listed : List Trait) (which : Trait) → Contains listed which
+    → (e : EduceError) → OfHandler h which e → OfLast h listed e
 one_refused = phased.one_refused

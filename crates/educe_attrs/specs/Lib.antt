@@ -1,5 +1,6 @@
 -- Re-exports: the builders and their attributes.
 pub mod Building
+pub mod OneTrait
 pub mod Bounds
 pub mod NoField
 pub mod Cloned

@@ -8,13 +8,13 @@ use Rattle.educe_syntax.specs.MetaPath.{MetaPath}
 use Rattle.educe_attrs_values.specs.Words.{path_of}
 use Rattle.educe_attrs_rows.specs.Refusals.{incorrect_place}
 use Rattle.educe_attrs_rows.specs.declared.row.Row.{Row}
-use Rattle.educe_attrs_rows.specs.declared.row.TheConstants.Row.{EMPTY}
+use Rattle.educe_attrs_rows.specs.Rows.{empty_row}
 use Rattle.educe_attrs_places.specs.declared.place.FieldSettings.{FieldSettings}
 use Rattle.educe_attrs.specs.declared.no_field.FieldAttribute.{FieldAttribute}
 
 -- The row that allows no form.
 abbrev pub no_row : Row
-no_row = EMPTY
+no_row = empty_row
 
 -- The attribute of a field that allows no form: there is only one.
 abbrev pub IsOfNothing : FieldSettings → FieldAttribute → Type 0

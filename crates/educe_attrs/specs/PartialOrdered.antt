@@ -12,6 +12,7 @@ ordered_attribute rank settings = record {
   method_returns_ordering = settings.method_returns_ordering;
   rank = number_of settings.values.rank rank;
   rank_span = place_of settings.values.rank;
+  reverse = unwrap_or settings.values.reverse false;
 }
 
 -- The attribute is the one of these settings, with the rank of the builder if none is given.

@@ -55,18 +55,13 @@ pub trait AttributeBuilder {
         requires { IsNamed meta.now }
         ensures { Reads (row_of self.now) (IsOf self.now) meta.now result }
     {
-        match read_meta(alloc, &self.row(), meta) {
-            Ok(values) => {
-                let settings = FieldSettings {
-                    values,
-                    method_returns_ordering: false,
-                };
-                match self.attribute(alloc, settings) {
-                    Ok(attribute) => Ok(attribute),
-                    Err(_) => Err(EduceError::alloc(alloc)),
-                }
-            }
-            Err(error) => Err(error),
+        let settings = FieldSettings {
+            values: read_meta(alloc, &self.row(), meta)?,
+            method_returns_ordering: false,
+        };
+        match self.attribute(alloc, settings) {
+            Ok(attribute) => Ok(attribute),
+            Err(_) => Err(EduceError::alloc(alloc)),
         }
     }
 }

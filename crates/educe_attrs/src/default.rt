@@ -177,10 +177,7 @@ impl FieldAttributeBuilder {
         requires { IsNamed meta.now }
         ensures { Reads (spec.field_row self.now) (λ settings. spec.IsField ty.now settings.values) meta.now result }
     {
-        match read_meta(alloc, &self.row(), meta) {
-            Ok(values) => field_attribute(alloc, values, ty),
-            Err(error) => Err(error),
-        }
+        field_attribute(alloc, read_meta(alloc, &self.row(), meta)?, ty)
     }
 
     /// What the attributes of a field of the type say of `Default`. They are rejected exactly where

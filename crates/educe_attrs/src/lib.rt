@@ -1,6 +1,7 @@
 //! The attributes of a definition: for each trait a module with its builders and what they build
 //! for a type, a variant or a field (documentation of `educe`, each trait's section). Also
-//! re-exports what users of attributes need of the layers below.
+//! re-exports what users of attributes need of the layers below. `IdentOrIndex`, a field's name or
+//! index, is in the crate `educe_body_forms`, with the bindings that are made of it.
 #![tactic(auto)]
 
 mod bound_only;
@@ -13,13 +14,14 @@ pub mod default;
 pub mod eq;
 pub mod hash;
 mod no_field;
+mod one_trait;
 pub mod ord;
 pub mod partial_eq;
 pub mod partial_ord;
 
-pub use bound_only::bound_row;
+pub use bound_only::{BoundBuilder, bound_row};
 pub use builder::{AttributeBuilder, FieldBuilder, TypeBuilder};
-pub use compared::compared_row;
+pub use compared::{ComparedBuilder, RankedBuilder, compared_row};
 pub use educe_attrs_generated::{
     auto_adjust_expr, discriminant_type, generated_impl_attributes, generated_lint_attributes,
     is_packed,
@@ -35,3 +37,5 @@ pub use educe_attrs_values::{
     meta_2_path, value_laws,
 };
 pub use educe_bound::{Bound, Trait, Traits, is_listed};
+pub use no_field::NoFieldBuilder;
+pub use one_trait::{CLONE, COPY, EQ, HASH, ORD, PARTIAL_EQ, PARTIAL_ORD, trait_at};

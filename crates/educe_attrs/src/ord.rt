@@ -1,14 +1,14 @@
 //! The settings of `Ord`.
 ghost use Rattle.educe_attrs_values.specs.Metas.{IsNamed};
 ghost use Rattle.educe_attrs.specs.Building.{Reads};
-ghost use Rattle.educe_attrs.specs.Bounds.{bound_row, IsBound};
 ghost use Rattle.educe_attrs.specs.Compared.{compared_row};
 ghost use Rattle.educe_attrs.specs.Ordered as fields;
 
+use crate::bound_only::BoundBuilder;
 pub use crate::bound_only::TypeAttribute;
-use crate::bound_only::{bound_attribute, bound_row};
-use crate::builder::{AttributeBuilder, FieldBuilder, TypeBuilder};
-use crate::compared::{compared_row, number_of, place_of};
+use crate::builder::{AttributeBuilder, FieldBuilder};
+use crate::compared::{RankedBuilder, compared_row, number_of, place_of};
+use crate::one_trait::ORD;
 use educe_attrs_places::FieldSettings;
 use educe_attrs_rows::Row;
 use educe_bound::Trait;
@@ -17,54 +17,7 @@ use educe_tokens::{EduceError, Span};
 use std::alloc::{AllocError, Global};
 
 /// The forms of the attribute that a type allows.
-#[derive(Clone, Copy)]
-pub struct TypeAttributeBuilder {
-    pub enable_flag: bool,
-    pub enable_bound: bool,
-}
-
-impl AttributeBuilder for TypeAttributeBuilder {
-    ghost use Rattle.educe_bound_traits.specs.declared.traits.Trait.TheVariants.{Ord};
-    ghost use Rattle.educe_attrs.specs.Bounds.{bound_row, IsBound};
-
-    type Attribute = TypeAttribute;
-
-    const TRAIT: Trait = Trait::Ord;
-
-    ghost TRAIT = { Ord };
-
-    ghost row_of = { λ builder. bound_row builder.enable_flag builder.enable_bound };
-
-    ghost IsOf = { λ _. IsBound };
-
-    fn row(&self) -> Row {
-        bound_row(self.enable_flag, self.enable_bound)
-    }
-
-    fn attribute(
-        &self,
-        _alloc: Global,
-        settings: FieldSettings,
-    ) -> Result<TypeAttribute, AllocError> {
-        Ok(bound_attribute(settings))
-    }
-}
-
-impl TypeBuilder for TypeAttributeBuilder {}
-
-impl TypeAttributeBuilder {
-    /// What an `Ord` attribute says of a type, as `build_from_meta`.
-    pub fn build_from_ord_meta(
-        &self,
-        alloc: Global,
-        meta: &Meta,
-    ) -> Result<TypeAttribute, EduceError>
-        requires { IsNamed meta.now }
-        ensures { Reads (bound_row self.now.enable_flag self.now.enable_bound) IsBound meta.now result }
-    {
-        self.build_from_meta(alloc, meta)
-    }
-}
+pub type TypeAttributeBuilder = BoundBuilder<ORD>;
 
 /// What the attribute says of a field (documentation of `educe`, Ord).
 #[derive(Drop)]
@@ -74,17 +27,11 @@ pub struct FieldAttribute {
     pub rank: i64,
     /// The place of the whole parameter `rank`, where it stands there.
     pub rank_span: Option<Span>,
+    pub reverse: bool,
 }
 
 /// The forms of the attribute that a field allows.
-#[derive(Clone, Copy)]
-pub struct FieldAttributeBuilder {
-    pub enable_ignore: bool,
-    pub enable_method: bool,
-    pub enable_rank: bool,
-    /// The rank where none is given.
-    pub rank: i64,
-}
+pub type FieldAttributeBuilder = RankedBuilder<ORD>;
 
 impl AttributeBuilder for FieldAttributeBuilder {
     ghost use Rattle.educe_bound_traits.specs.declared.traits.Trait.TheVariants.{Ord};
@@ -97,12 +44,18 @@ impl AttributeBuilder for FieldAttributeBuilder {
 
     ghost TRAIT = { Ord };
 
-    ghost row_of = { λ builder. compared_row builder.enable_ignore builder.enable_method builder.enable_rank };
+    ghost row_of = { λ builder.
+        compared_row builder.enable_ignore builder.enable_method builder.enable_rank builder.enable_reverse };
 
     ghost IsOf = { λ builder. IsOrdered builder.rank };
 
     fn row(&self) -> Row {
-        compared_row(self.enable_ignore, self.enable_method, self.enable_rank)
+        compared_row(
+            self.enable_ignore,
+            self.enable_method,
+            self.enable_rank,
+            self.enable_reverse,
+        )
     }
 
     fn attribute(
@@ -116,6 +69,7 @@ impl AttributeBuilder for FieldAttributeBuilder {
             method: values.method,
             rank: number_of(values.rank, self.rank),
             rank_span: place_of(values.rank),
+            reverse: values.reverse.unwrap_or(false),
         })
     }
 }
@@ -130,7 +84,8 @@ impl FieldAttributeBuilder {
         meta: &Meta,
     ) -> Result<FieldAttribute, EduceError>
         requires { IsNamed meta.now }
-        ensures { Reads (compared_row self.now.enable_ignore self.now.enable_method self.now.enable_rank) (fields.IsOrdered self.now.rank) meta.now result }
+        ensures { Reads (compared_row self.now.enable_ignore self.now.enable_method self.now.enable_rank self.now.enable_reverse)
+            (fields.IsOrdered self.now.rank) meta.now result }
     {
         self.build_from_meta(alloc, meta)
     }

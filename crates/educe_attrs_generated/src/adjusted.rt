@@ -8,9 +8,7 @@ ghost use Rattle.educe_attrs_generated.specs.Adjusted as spec;
 use crate::primitive::{is_bytes, is_integer, is_primitive, is_text};
 use educe_attrs_values::is_word;
 use educe_syntax::{Expr, ExprForm, Ty};
-use educe_tokens::{
-    LiteralKind, Seq, Token, TokenKind, TokenSlice, TokenStream, Written, append_written, quote,
-};
+use educe_tokens::{LiteralKind, Token, TokenKind, TokenStream, Written, append_written, quote};
 use std::alloc::{AllocError, Global};
 
 /// Whether the token is a literal.
@@ -87,9 +85,9 @@ fn push_into(alloc: Global, tokens: &mut TokenStream, value: &Written) -> Result
 fn converted(alloc: Global, value: &Written) -> Result<Written, AllocError>
     ensures { IfOk result (λ written. written_lexemes written ≡ spec.into (written_lexemes value.now)) }
 {
-    let mut tokens = Seq::new(alloc);
+    let mut tokens = TokenStream::new(alloc);
     push_into(alloc, &mut tokens, value)?;
-    Ok(Written::new(TokenSlice::new(alloc, tokens)?))
+    Ok(Written::new(tokens.into_slice(alloc)?))
 }
 
 /// The default value for a field of the type: one literal or truth value is converted by

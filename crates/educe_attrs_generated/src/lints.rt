@@ -12,7 +12,7 @@ use crate::balanced::may_be_copied;
 use crate::word::is_one_word;
 use educe_attrs_values::inside;
 use educe_syntax::{Attributes, Expr, Meta, MetaPath};
-use educe_tokens::{Seq, TokenSlice, TokenStream, Written, append_written, quote};
+use educe_tokens::{TokenSlice, TokenStream, Written, append_written, quote};
 use std::alloc::{AllocError, Global};
 
 /// Whether the path is `allow`, `warn` or `deny`.
@@ -62,7 +62,8 @@ fn push_value(
     path: &MetaPath,
     value: &Expr,
 ) -> Result<(), AllocError>
-    ensures { OnOk result (Appends (spec.attribute path.now (quoted (codes "=") ++ written_lexemes value.now.written)) tokens.old tokens.new) }
+    ensures { OnOk result
+        (Appends (spec.attribute path.now (quoted (codes "=") ++ written_lexemes value.now.written)) tokens.old tokens.new) }
 {
     quote(alloc, tokens, "# [")?;
     append_written(alloc, tokens, &path.written)?;
@@ -157,15 +158,16 @@ fn push_lints(
 pub fn generated_lint_attributes(
     alloc: Global,
     attributes: &Attributes,
-) -> Result<TokenStream, AllocError>
+) -> Result<TokenSlice, AllocError>
     ensures lints { IfOk result (λ tokens. lexemes tokens ≡ spec.lints attributes.now) }
     // They may be copied to any place, as they are.
     ensures fit { IfOk result (λ tokens. IsTrue (may_be_copied (lexemes tokens))) }
     ensures kept { IfOk result (λ tokens. copied (lexemes tokens) ≡ lexemes tokens) }
 {
-    let mut tokens = Seq::new(alloc);
+    let mut tokens = TokenStream::new(alloc);
     push_lints(alloc, &mut tokens, attributes)?;
-    Ok(tokens)
+    let slice = tokens.into_slice(alloc)?;
+    Ok(slice)
 }
 
 /// The attributes of an impl that is generated for a type with these attributes:
@@ -174,14 +176,15 @@ pub fn generated_lint_attributes(
 pub fn generated_impl_attributes(
     alloc: Global,
     attributes: &Attributes,
-) -> Result<TokenStream, AllocError>
+) -> Result<TokenSlice, AllocError>
     ensures attributes { IfOk result (λ tokens. lexemes tokens ≡ spec.impl_attributes attributes.now) }
     // They may be copied to any place, as they are.
     ensures fit { IfOk result (λ tokens. IsTrue (may_be_copied (lexemes tokens))) }
     ensures kept { IfOk result (λ tokens. copied (lexemes tokens) ≡ lexemes tokens) }
 {
-    let mut tokens = Seq::new(alloc);
+    let mut tokens = TokenStream::new(alloc);
     quote(alloc, &mut tokens, "# [ automatically_derived ]")?;
     push_lints(alloc, &mut tokens, attributes)?;
-    Ok(tokens)
+    let slice = tokens.into_slice(alloc)?;
+    Ok(slice)
 }

@@ -24,7 +24,7 @@ use Rattle.educe_attrs_values.specs.Sources.{inside}
 use Rattle.educe_attrs_values.specs.Words.{path_of, place_of}
 use Rattle.educe_attrs_values.proofs.ValueLaws.{lawful_kind}
 use Rattle.educe_attrs_rows.specs.declared.param.Param.{Param}
-use Rattle.educe_attrs_rows.specs.declared.param.Param.TheVariants.{Name, NamedField, New, Expression, Ignore, Method, Rank, Bound}
+use Rattle.educe_attrs_rows.specs.declared.param.Param.TheVariants.{Name, NamedField, New, Expression, Ignore, Method, Rank, Reverse, Bound}
 use Rattle.educe_attrs_rows.specs.declared.row.NameKind.{NameKind}
 use Rattle.educe_attrs_rows.specs.declared.row.NameKind.TheVariants as named
 use Rattle.educe_attrs_rows.specs.declared.row.Row.{Row}
@@ -91,6 +91,7 @@ module _ (row : Row) where
   with_decided Ignore path m v = decided_map _ _ (value_decided value.Flag path m)
   with_decided Method path m v = decided_map _ _ (value_decided value.Path path m)
   with_decided Rank path m v = decided_map _ _ (decided_map _ _ (value_decided value.Integer path m))
+  with_decided Reverse path m v = decided_map _ _ (value_decided value.Flag path m)
   with_decided Bound path m v = decided_map _ _ (value_decided value.Bound path m)
 
   param_decided : (name path : MetaPath) (m : Meta) (v : Values) (o : Option Param) → IsDecided (add_param row name path m v o)

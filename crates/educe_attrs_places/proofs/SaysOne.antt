@@ -16,7 +16,7 @@ use Rattle.educe_attrs_values.specs.Values.{Holds}
 use Rattle.educe_attrs_values.specs.Words.{path_of, meta_place}
 use Rattle.educe_attrs_values.proofs.ValueLaws.{lawful_kind}
 use Rattle.educe_attrs_rows.specs.declared.param.Param.{Param}
-use Rattle.educe_attrs_rows.specs.declared.param.Param.TheVariants.{Name, NamedField, New, Expression, Ignore, Method, Rank, Bound}
+use Rattle.educe_attrs_rows.specs.declared.param.Param.TheVariants.{Name, NamedField, New, Expression, Ignore, Method, Rank, Reverse, Bound}
 use Rattle.educe_attrs_rows.specs.declared.row.Row.{Row}
 use Rattle.educe_attrs_rows.specs.declared.values.Values.{Values}
 use Rattle.educe_attrs_rows.specs.Among.{IsAmong}
@@ -105,6 +105,7 @@ module _ (row : Row) where
     ignore = each Ignore i;
     method = each Method i;
     rank = each Rank i;
+    reverse = each Reverse i;
     bound = each Bound i;
     flag = flag i;
     span = span i;

@@ -29,6 +29,7 @@ pub fn settings_of_fields(
     for field in fields {
         match field_settings(alloc, which, row, listed, field.attrs.as_slice()) {
             Ok(settings) => all.push(settings)?,
+            // (`?` would convert the rejection, which its clause takes as it is.)
             Err(stop) => return Err(stop),
         }
     }

@@ -47,12 +47,14 @@ module _ (name : List ℕ) (row : Row) where
       let e : List (List ℕ) = with_line d row.ignore name (codes "(ignore)") in
       let f : List (List ℕ) = with_line e row.method name (codes "(method(path_to_method))") in
       let g : List (List ℕ) = with_line f row.rank name (codes "(rank = integer)") in
-      line_kept g row.bound name (codes "(bound(where_predicates))")
+      let h : List (List ℕ) = with_line g row.reverse name (codes "(reverse)") in
+      line_kept h row.bound name (codes "(bound(where_predicates))")
+      (line_kept g row.reverse name (codes "(reverse)")
       (line_kept f row.rank name (codes "(rank = integer)")
       (line_kept e row.method name (codes "(method(path_to_method))")
       (line_kept d row.ignore name (codes "(ignore)")
       (line_kept b (takes_truth row.equals) name (codes " = false")
-      (line_kept a row.expression name (codes "(expression = expr)") (line_kept lines row.new name (codes "(new)") some))))))
+      (line_kept a row.expression name (codes "(expression = expr)") (line_kept lines row.new name (codes "(new)") some)))))))
 
   -- the words stay
   pub usage_kept : (words : List (List ℕ)) → 0 < length words → 0 < length (with_usage words name row)

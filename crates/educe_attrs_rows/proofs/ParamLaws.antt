@@ -15,7 +15,7 @@ use Rattle.educe_attrs_values.specs.Readings.{value_of}
 use Rattle.educe_attrs_values.specs.Words.{path_of}
 use Rattle.educe_attrs_values.proofs.ValueLaws.{lawful_kind}
 use Rattle.educe_attrs_rows.specs.declared.param.Param.{Param}
-use Rattle.educe_attrs_rows.specs.declared.param.Param.TheVariants.{Name, NamedField, New, Expression, Ignore, Method, Rank, Bound}
+use Rattle.educe_attrs_rows.specs.declared.param.Param.TheVariants.{Name, NamedField, New, Expression, Ignore, Method, Rank, Reverse, Bound}
 use Rattle.educe_attrs_rows.specs.declared.row.NameKind.{NameKind}
 use Rattle.educe_attrs_rows.specs.declared.row.NameKind.TheVariants as named
 use Rattle.educe_attrs_rows.specs.declared.row.Row.{Row}
@@ -39,6 +39,7 @@ set_same Expression x v = refl
 set_same Ignore x v = refl
 set_same Method x v = refl
 set_same Rank x v = refl
+set_same Reverse x v = refl
 set_same Bound x v = refl
 
 -- another parameter keeps its value
@@ -50,6 +51,7 @@ set_other Name Expression x v = inr refl
 set_other Name Ignore x v = inr refl
 set_other Name Method x v = inr refl
 set_other Name Rank x v = inr refl
+set_other Name Reverse x v = inr refl
 set_other Name Bound x v = inr refl
 set_other NamedField Name x v = inr refl
 set_other NamedField NamedField x v = inl refl
@@ -58,6 +60,7 @@ set_other NamedField Expression x v = inr refl
 set_other NamedField Ignore x v = inr refl
 set_other NamedField Method x v = inr refl
 set_other NamedField Rank x v = inr refl
+set_other NamedField Reverse x v = inr refl
 set_other NamedField Bound x v = inr refl
 set_other New Name x v = inr refl
 set_other New NamedField x v = inr refl
@@ -66,6 +69,7 @@ set_other New Expression x v = inr refl
 set_other New Ignore x v = inr refl
 set_other New Method x v = inr refl
 set_other New Rank x v = inr refl
+set_other New Reverse x v = inr refl
 set_other New Bound x v = inr refl
 set_other Expression Name x v = inr refl
 set_other Expression NamedField x v = inr refl
@@ -74,6 +78,7 @@ set_other Expression Expression x v = inl refl
 set_other Expression Ignore x v = inr refl
 set_other Expression Method x v = inr refl
 set_other Expression Rank x v = inr refl
+set_other Expression Reverse x v = inr refl
 set_other Expression Bound x v = inr refl
 set_other Ignore Name x v = inr refl
 set_other Ignore NamedField x v = inr refl
@@ -82,6 +87,7 @@ set_other Ignore Expression x v = inr refl
 set_other Ignore Ignore x v = inl refl
 set_other Ignore Method x v = inr refl
 set_other Ignore Rank x v = inr refl
+set_other Ignore Reverse x v = inr refl
 set_other Ignore Bound x v = inr refl
 set_other Method Name x v = inr refl
 set_other Method NamedField x v = inr refl
@@ -90,6 +96,7 @@ set_other Method Expression x v = inr refl
 set_other Method Ignore x v = inr refl
 set_other Method Method x v = inl refl
 set_other Method Rank x v = inr refl
+set_other Method Reverse x v = inr refl
 set_other Method Bound x v = inr refl
 set_other Rank Name x v = inr refl
 set_other Rank NamedField x v = inr refl
@@ -98,7 +105,17 @@ set_other Rank Expression x v = inr refl
 set_other Rank Ignore x v = inr refl
 set_other Rank Method x v = inr refl
 set_other Rank Rank x v = inl refl
+set_other Rank Reverse x v = inr refl
 set_other Rank Bound x v = inr refl
+set_other Reverse Name x v = inr refl
+set_other Reverse NamedField x v = inr refl
+set_other Reverse New x v = inr refl
+set_other Reverse Expression x v = inr refl
+set_other Reverse Ignore x v = inr refl
+set_other Reverse Method x v = inr refl
+set_other Reverse Rank x v = inr refl
+set_other Reverse Reverse x v = inl refl
+set_other Reverse Bound x v = inr refl
 set_other Bound Name x v = inr refl
 set_other Bound NamedField x v = inr refl
 set_other Bound New x v = inr refl
@@ -106,6 +123,7 @@ set_other Bound Expression x v = inr refl
 set_other Bound Ignore x v = inr refl
 set_other Bound Method x v = inr refl
 set_other Bound Rank x v = inr refl
+set_other Bound Reverse x v = inr refl
 set_other Bound Bound x v = inl refl
 
 -- whether the list is empty, and the place of the whole, stay
@@ -117,6 +135,7 @@ set_flag Expression x v = refl
 set_flag Ignore x v = refl
 set_flag Method x v = refl
 set_flag Rank x v = refl
+set_flag Reverse x v = refl
 set_flag Bound x v = refl
 
 set_span : (p : Param) (x : Given p) (v : Values) → (set p x v).span ≡ v.span
@@ -127,6 +146,7 @@ set_span Expression x v = refl
 set_span Ignore x v = refl
 set_span Method x v = refl
 set_span Rank x v = refl
+set_span Reverse x v = refl
 set_span Bound x v = refl
 
 -- no parameter has a value yet
@@ -138,6 +158,7 @@ none_has place Expression = refl
 none_has place Ignore = refl
 none_has place Method = refl
 none_has place Rank = refl
+none_has place Reverse = refl
 none_has place Bound = refl
 
 pub none_given : (place : Span) (p : Param) → given p (values_at place) ≡ None
@@ -148,6 +169,7 @@ none_given place Expression = refl
 none_given place Ignore = refl
 none_given place Method = refl
 none_given place Rank = refl
+none_given place Reverse = refl
 none_given place Bound = refl
 
 pub bare_given : (place : Span) (p : Param) → given p (bare_values place) ≡ None
@@ -158,6 +180,7 @@ bare_given place Expression = refl
 bare_given place Ignore = refl
 bare_given place Method = refl
 bare_given place Rank = refl
+bare_given place Reverse = refl
 bare_given place Bound = refl
 
 -- ---- the value of a parameter
@@ -191,6 +214,7 @@ module _ (row : Row) where
   with_is Ignore path m v = twice_mapped (given_as row Ignore m) (λ x. set Ignore x v) (value_of value.Flag path m)
   with_is Method path m v = twice_mapped (given_as row Method m) (λ x. set Method x v) (value_of value.Path path m)
   with_is Rank path m v = refl
+  with_is Reverse path m v = twice_mapped (given_as row Reverse m) (λ x. set Reverse x v) (value_of value.Flag path m)
   with_is Bound path m v = twice_mapped (given_as row Bound m) (λ x. set Bound x v) (value_of value.Bound path m)
 
 -- ---- one more meta

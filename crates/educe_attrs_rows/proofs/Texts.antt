@@ -30,6 +30,10 @@ pub chars_rank : chars (codes "rank") ≡ codes "rank"
 unfolding chars
 chars_rank = refl
 
+pub chars_reverse : chars (codes "reverse") ≡ codes "reverse"
+unfolding chars
+chars_reverse = refl
+
 pub chars_bound : chars (codes "bound") ≡ codes "bound"
 unfolding chars
 chars_bound = refl

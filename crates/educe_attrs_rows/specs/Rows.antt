@@ -1,5 +1,5 @@
 -- Rows: the forms of a trait's attribute that a place allows.
-use Rattle.std.specs.Prelude.{Bool, true, false, ◌&&◌, ◌||◌, not, Option, is_some, is_none, find}
+use Rattle.std.specs.Prelude.{Bool, true, false, ◌&&◌, ◌||◌, not, Option, None, is_some, is_none, find}
 use Rattle.educe_syntax.specs.MetaPath.{MetaPath}
 use Rattle.educe_bound_traits.specs.OneWord.{is_one_word}
 use Rattle.educe_attrs_rows.specs.declared.param.Param.{Param}
@@ -8,6 +8,22 @@ use Rattle.educe_attrs_rows.specs.declared.row.Row.{Row}
 use Rattle.educe_attrs_rows.specs.declared.row.Equals.{Equals}
 use Rattle.educe_attrs_rows.specs.declared.row.Equals.TheVariants as equals
 use Rattle.educe_attrs_rows.specs.Params.{all_params, word_of, alias_of}
+
+-- The row that allows no form.
+abbrev pub empty_row : Row
+empty_row = record {
+  flag = false;
+  equals = equals.Nothing;
+  name = None;
+  named_field = None;
+  new = false;
+  expression = false;
+  ignore = false;
+  method = false;
+  rank = false;
+  reverse = false;
+  bound = false;
+}
 
 -- The parameter is allowed in the list.
 abbrev pub allows : Row → Param → Bool
@@ -18,6 +34,7 @@ allows row param.Expression = row.expression
 allows row param.Ignore = row.ignore
 allows row param.Method = row.method
 allows row param.Rank = row.rank
+allows row param.Reverse = row.reverse
 allows row param.Bound = row.bound
 
 -- No value is allowed after `=`.
@@ -34,7 +51,7 @@ has_no_name row = is_none row.name && is_none row.named_field
 
 -- No parameter but `name` and `named_field` is allowed in the list.
 abbrev pub has_no_param : Row → Bool
-has_no_param row = not row.new && not row.expression && not row.ignore && not row.method && not row.rank && not row.bound
+has_no_param row = not row.new && not row.expression && not row.ignore && not row.method && not row.rank && not row.reverse && not row.bound
 
 -- No form is allowed at the place.
 abbrev pub is_empty : Row → Bool

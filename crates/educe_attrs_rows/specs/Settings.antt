@@ -16,7 +16,7 @@ use Rattle.educe_attrs_values.specs.Kinds.{ValueOf}
 use Rattle.educe_attrs_values.specs.Readings.{value_of}
 use Rattle.educe_attrs_values.specs.Words.{meta_place}
 use Rattle.educe_attrs_rows.specs.declared.param.Param.{Param}
-use Rattle.educe_attrs_rows.specs.declared.param.Param.TheVariants.{Name, NamedField, New, Expression, Ignore, Method, Rank, Bound}
+use Rattle.educe_attrs_rows.specs.declared.param.Param.TheVariants.{Name, NamedField, New, Expression, Ignore, Method, Rank, Reverse, Bound}
 use Rattle.educe_attrs_rows.specs.declared.row.Equals.{Equals}
 use Rattle.educe_attrs_rows.specs.declared.row.Equals.TheVariants as equals
 use Rattle.educe_attrs_rows.specs.declared.row.NameKind.{NameKind}
@@ -37,6 +37,7 @@ values_at place = record {
   ignore = None;
   method = None;
   rank = None;
+  reverse = None;
   bound = None;
   flag = false;
   span = place;
@@ -59,6 +60,7 @@ Given Expression = Expr
 Given Ignore = Bool
 Given Method = ExprPath
 Given Rank = Ranked
+Given Reverse = Bool
 Given Bound = WherePredicatesOrBool
 
 -- The setting of a parameter, if it is given.
@@ -70,6 +72,7 @@ given Expression values = values.expression
 given Ignore values = values.ignore
 given Method values = values.method
 given Rank values = values.rank
+given Reverse values = values.reverse
 given Bound values = values.bound
 
 -- The values with this one set for the parameter.
@@ -81,6 +84,7 @@ set Expression x values = record values { expression = Some x }
 set Ignore b values = record values { ignore = Some b }
 set Method x values = record values { method = Some x }
 set Rank rank values = record values { rank = Some rank }
+set Reverse b values = record values { reverse = Some b }
 set Bound x values = record values { bound = Some x }
 
 -- The parameter has a value.
@@ -110,6 +114,7 @@ kind_of row Expression = value.Expr
 kind_of row Ignore = value.Flag
 kind_of row Method = value.Path
 kind_of row Rank = value.Integer
+kind_of row Reverse = value.Flag
 kind_of row Bound = value.Bound
 
 -- The rank with the place of the parameter that gives it.
@@ -125,6 +130,7 @@ given_as row Expression meta x = x
 given_as row Ignore meta b = b
 given_as row Method meta x = x
 given_as row Rank meta n = ranked meta n
+given_as row Reverse meta b = b
 given_as row Bound meta x = x
 
 -- What a meta gives as this parameter, or its rejection.
@@ -171,6 +177,10 @@ with_method path meta values = map_ok (λ x. record values { method = Some x }) 
 abbrev pub with_rank : MetaPath → Meta → Values → Result Values Stop
 with_rank path meta values = map_ok (λ rank. record values { rank = Some rank }) (rank_of path meta)
 
+-- The settings with `reverse`.
+abbrev pub with_reverse : MetaPath → Meta → Values → Result Values Stop
+with_reverse path meta values = map_ok (λ b. record values { reverse = Some b }) (value_of value.Flag path meta)
+
 -- The settings with a bound.
 abbrev pub with_bound : MetaPath → Meta → Values → Result Values Stop
 with_bound path meta values = map_ok (λ x. record values { bound = Some x }) (value_of value.Bound path meta)
@@ -184,6 +194,7 @@ with_param row Expression path meta values = with_expression path meta values
 with_param row Ignore path meta values = with_ignore path meta values
 with_param row Method path meta values = with_method path meta values
 with_param row Rank path meta values = with_rank path meta values
+with_param row Reverse path meta values = with_reverse path meta values
 with_param row Bound path meta values = with_bound path meta values
 
 -- ---- the value after `=`

@@ -81,12 +81,13 @@ with_names lines name row =
 -- The lines, followed by those for a truth value after `=` and for the other parameters.
 abbrev pub with_params : List (List ℕ) → List ℕ → Row → List (List ℕ)
 with_params lines name row =
-    with_line (with_line (with_line (with_line (with_line (with_line (with_line lines row.new name (codes "(new)"))
+    with_line (with_line (with_line (with_line (with_line (with_line (with_line (with_line lines row.new name (codes "(new)"))
     row.expression name (codes "(expression = expr)"))
     (takes_truth row.equals) name (codes " = false"))
     row.ignore name (codes "(ignore)"))
     row.method name (codes "(method(path_to_method))"))
     row.rank name (codes "(rank = integer)"))
+    row.reverse name (codes "(reverse)"))
     row.bound name (codes "(bound(where_predicates))")
 
 -- The words, followed by a line for each form of the row.

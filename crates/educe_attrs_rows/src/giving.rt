@@ -110,6 +110,19 @@ fn with_rank(alloc: Global, path: &MetaPath, meta: &Meta, values: &mut Values) -
     Ok(())
 }
 
+/// Writes the value of `reverse`.
+fn with_reverse(
+    alloc: Global,
+    path: &MetaPath,
+    meta: &Meta,
+    values: &mut Values,
+) -> Result<(), Stop>
+    ensures { Gives Stop.Memory (spec.with_reverse path.now meta.now values.old) (map_ok (λ _. values.exit.now) result) }
+{
+    values.reverse = Some(read_flag(alloc, path, meta)?);
+    Ok(())
+}
+
 /// Writes the value of `bound`.
 fn with_bound(alloc: Global, path: &MetaPath, meta: &Meta, values: &mut Values) -> Result<(), Stop>
     ensures { Gives Stop.Memory (spec.with_bound path.now meta.now values.old) (map_ok (λ _. values.exit.now) result) }
@@ -137,6 +150,7 @@ pub fn with_param(
         Param::Ignore => with_ignore(alloc, path, meta, values),
         Param::Method => with_method(alloc, path, meta, values),
         Param::Rank => with_rank(alloc, path, meta, values),
+        Param::Reverse => with_reverse(alloc, path, meta, values),
         Param::Bound => with_bound(alloc, path, meta, values),
     }
 }

@@ -4,6 +4,7 @@
 
 mod behind;
 mod giving;
+mod laws;
 mod param;
 mod reader;
 mod refusing;
@@ -11,6 +12,7 @@ mod row;
 mod usage;
 mod values;
 
+pub use laws::row_laws;
 pub use param::Param;
 pub use reader::{metas_in_pair, read_form, read_meta};
 pub use row::{Equals, NameKind, Row};

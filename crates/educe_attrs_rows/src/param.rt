@@ -12,12 +12,13 @@ pub enum Param {
     Ignore,
     Method,
     Rank,
+    Reverse,
     Bound,
 }
 
 impl Param {
     /// All parameters.
-    pub const VARIANTS: [Param; 8] = [
+    pub const VARIANTS: [Param; 9] = [
         Param::Name,
         Param::NamedField,
         Param::New,
@@ -25,11 +26,12 @@ impl Param {
         Param::Ignore,
         Param::Method,
         Param::Rank,
+        Param::Reverse,
         Param::Bound,
     ];
 
     /// The word that names the parameter.
-    #[tactic(auto, using(crate::proofs::Texts::chars_name, crate::proofs::Texts::chars_named_field, crate::proofs::Texts::chars_new, crate::proofs::Texts::chars_expression, crate::proofs::Texts::chars_ignore, crate::proofs::Texts::chars_method, crate::proofs::Texts::chars_rank, crate::proofs::Texts::chars_bound))]
+    #[tactic(auto, using(crate::proofs::Texts::chars_name, crate::proofs::Texts::chars_named_field, crate::proofs::Texts::chars_new, crate::proofs::Texts::chars_expression, crate::proofs::Texts::chars_ignore, crate::proofs::Texts::chars_method, crate::proofs::Texts::chars_rank, crate::proofs::Texts::chars_reverse, crate::proofs::Texts::chars_bound))]
     pub fn word(self) -> &'static str
         ensures { chars result.now ≡ spec.word_of self }
     {
@@ -41,6 +43,7 @@ impl Param {
             Param::Ignore => "ignore",
             Param::Method => "method",
             Param::Rank => "rank",
+            Param::Reverse => "reverse",
             Param::Bound => "bound",
         }
     }

@@ -44,6 +44,7 @@ pub struct Row {
     pub ignore: bool,
     pub method: bool,
     pub rank: bool,
+    pub reverse: bool,
     pub bound: bool,
 }
 
@@ -59,6 +60,7 @@ impl Row {
         ignore: false,
         method: false,
         rank: false,
+        reverse: false,
         bound: false,
     };
 
@@ -74,6 +76,7 @@ impl Row {
             Param::Ignore => self.ignore,
             Param::Method => self.method,
             Param::Rank => self.rank,
+            Param::Reverse => self.reverse,
             Param::Bound => self.bound,
         }
     }
@@ -89,7 +92,13 @@ impl Row {
     fn has_no_param(&self) -> bool
         ensures { result ≡ spec.has_no_param self.now }
     {
-        !self.new && !self.expression && !self.ignore && !self.method && !self.rank && !self.bound
+        !self.new
+            && !self.expression
+            && !self.ignore
+            && !self.method
+            && !self.rank
+            && !self.reverse
+            && !self.bound
     }
 
     /// Whether no form is allowed at the place.

@@ -110,6 +110,7 @@ fn with_params(alloc: Global, lines: Texts, name: &str, row: &Row) -> Result<Tex
     let lines = with_line(alloc, lines, row.ignore, name, "(ignore)")?;
     let lines = with_line(alloc, lines, row.method, name, "(method(path_to_method))")?;
     let lines = with_line(alloc, lines, row.rank, name, "(rank = integer)")?;
+    let lines = with_line(alloc, lines, row.reverse, name, "(reverse)")?;
     with_line(alloc, lines, row.bound, name, "(bound(where_predicates))")
 }
 

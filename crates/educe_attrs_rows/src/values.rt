@@ -24,6 +24,7 @@ pub struct Values {
     pub ignore: Option<bool>,
     pub method: Option<ExprPath>,
     pub rank: Option<Rank>,
+    pub reverse: Option<bool>,
     pub bound: Option<WherePredicatesOrBool>,
     /// The attribute is the trait alone, or an empty list.
     pub flag: bool,
@@ -51,6 +52,7 @@ impl Values {
             ignore: None,
             method: None,
             rank: None,
+            reverse: None,
             bound: None,
             flag: false,
             span,
@@ -69,6 +71,7 @@ impl Values {
             Param::Ignore => self.ignore.is_some(),
             Param::Method => self.method.is_some(),
             Param::Rank => self.rank.is_some(),
+            Param::Reverse => self.reverse.is_some(),
             Param::Bound => self.bound.is_some(),
         }
     }

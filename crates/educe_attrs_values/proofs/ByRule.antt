@@ -5,10 +5,10 @@ use Rattle.educe_tokens.specs.declared.error.EduceError.{EduceError}
 use Rattle.educe_tokens.specs.declared.error.Kind.TheVariants as kind
 use Rattle.educe_tokens.specs.declared.span.TheConstants.{SOURCE_LIMIT}
 use Rattle.educe_tokens.specs.declared.token.Token.{Token}
-use Rattle.educe_tokens.specs.Causes.{IsLexicalCause}
+use Rattle.educe_tokens.specs.Causes.{IsLexicalCause, IsLexicalCauseWithin}
 use Rattle.educe_tokens.specs.Steps.{IsReading}
 use Rattle.educe_syntax.specs.Laws.{RuleLaws}
-use Rattle.educe_syntax.specs.Parsed.{IsWhole, IsParseCause}
+use Rattle.educe_syntax.specs.Parsed.{IsWhole, IsCauseWithin, IsParseCause}
 use Rattle.educe_syntax.specs.Rules.{Rule}
 use Rattle.educe_syntax.specs.TokenLaws.{lawful_lexing}
 use Rattle.educe_attrs_values.specs.declared.fault.Fault.{Fault}
@@ -138,9 +138,9 @@ module _ (k : ValueKind) (s : Source) where
   module _ {A : Type 0} {g : Rule A} (laws : RuleLaws g) where
     -- tokens as they stand
     standing_by : IsCarried k s → (e : EduceError) → IsParseCause g s.tokens e → e.kind ≢ kind.Alloc → Explains k s (fault_of false e)
-    standing_by carried _ (IsParseCause.syntax left none stop) told = Explains.wrong carried
-    standing_by carried _ (IsParseCause.too_deep front rest t none stop is many) told = Explains.deep_token t (record { front = front; rest = rest; is = is; many = many })
-    standing_by carried _ IsParseCause.memory told = absurd (told refl)
+    standing_by carried _ (IsCauseWithin.syntax left none stop) told = Explains.wrong carried
+    standing_by carried _ (IsCauseWithin.too_deep front rest t none stop is many) told = Explains.deep_token t (record { front = front; rest = rest; is = is; many = many })
+    standing_by carried _ IsCauseWithin.memory told = absurd (told refl)
 
     standing_if : IsCarried k s → (r : Result A EduceError) → parsed laws s.tokens ≡ r → (f : Fault) → map_err (fault_of false) r ≡ Err f → Explains k s f
     standing_if carried (Ok x) is f h = absurd (cc)
@@ -155,27 +155,27 @@ module _ (k : ValueKind) (s : Source) where
       text_opened = record { opens = opens; is = is; within = within }
 
       inner_by : (inner : List Token) → IsReading text inner → (e : EduceError) → IsParseCause g inner e → e.kind ≢ kind.Alloc → Explains k s (fault_of true e)
-      inner_by inner reading _ (IsParseCause.syntax left none stop) told = Explains.wrong (carried_lexed text is inner reading)
-      inner_by inner reading _ (IsParseCause.too_deep front rest t none stop whole many) told =
+      inner_by inner reading _ (IsCauseWithin.syntax left none stop) told = Explains.wrong (carried_lexed text is inner reading)
+      inner_by inner reading _ (IsCauseWithin.too_deep front rest t none stop whole many) told =
           Explains.deep_text text text_opened (IsTextTooDeep.openers inner t reading (record { front = front; rest = rest; is = whole; many = many }))
-      inner_by inner reading _ IsParseCause.memory told = absurd (told refl)
+      inner_by inner reading _ IsCauseWithin.memory told = absurd (told refl)
 
       inner_if : (inner : List Token) → IsReading text inner → (r : Result A EduceError) → parsed laws inner ≡ r → (f : Fault) → map_err (fault_of true) r ≡ Err f → Explains k s f
       inner_if inner reading (Ok x) read f h = absurd (cc)
       inner_if inner reading (Err e) read f h = let cause = parsed_cause laws inner e read in subst (Explains k s) (err_one h) (inner_by inner reading e cause.0 cause.1)
 
       lexical_by : (e : EduceError) → IsLexicalCause text e → e.kind ≢ kind.Alloc → Explains k s (fault_of true e)
-      lexical_by _ (IsLexicalCause.not_carried before piece what rest reads carried uncarried) told =
-          Explains.literal text _ text_opened (record { cause = IsLexicalCause.not_carried before piece what rest reads carried uncarried; kind = refl })
-      lexical_by _ (IsLexicalCause.no_piece before rest reads carried some fits) told =
-          Explains.wrong (carried_other text is _ (IsLexicalCause.no_piece before rest reads carried some fits) told (λ same. cc))
-      lexical_by _ (IsLexicalCause.wrong_close before t behind outer meets close) told =
-          Explains.wrong (carried_other text is _ (IsLexicalCause.wrong_close before t behind outer meets close) told (λ same. cc))
-      lexical_by _ (IsLexicalCause.unclosed tokens innermost outer lexes opened shallow) told =
-          Explains.wrong (carried_other text is _ (IsLexicalCause.unclosed tokens innermost outer lexes opened shallow) told (λ same. cc))
-      lexical_by _ (IsLexicalCause.too_deep before t behind outer b meets start many) told =
-          Explains.deep_text text text_opened (IsTextTooDeep.brackets _ (IsLexicalCause.too_deep before t behind outer b meets start many) refl)
-      lexical_by _ IsLexicalCause.memory told = absurd (told refl)
+      lexical_by _ (IsLexicalCauseWithin.not_carried before piece what rest reads carried uncarried) told =
+          Explains.literal text _ text_opened (record { cause = IsLexicalCauseWithin.not_carried before piece what rest reads carried uncarried; kind = refl })
+      lexical_by _ (IsLexicalCauseWithin.no_piece before rest reads carried some fits) told =
+          Explains.wrong (carried_other text is _ (IsLexicalCauseWithin.no_piece before rest reads carried some fits) told (λ same. cc))
+      lexical_by _ (IsLexicalCauseWithin.wrong_close before t behind outer meets close) told =
+          Explains.wrong (carried_other text is _ (IsLexicalCauseWithin.wrong_close before t behind outer meets close) told (λ same. cc))
+      lexical_by _ (IsLexicalCauseWithin.unclosed tokens innermost outer lexes opened shallow) told =
+          Explains.wrong (carried_other text is _ (IsLexicalCauseWithin.unclosed tokens innermost outer lexes opened shallow) told (λ same. cc))
+      lexical_by _ (IsLexicalCauseWithin.too_deep before t behind outer b meets start many) told =
+          Explains.deep_text text text_opened (IsTextTooDeep.brackets _ (IsLexicalCauseWithin.too_deep before t behind outer b meets start many) refl)
+      lexical_by _ IsLexicalCauseWithin.memory told = absurd (told refl)
 
       lexed_if : (r : Result (List Token) EduceError) → lexed text ≡ r → (f : Fault) → lexed_to laws text r ≡ Err f → Explains k s f
       lexed_if (Ok inner) read f h = inner_if inner (lexed_is text inner read) (parsed laws inner) refl f h

@@ -1,6 +1,6 @@
 //! Bodies and items: the forms, the functions and items that hold them, what these are printed as,
 //! and what bodies evaluate to. This crate has no code of its own: it passes on what users of bodies
-//! name.
+//! name. The evaluator, `eval`, is in the crate `educe_body_eval`.
 #![tactic(auto)]
 
 pub use educe_body_forms::{
@@ -15,4 +15,4 @@ pub use educe_body_values::{
     Answer, Answers, BuiltIn, Callee, DebugShape, Entry, FieldValue, FieldValues, Outcome, Parts,
     Row, Rows, Scope, ShapeForm, Value, built_in, built_in_path, form_laws, key_laws, scope_laws,
 };
-pub use educe_names::{UsedIdents, has_word, name_laws};
+pub use educe_names::{InputWords, UsedIdents, has_word, name_laws};

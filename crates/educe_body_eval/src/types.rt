@@ -10,7 +10,7 @@ ghost use Rattle.educe_body_values.specs.Types as spec;
 use crate::scoping::names_bound;
 use educe_body_forms::is_text;
 use educe_body_values::{Binding, Callee};
-use educe_tokens::{Seq, Spelling, Token, Written, append_written, text};
+use educe_tokens::{Spelling, Token, TokenStream, Written, append_written, text};
 use educe_tree::{DeriveInput, Field, Shape, Variant};
 use std::alloc::{AllocError, Global};
 
@@ -138,7 +138,7 @@ fn default_of(place: Option<usize>) -> Option<Callee>
 fn written_callee(alloc: Global, written: &Written) -> Result<Option<Callee>, AllocError>
     ensures { IfOk result (λ callee. callee ≡ spec.written_callee written.now) }
 {
-    let mut tokens = Seq::new(alloc);
+    let mut tokens = TokenStream::new(alloc);
     append_written(alloc, &mut tokens, written)?;
     let text = text(alloc, &tokens)?;
     Ok(Some(Callee::Written(Spelling::from_str(alloc, &text)?)))

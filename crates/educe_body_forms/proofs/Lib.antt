@@ -1,5 +1,5 @@
 pub mod Printed
 pub mod Separated
-pub mod Indices
 pub mod Prefixed
 pub mod Literals
+pub mod Tokens

@@ -8,3 +8,6 @@ pub mod Tokens
 pub mod Printing
 pub mod Printouts
 pub mod ShownPrintouts
+pub mod Indices
+pub mod FieldKeys
+pub mod KeyLaws

@@ -1,9 +1,6 @@
 //! The bodies of functions.
 use crate::form::Forms;
-use educe_tokens::{Seq, Word};
-
-/// Names in their order.
-pub type Names = Seq<Word>;
+use educe_tokens::Names;
 
 /// The parameters of a function behind `self`, and its forms.
 #[derive(Drop)]

@@ -7,12 +7,3 @@ pub enum Comparison {
     PartialOrd,
     Ord,
 }
-
-impl Comparison {
-    /// These traits in the order in which their items are written.
-    pub const VARIANTS: [Comparison; 3] = [
-        Comparison::PartialEq,
-        Comparison::PartialOrd,
-        Comparison::Ord,
-    ];
-}

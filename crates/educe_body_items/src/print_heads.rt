@@ -131,10 +131,10 @@ fn push_own_head(
 fn push_comparing_head(
     alloc: Global,
     tokens: &mut TokenStream,
-    front: &str,
+    front: &'static str,
     params: &Names,
-    other: &str,
-    behind: &str,
+    other: &'static str,
+    behind: &'static str,
 ) -> Result<(), AllocError>
     requires front { IsTrue (is_template front.now) }
     requires other { IsTrue (is_template other.now) }
@@ -154,9 +154,9 @@ fn push_comparing_head(
 fn push_parameters(
     alloc: Global,
     tokens: &mut TokenStream,
-    own: &str,
+    own: &'static str,
     params: &Names,
-    other: &str,
+    other: &'static str,
 ) -> Result<(), AllocError>
     requires own { IsTrue (is_template own.now) }
     requires other { IsTrue (is_template other.now) }

@@ -19,7 +19,7 @@ use Rattle.educe_grammar.specs.Naming.{Named, ident_named, field_names, shape_sc
 use Rattle.educe_names.proofs.PlainNames.{plain_is_word, word_spells}
 use Rattle.educe_body_forms.specs.Keys.{binding_key, keys_from, shape_fields, fields_of, keys_of, AreDifferent}
 use Rattle.educe_body_forms.proofs.Prefixed.{unraw_decimal}
-use Rattle.educe_body_forms.proofs.Indices.{decimal_begins}
+use Rattle.educe_body_forms.specs.Indices.{decimal_begins}
 
 -- a name doesn't begin with a digit
 name_no_digit : (text : List ℕ) → IsTrue (spells IdentKind text) → begins is_ascii_digit text ≡ true → ⊥

@@ -1,4 +1,6 @@
 pub mod Asking
+pub mod Inserted
+pub mod Once
 pub mod CopiedTokens
 pub mod CopiedReads
 pub mod CopiedParts

@@ -1,3 +1,4 @@
 pub mod Bounds
 pub mod Predicates
 pub mod Laws
+pub mod Sets

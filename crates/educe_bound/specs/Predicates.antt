@@ -11,7 +11,6 @@ use Rattle.educe_syntax.specs.GenericParam.TheVariants as param
 use Rattle.educe_syntax.specs.WherePredicate.{WherePredicate}
 use Rattle.educe_syntax.specs.Ty.{Ty}
 use Rattle.educe_bound_classes.specs.Classes.{type_name}
-use Rattle.educe_bound_classes.specs.Keys.{tokens_key}
 use Rattle.educe_bound_classes.specs.Exceptions.{Exceptions, clone_exceptions, copy_exceptions, debug_exceptions, equality_exceptions, order_exceptions, hash_exceptions, default_exceptions}
 use Rattle.educe_bound_classes.specs.Needs.{param_of, AreOwn, Suffices, AreMinimal}
 use Rattle.educe_bound_traits.specs.Paths.{trait_path}
@@ -33,10 +32,6 @@ key_of predicate = lexemes_aside predicate.written.tokens
 -- The tokens of each predicate, spans and jointness aside.
 abbrev pub keys_of : List WherePredicate → List Key
 keys_of predicates = map key_of predicates
-
--- The numbers by which a predicate is looked up.
-abbrev pub number_of : WherePredicate → List ℕ
-number_of predicate = tokens_key predicate.written.tokens
 
 -- Each predicate is the reading of its tokens, within the limits.
 abbrev pub AreRead : List WherePredicate → Type 0

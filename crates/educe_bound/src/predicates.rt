@@ -1,20 +1,17 @@
 //! The predicates of the where clause of an impl (documentation of `educe`, Bounds).
-ghost use Rattle.std.specs.Prelude.{◌≡◌, ◌++◌, map, IfOk, OnOk};
-ghost use Rattle.educe_tokens.specs.Prefix.{HasPrefix};
+ghost use Rattle.std.specs.Prelude.{◌≡◌, [], ◌++◌, map, IfOk};
 ghost use Rattle.educe_bound_classes.specs.Deriving.{Extends};
-ghost use Rattle.educe_bound_classes.specs.Keys.{Holds};
 ghost use Rattle.educe_bound.specs.Predicates as spec;
+ghost use Rattle.educe_bound.specs.Sets.{AreOnceByBound};
 
 use crate::asked::{exceptions_of, needed_predicates, predicates_on_params};
 use crate::bound::Bound;
-use educe_bound_classes::{BoundExceptions, key_of_tokens};
+use crate::sets::{PredicateSet, extend_where_predicates};
+use educe_bound_classes::BoundExceptions;
 use educe_bound_traits::Trait;
-use educe_syntax::{
-    Duplicate, GenericParam, Generics, Ident, Params, Predicates, Ty, WherePredicate,
-};
+use educe_syntax::{Duplicate, GenericParam, Generics, Ident, Params, Predicates, Ty};
 use educe_tokens::Seq;
 use std::alloc::{AllocError, Global};
-use std::collections::BTreeSet;
 
 impl Bound {
     ghost use Rattle.std.specs.Prelude.{map};
@@ -35,19 +32,58 @@ impl Bound {
         self_ident: &Ident,
         exceptions: &BoundExceptions,
     ) -> Result<Predicates, AllocError>
-        ensures keys { IfOk result (λ found. spec.AreByBound self.now exceptions.now params.now self_ident.now.text bound_trait (map (λ (t : Bor Ty). t.now) types.now) (spec.keys_of found)) }
+        ensures keys { IfOk result (λ found. spec.AreByBound self.now exceptions.now params.now self_ident.now.text
+            bound_trait (map (λ (t : Bor Ty). t.now) types.now) (spec.keys_of found)) }
         // Under the automatic bound the predicates suffice, and none can be dropped.
-        ensures suffice { IfOk result (λ found. spec.SufficeBy self.now exceptions.now params.now self_ident.now.text bound_trait (map (λ (t : Bor Ty). t.now) types.now) (spec.keys_of found)) }
-        ensures minimal { AllByRecursion IsReadType (map (λ (t : Bor Ty). t.now) types.now) → IfOk result (λ found. spec.AreMinimalBy self.now exceptions.now params.now self_ident.now.text bound_trait (map (λ (t : Bor Ty). t.now) types.now) (spec.keys_of found)) }
-        ensures read { spec.IsReadBound self.now → AreNames params.now → AllByRecursion IsReadType (map (λ (t : Bor Ty). t.now) types.now) → IfOk result spec.AreRead }
+        ensures suffice { IfOk result (λ found. spec.SufficeBy self.now exceptions.now params.now self_ident.now.text
+            bound_trait (map (λ (t : Bor Ty). t.now) types.now) (spec.keys_of found)) }
+        ensures minimal { AllByRecursion IsReadType (map (λ (t : Bor Ty). t.now) types.now) →
+            IfOk result (λ found. spec.AreMinimalBy self.now exceptions.now params.now self_ident.now.text bound_trait
+            (map (λ (t : Bor Ty). t.now) types.now) (spec.keys_of found)) }
+        ensures read { spec.IsReadBound self.now → AreNames params.now →
+            AllByRecursion IsReadType (map (λ (t : Bor Ty). t.now) types.now) → IfOk result spec.AreRead }
     {
         match self {
             Bound::Disabled => Ok(Seq::new(alloc)),
             Bound::Auto => {
-                needed_predicates(alloc, params, bound_trait, types, self_ident, exceptions)
+                let needed = needed_predicates(
+                    alloc,
+                    params,
+                    bound_trait,
+                    types,
+                    self_ident,
+                    exceptions,
+                )?;
+                Ok(needed.into_list())
             }
             Bound::All => predicates_on_params(alloc, params, bound_trait),
             Bound::Custom(predicates) => predicates.duplicate(alloc),
+        }
+    }
+
+    /// The predicates that the bound asks for as a set, which others can be added to: each is there once,
+    /// also where a list has it twice.
+    pub fn predicate_set(
+        &self,
+        alloc: Global,
+        params: &Params,
+        bound_trait: Trait,
+        types: &[&Ty],
+        self_ident: &Ident,
+        exceptions: &BoundExceptions,
+    ) -> Result<PredicateSet, AllocError>
+        ensures keys { IfOk result (λ found. AreOnceByBound self.now exceptions.now params.now self_ident.now.text
+            bound_trait (map (λ (t : Bor Ty). t.now) types.now) (spec.keys_of found)) }
+        ensures read { spec.IsReadBound self.now → AreNames params.now →
+            AllByRecursion IsReadType (map (λ (t : Bor Ty). t.now) types.now) → IfOk result spec.AreRead }
+    {
+        match self {
+            Bound::Disabled => Ok(PredicateSet::new(alloc)),
+            Bound::Auto => {
+                needed_predicates(alloc, params, bound_trait, types, self_ident, exceptions)
+            }
+            Bound::All => set_of(alloc, &predicates_on_params(alloc, params, bound_trait)?),
+            Bound::Custom(predicates) => set_of(alloc, predicates),
         }
     }
 
@@ -60,14 +96,23 @@ impl Bound {
         types: &[&Ty],
         self_ident: &Ident,
     ) -> Result<Predicates, AllocError>
-        ensures keys { IfOk result (λ found. spec.AreCopies self.now params.now self_ident.now.text (map (λ (t : Bor Ty). t.now) types.now) (spec.keys_of found)) }
+        ensures keys { IfOk result (λ found. spec.AreCopies self.now params.now self_ident.now.text
+            (map (λ (t : Bor Ty). t.now) types.now) (spec.keys_of found)) }
         ensures read { AreNames params.now → AllByRecursion IsReadType (map (λ (t : Bor Ty). t.now) types.now) → IfOk result spec.AreRead }
     {
         match self {
             Bound::Disabled => Ok(Seq::new(alloc)),
             Bound::Auto => {
                 let exceptions = exceptions_of(Trait::Copy);
-                needed_predicates(alloc, params, Trait::Copy, types, self_ident, &exceptions)
+                let needed = needed_predicates(
+                    alloc,
+                    params,
+                    Trait::Copy,
+                    types,
+                    self_ident,
+                    &exceptions,
+                )?;
+                Ok(needed.into_list())
             }
             Bound::All => predicates_on_params(alloc, params, Trait::Copy),
             Bound::Custom(_) => Ok(Seq::new(alloc)),
@@ -75,52 +120,14 @@ impl Bound {
     }
 }
 
-/// The keys of the predicates, by which these are found again.
-fn known_keys(
-    alloc: Global,
-    predicates: &[WherePredicate],
-) -> Result<BTreeSet<Vec<u32>>, AllocError>
-    ensures { IfOk result (λ known. Holds known (map spec.number_of predicates.now)) }
+/// The predicates of a list, each once.
+fn set_of(alloc: Global, predicates: &Predicates) -> Result<PredicateSet, AllocError>
+    ensures keys { IfOk result (λ set. Extends [] (spec.keys_of predicates.now) (spec.keys_of set)) }
+    ensures read { spec.AreRead predicates.now → IfOk result spec.AreRead }
 {
-    let mut known = BTreeSet::new(alloc);
-    for predicate in predicates {
-        let key = key_of_tokens(alloc, predicate.written.tokens().as_slice())?;
-        known.insert(key)?;
-    }
-    Ok(known)
-}
-
-/// Appends, one after the other, those predicates that are not there yet, by their tokens.
-fn append_new(alloc: Global, own: &mut Predicates, extra: &Predicates) -> Result<(), AllocError>
-    ensures ok { OnOk result (Extends (spec.keys_of own.old) (spec.keys_of extra.now) (spec.keys_of own.new)) }
-    ensures kept { HasPrefix own.old own.new }
-    ensures read { spec.AreRead own.old → spec.AreRead extra.now → OnOk result (spec.AreRead own.new) }
-{
-    let mut known = known_keys(alloc, own.as_slice())?;
-    for predicate in extra.as_slice() {
-        let key = key_of_tokens(alloc, predicate.written.tokens().as_slice())?;
-        if known.insert(key)? {
-            own.push(predicate.duplicate(alloc)?)?;
-        }
-    }
-    Ok(())
-}
-
-/// Appends those predicates that are not in the list yet, compared by their tokens. Where there are
-/// none to append, no key is computed.
-pub fn extend_where_predicates(
-    alloc: Global,
-    own: &mut Predicates,
-    extra: &Predicates,
-) -> Result<(), AllocError>
-    ensures ok { OnOk result (Extends (spec.keys_of own.old) (spec.keys_of extra.now) (spec.keys_of own.new)) }
-    ensures kept { HasPrefix own.old own.new }
-    ensures read { spec.AreRead own.old → spec.AreRead extra.now → OnOk result (spec.AreRead own.new) }
-{
-    match extra.as_slice() {
-        [] => Ok(()),
-        _ => append_new(alloc, own, extra),
-    }
+    let mut set = PredicateSet::new(alloc);
+    extend_where_predicates(&mut set, predicates)?;
+    Ok(set)
 }
 
 /// The generics with these predicates after their own.

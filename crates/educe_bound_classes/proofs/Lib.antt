@@ -8,8 +8,6 @@ pub mod ClassLikeness
 pub mod Inside
 pub mod ByText
 pub mod Asking
-pub mod Kept
-pub mod KeysApart
 pub mod Lawful
 pub mod Collecting
 pub mod Declared

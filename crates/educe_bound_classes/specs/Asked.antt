@@ -11,7 +11,7 @@ use Rattle.educe_bound_classes.specs.Deriving.{other}
 use Rattle.educe_bound_classes.specs.Exceptions.{Exceptions}
 use Rattle.educe_bound_classes.specs.declared.needs.Asked.{Asked}
 use Rattle.educe_bound_classes.specs.declared.needs.Asked.TheVariants.{Itself, Param}
-use Rattle.educe_bound_classes.specs.Needs.{AreNames, own_of, param_of, Asks, AllAsk, AreOwn}
+use Rattle.educe_bound_classes.specs.Needs.{AreNames, own_of, param_of, Asks, AllAsk}
 
 -- The types that are borrowed.
 abbrev pub types_of : List (Bor Ty) → List Ty
@@ -57,9 +57,3 @@ pub record AddsAll (ex : Exceptions) (params : List GenericParam) (self : List �
 pub record AddsNames (names : List (List ℕ)) (old new : List Asked) : Type 0 where
   pub keys : (bound : List Lexeme) → keys_of bound new ≡ keys_of bound old ++ map (param_of bound) names
   pub read : (ex : Exceptions) (params : List GenericParam) (self : List ℕ) → AllByRecursion IsName names → AreAskedRead params ex self old → AreAskedRead params ex self new
-
--- The list has the predicates of the automatic mode, whatever the trait is; if the types are readings of their tokens,
--- so are these.
-pub record AreKept (ex : Exceptions) (params : List GenericParam) (self : List ℕ) (types : List Ty) (own : List Asked) : Type 0 where
-  pub keys : (bound : List Lexeme) → AreOwn ex params self bound types (keys_of bound own)
-  pub read : AreNames params → AllByRecursion IsReadType types → AreAskedRead params ex self own

@@ -8,7 +8,6 @@ pub mod Classes
 pub mod Sought
 pub mod Needs
 pub mod Asked
-pub mod Keys
 pub mod Texts
 pub mod Collects
 pub mod Names

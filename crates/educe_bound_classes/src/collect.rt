@@ -128,7 +128,8 @@ fn collect_first<'a>(
     path: &'a Path,
     set: &mut IdentSet<'a>,
 ) -> Result<(), AllocError>
-    ensures ok { OnOk result (AddsWhere (λ text. is_type_param_of (params_of names.entry) text && begins_with (λ name. bytes_eq text name) path.now) set.old set.new) }
+    ensures ok { OnOk result (AddsWhere (λ text. is_type_param_of (params_of names.entry) text && begins_with
+        (λ name. bytes_eq text name) path.now) set.old set.new) }
     ensures keeps { KeepsTexts set.old set.new }
 {
     match path.segments.as_slice().first() {

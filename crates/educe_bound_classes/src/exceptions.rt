@@ -147,7 +147,8 @@ impl BoundExceptions {
         ty: &'a Ty,
         params: &Params,
     ) -> Result<Option<Vec<&'a Ty>>, AllocError>
-        ensures some { IfOk result (λ found. IfSome found (λ parts. spec.parts_of params.now self.now ty.now ≡ Some (types_of parts.items))) }
+        ensures some { IfOk result (λ found. IfSome found
+            (λ parts. spec.parts_of params.now self.now ty.now ≡ Some (types_of parts.items))) }
         ensures none { IfOk result (λ found. IfNone found (spec.parts_of params.now self.now ty.now ≡ None)) }
     {
         if !self.is_forwarding(ty, Names::Listed(params)) {

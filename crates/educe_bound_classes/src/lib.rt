@@ -8,7 +8,6 @@ mod exceptions;
 mod idents;
 mod laws;
 mod needs;
-mod once;
 mod params;
 mod paths;
 mod places;
@@ -21,7 +20,6 @@ pub use exceptions::BoundExceptions;
 pub use idents::IdentSet;
 pub use laws::automatic_laws;
 pub use needs::{Asked, Asker, append_needs, needs_of};
-pub use once::{each_once, key_of_tokens, own_needs};
 pub use tables::{
     BOUND_EXCEPTIONS_CLONE, BOUND_EXCEPTIONS_COPY, BOUND_EXCEPTIONS_DEBUG,
     BOUND_EXCEPTIONS_DEFAULT, BOUND_EXCEPTIONS_EQUALITY, BOUND_EXCEPTIONS_HASH,

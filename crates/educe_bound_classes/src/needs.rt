@@ -65,7 +65,8 @@ pub fn append_needs<'a>(
     ty: &'a Ty,
     asked: &mut Vec<Asked<'a>>,
 ) -> Result<(), AllocError>
-    ensures ok { OnOk result (Adds asker.now.exceptions.now asker.now.params.now asker.now.name.now ty.now asked.old.items asked.new.items) }
+    ensures ok { OnOk result (Adds asker.now.exceptions.now asker.now.params.now asker.now.name.now ty.now
+        asked.old.items asked.new.items) }
 {
     let names = Names::Sorted(&asker.params);
     if asker.exceptions.is_unconditional(ty, names) {
@@ -108,7 +109,8 @@ fn append_found<'a>(
     found: &IdentSet<'_>,
     asked: &mut Vec<Asked<'a>>,
 ) -> Result<(), AllocError>
-    ensures ok { OnOk result (AddsNames (filter (has_text found.now) (filter_map type_name asker.now.params.now)) asked.old.items asked.new.items) }
+    ensures ok { OnOk result (AddsNames (filter (has_text found.now) (filter_map type_name asker.now.params.now))
+        asked.old.items asked.new.items) }
 {
     let places = asker.params.found_places(asker.alloc, found)?;
     for place in &places {
@@ -138,7 +140,8 @@ fn append_name<'a>(
     found: &IdentSet<'_>,
     asked: &mut Vec<Asked<'a>>,
 ) -> Result<(), AllocError>
-    ensures ok { OnOk result (AddsNames (filter (has_text found.now) (cons_option (type_name param.now) [])) asked.old.items asked.new.items) }
+    ensures ok { OnOk result (AddsNames (filter (has_text found.now) (cons_option (type_name param.now) []))
+        asked.old.items asked.new.items) }
 {
     match param {
         GenericParam::TypeParam(param) => {
@@ -159,7 +162,8 @@ fn append_parts<'a>(
     ty: &'a Ty,
     asked: &mut Vec<Asked<'a>>,
 ) -> Result<(), AllocError>
-    ensures ok { OnOk result (AddsAll asker.now.exceptions.now asker.now.params.now asker.now.name.now (types_behind ty.now.form) asked.old.items asked.new.items) }
+    ensures ok { OnOk result (AddsAll asker.now.exceptions.now asker.now.params.now asker.now.name.now
+        (types_behind ty.now.form) asked.old.items asked.new.items) }
 {
     match &ty.form {
         TypeForm::Path(_, path) => append_path(asker, path, asked),
@@ -174,7 +178,8 @@ fn append_path<'a>(
     path: &'a Path,
     asked: &mut Vec<Asked<'a>>,
 ) -> Result<(), AllocError>
-    ensures ok { OnOk result (AddsAll asker.now.exceptions.now asker.now.params.now asker.now.name.now (last_types path.now) asked.old.items asked.new.items) }
+    ensures ok { OnOk result (AddsAll asker.now.exceptions.now asker.now.params.now asker.now.name.now
+        (last_types path.now) asked.old.items asked.new.items) }
 {
     match path.segments.as_slice().last() {
         Some(last) => append_args(asker, &last.args, asked),
@@ -189,7 +194,8 @@ fn append_args<'a>(
     args: &'a Args,
     asked: &mut Vec<Asked<'a>>,
 ) -> Result<(), AllocError>
-    ensures ok { OnOk result (AddsAll asker.now.exceptions.now asker.now.params.now asker.now.name.now (filter_map plain_of (angle_of args.now)) asked.old.items asked.new.items) }
+    ensures ok { OnOk result (AddsAll asker.now.exceptions.now asker.now.params.now asker.now.name.now
+        (filter_map plain_of (angle_of args.now)) asked.old.items asked.new.items) }
 {
     match args {
         Args::Angle(angle) => append_all(asker, angle, asked),
@@ -205,7 +211,8 @@ fn append_all<'a>(
     angle: &'a AngleArgs,
     asked: &mut Vec<Asked<'a>>,
 ) -> Result<(), AllocError>
-    ensures ok { OnOk result (AddsAll asker.now.exceptions.now asker.now.params.now asker.now.name.now (filter_map plain_of angle.now) asked.old.items asked.new.items) }
+    ensures ok { OnOk result (AddsAll asker.now.exceptions.now asker.now.params.now asker.now.name.now
+        (filter_map plain_of angle.now) asked.old.items asked.new.items) }
 {
     for arg in angle.as_slice() {
         match arg {
@@ -225,7 +232,8 @@ pub fn needs_of<'a>(
     asker: &Asker<'a>,
     types: &[&'a Ty],
 ) -> Result<Vec<Asked<'a>>, AllocError>
-    ensures { IfOk result (λ asked. AddsAll asker.now.exceptions.now asker.now.params.now asker.now.name.now (types_of types.now) [] asked.items) }
+    ensures { IfOk result (λ asked. AddsAll asker.now.exceptions.now asker.now.params.now asker.now.name.now
+        (types_of types.now) [] asked.items) }
 {
     let mut asked = Vec::new(alloc);
     for ty in types {

@@ -61,7 +61,8 @@ pub(crate) fn type_places<'a>(
 
 /// Adds places to those that were found.
 fn add_each(places: &[usize], found: &mut BTreeSet<usize>) -> Result<(), AllocError>
-    ensures { OnOk result ((place : ℕ) → contains nat_cmp found.new place ≡ (contains nat_cmp found.old place || spec.is_among places.now place)) }
+    ensures { OnOk result ((place : ℕ) →
+        contains nat_cmp found.new place ≡ (contains nat_cmp found.old place || spec.is_among places.now place)) }
 {
     for place in places {
         found.insert(*place)?;

@@ -2,11 +2,13 @@
 //! crate `educe`, Traits).
 #![tactic(auto)]
 
+mod laws;
 mod named;
 mod paths;
 mod traits;
 mod word;
 
+pub use laws::trait_laws;
 pub use paths::trait_path;
 pub use traits::{Trait, Traits, all_listed, each_once, is_listed, same_trait};
 pub use word::{is_one_word, is_word};

@@ -91,12 +91,22 @@ mod tests {
     const REFUSAL: &[u8] =
         b"1:3: you are using an incorrect format of the `educe` attribute, which should be reformatted as follows:\n    #[educe(Trait1, Trait2, ..., TraitN)]\n";
 
-    /// The arguments of the command.
-    fn arguments(alloc: Global) -> Result<Args, AllocError> {
+    /// How the program is called.
+    const USAGE: &[u8] = b"usage: educe expand | educe sample N\n";
+
+    /// The arguments of a call with these words.
+    fn arguments_of(alloc: Global, words: &[&str]) -> Result<Args, AllocError> {
         let mut arguments = Vec::new(alloc);
         arguments.push(String::from_str(alloc, "educe")?)?;
-        arguments.push(String::from_str(alloc, "expand")?)?;
+        for word in words {
+            arguments.push(String::from_str(alloc, *word)?)?;
+        }
         Ok(arguments.into_iter())
+    }
+
+    /// The arguments of the command `expand`.
+    fn arguments(alloc: Global) -> Result<Args, AllocError> {
+        arguments_of(alloc, &["expand"])
     }
 
     /// How the program ends over a definition that is rejected.
@@ -119,6 +129,31 @@ mod tests {
         assert_eq!(rt; found.status, 1);
         assert_eq!(rt; text.bytes(), b"".as_slice());
         assert_eq!(rt; notes.bytes(), REFUSAL);
+        Ok(())
+    }
+
+    /// How a call with these words ends, and its notes.
+    fn noted(alloc: Global, words: &[&str]) -> Result<(u8, MemorySink), AllocError> {
+        let mut text = MemorySink::new(alloc, 100, &[])?;
+        let mut notes = MemorySink::new(alloc, 100, &[])?;
+        let arguments = Ok(arguments_of(alloc, words)?);
+        let found = ending(alloc, arguments, &mut text, &mut notes)?;
+        Ok((found.status, notes))
+    }
+
+    #[test]
+    fn without_a_command_the_usage_is_a_note(rt: HostRuntime) -> Result<(), Fail> {
+        let (status, notes) = noted(rt.alloc(), &[])?;
+        assert_eq!(rt; status, 2);
+        assert_eq!(rt; notes.bytes(), USAGE);
+        Ok(())
+    }
+
+    #[test]
+    fn a_request_for_help_shows_the_usage(rt: HostRuntime) -> Result<(), Fail> {
+        let (status, notes) = noted(rt.alloc(), &["--help"])?;
+        assert_eq!(rt; status, 2);
+        assert_eq!(rt; notes.bytes(), USAGE);
         Ok(())
     }
 

@@ -1,4 +1,5 @@
-//! The program `educe`: it reads a definition and writes the impls that its attributes ask for.
+//! The program `educe`: it reads a definition and writes the impls that its attributes ask for, or
+//! writes a line about those of a sample.
 #![tactic(auto)]
 
 mod adapters;

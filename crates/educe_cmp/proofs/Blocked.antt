@@ -1,23 +1,14 @@
--- The block of a comparison, and the types that its bounds speak of.
+-- The block of a comparison.
 use Rattle.std.proofs.Common.{◌≡◌, List, subst}
 use Rattle.educe_syntax.specs.DeriveInput.{DeriveInput}
-use Rattle.educe_syntax.specs.Ty.{Ty}
 use Rattle.educe_bound_traits.specs.declared.traits.Trait.{Trait}
 use Rattle.educe_body_forms.specs.declared.body.Body.{Body}
 use Rattle.educe_body_forms.specs.declared.comparison.Comparison.{Comparison}
-use Rattle.educe_body_forms.specs.declared.comparison.Comparison.TheVariants.{PartialEq, PartialOrd, Ord}
 use Rattle.educe_body_items.specs.declared.items.Function.{Function}
 use Rattle.educe_body_items.specs.declared.items.Item.{Item}
 use Rattle.educe_handlers.proofs.Formed.{function_block}
-use Rattle.educe_laws.specs.Blocks.{IsBody, IsComparisonBlock, IsFunction, IsImplBlock, function_name}
-use Rattle.educe_laws.specs.Comparisons.{trait_of}
-use Rattle.educe_laws.specs.Types.{AreTypes, AreOfFields}
-
--- the types that bounds of a comparison speak of are those of its fields
-pub types_are : (which : Comparison) (d : DeriveInput) (read touched : List Ty) → AreOfFields (trait_of which) d read touched → AreTypes (trait_of which) d read touched
-types_are PartialEq d read touched are = are
-types_are PartialOrd d read touched are = are
-types_are Ord d read touched are = are
+use Rattle.educe_meaning.specs.Blocks.{IsBody, IsComparisonBlock, IsFunction, IsImplBlock, function_name}
+use Rattle.educe_meaning.specs.Comparisons.{trait_of}
 
 -- an impl whose one function has the name and the body of a comparison is the block of it
 pub block_is : (which : Comparison) (own : Trait) (d : DeriveInput) (body : Body) (functions : List Function) (items : List Item) → own ≡ trait_of which

@@ -1,1 +1,4 @@
+pub mod CheckedTypes
+pub mod Counted
+pub mod Armed
 pub mod Blocked

@@ -1,3 +1,6 @@
--- The laws of comparisons and of `Eq` as terms.
-pub use Rattle.educe_cmp_keys.specs.Laws
-pub use Rattle.educe_cmp_eq.specs.Laws as EqLaws
+-- The laws of `Eq` as terms.
+pub mod EqLaws
+-- The names that functions declare.
+pub mod Names
+-- The laws of comparisons as terms.
+pub mod Laws

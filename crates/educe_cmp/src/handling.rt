@@ -1,23 +1,24 @@
 //! The block of a comparison.
-ghost use Rattle.std.specs.Prelude.{◌≡◌, ◌≤◌, ◌^◌, length, OnOk, IfOk, IfErr};
+ghost use Rattle.std.specs.Prelude.{◌≡◌, ◌≤◌, ◌^◌, length, IfOk, IfErr, IfSome};
 ghost use Rattle.std.specs.List.{AllByRecursion};
+ghost use Rattle.std.specs.Option.{option_copied};
+ghost use Rattle.educe_body.specs.Held.{AreWordsOf};
 ghost use Rattle.educe_attrs.specs.Causes.{NoCause, OfStop};
 ghost use Rattle.educe_attrs.specs.Phases.{OfHandler};
-ghost use Rattle.educe_handlers.specs.SeenTypes.{Sees};
-ghost use Rattle.educe_laws.specs.Blocks.{IsComparisonBlock, IsBody, IsFunction, EachEvaluates, function_name};
-ghost use Rattle.educe_laws.specs.Cases.{cases_of};
-ghost use Rattle.educe_laws.specs.Comparisons as comparisons;
-ghost use Rattle.educe_laws.specs.Handled.{OfShape, handling};
-ghost use Rattle.educe_laws.specs.Handlers.{IsReady};
-ghost use Rattle.educe_laws.specs.Headers.{AreCopied, ImplAdds};
-ghost use Rattle.educe_laws.specs.Listed as listing;
+ghost use Rattle.educe_meaning.specs.Blocks.{IsComparisonBlock, IsBody, IsFunction, EachEvaluates, function_name};
+ghost use Rattle.educe_meaning.specs.Comparisons as comparisons;
+ghost use Rattle.educe_settings.specs.Handled.{OfShape, handling};
+ghost use Rattle.educe_meaning.specs.Handlers.{IsReady};
+ghost use Rattle.educe_meaning.specs.Headers.{ImplAdds};
+ghost use Rattle.educe_settings.specs.Packed.{AreCopied};
+ghost use Rattle.educe_settings.specs.Listed as listing;
 
+use crate::cases::{enum_case, struct_case};
 use educe_attrs::Stop;
-use educe_body::{Body, Comparison, Functions, Items};
-use educe_cmp_bodies::{enum_case, struct_case};
-use educe_handlers::{
-    SeenTypes, Task, TraitHandlerContext, bound_of_type, function, impl_block, is_copied, no_types,
-};
+use educe_body::{Body, Comparison, Functions, InputWords, Items};
+use educe_handlers::{TraitHandlerContext, function, impl_block};
+use educe_settings::{Task, bound_of_type, is_copied};
+use educe_settings_types::seen_types;
 use educe_syntax::{Predicates, Shape};
 use std::alloc::{AllocError, Global};
 
@@ -32,29 +33,29 @@ fn functions(alloc: Global, which: Comparison, body: Body) -> Result<Functions, 
     }
 }
 
-/// The body of a listed comparison. Fields are read by copies where they have to be, and the types that
-/// bounds speak of are added. It is rejected exactly where an attribute of a variant or a field or a rank
+/// The body of a listed comparison. Fields are read by copies where they have to be. It is rejected exactly where an attribute of a variant or a field or a rank
 /// is wrong, or memory fails.
-fn body<'d>(
+fn body(
     alloc: Global,
     which: Comparison,
-    task: Task<'d, '_>,
+    task: Task<'_, '_>,
     copied: bool,
-    types: &mut SeenTypes<'d>,
+    words: Option<&InputWords>,
 ) -> Result<Body, Stop>
-    requires same { task.which ≡ comparisons.trait_of which }
+    requires same { task.trait_ ≡ comparisons.trait_of which }
     requires listed { task.listed.now ≡ listing.listed task.ast.now }
     requires copied { AreCopied task.ast.now copied }
+    requires words { IfSome (option_copied words) (AreWordsOf task.ast.now.tokens) }
     ensures ok { IfOk result (IsBody which task.entry.ast.now) }
-    ensures types { OnOk result (Sees task.entry.which task.entry.ast.now (cases_of task.entry.ast.now) types.old types.new) }
-    ensures uncaused { IfOk result (λ _. NoCause (OfShape task.entry.which task.entry.ast.now task.entry.ast.now.shape)) }
-    ensures err { IfErr result (λ s. OfStop (OfShape task.entry.which task.entry.ast.now task.entry.ast.now.shape) s) }
+    ensures uncaused { IfOk result (λ _. NoCause (OfShape task.entry.trait_ task.entry.ast.now task.entry.ast.now.shape)) }
+    ensures err { IfErr result (λ s. OfStop (OfShape task.entry.trait_ task.entry.ast.now task.entry.ast.now.shape) s) }
 {
     match &task.ast.shape {
         Shape::Struct(shape) => {
-            struct_case(alloc, which, task, shape.fields.as_slice(), copied, types)
+            let fields = shape.fields.as_slice();
+            struct_case(alloc, which, task, fields, copied, words)
         }
-        Shape::Enum(variants) => enum_case(alloc, which, task, variants.as_slice(), types),
+        Shape::Enum(variants) => enum_case(alloc, which, task, variants.as_slice(), words),
     }
 }
 
@@ -65,19 +66,22 @@ pub fn comparison_block(
     which: Comparison,
     task: Task<'_, '_>,
     ctx: &TraitHandlerContext,
+    words: Option<&InputWords>,
 ) -> Result<(Items, Predicates), Stop>
-    requires same { task.which ≡ comparisons.trait_of which }
-    requires ready { IsReady task.which task.ast.now task.listed.now ctx.now }
+    requires same { task.trait_ ≡ comparisons.trait_of which }
+    requires ready { IsReady task.trait_ task.ast.now task.listed.now ctx.now }
+    requires words { IfSome (option_copied words) (AreWordsOf task.ast.now.tokens) }
     ensures block { IfOk result (λ found. IsComparisonBlock which task.entry.ast.now found.0) }
-    ensures means { IfOk result (λ found. length task.entry.ast.now.tokens ≤ 2 ^ 64 → AllByRecursion (EachEvaluates task.entry.ast.now) found.0) }
-    ensures added { IfOk result (λ found. ImplAdds task.entry.ast.now task.entry.which found.1) }
-    ensures uncaused { IfOk result (λ _. NoCause (OfHandler (handling task.entry.ast.now) task.entry.which)) }
-    ensures err { IfErr result (λ s. OfStop (OfHandler (handling task.entry.ast.now) task.entry.which) s) }
+    ensures means { IfOk result (λ found. length task.entry.ast.now.tokens ≤ 2 ^ 64 →
+        AllByRecursion (EachEvaluates task.entry.ast.now) found.0) }
+    ensures added { IfOk result (λ found. ImplAdds task.entry.ast.now task.entry.trait_ found.1) }
+    ensures uncaused { IfOk result (λ _. NoCause (OfHandler (handling task.entry.ast.now) task.entry.trait_)) }
+    ensures err { IfErr result (λ s. OfStop (OfHandler (handling task.entry.ast.now) task.entry.trait_) s) }
 {
     let bound = bound_of_type(alloc, task)?;
     let copied = is_copied(alloc, task.ast)?;
-    let mut types = no_types(alloc);
-    let body = body(alloc, which, task, copied, &mut types)?;
+    let body = body(alloc, which, task, copied, words)?;
     let functions = functions(alloc, which, body)?;
+    let types = seen_types(alloc, task)?;
     Ok(impl_block(alloc, task, &bound, &types, functions, ctx)?)
 }

@@ -1,9 +1,10 @@
 //! The handler of `PartialEq`.
 use crate::handling::comparison_block;
 use educe_attrs::Stop;
-use educe_body::{Comparison, Items};
+use educe_body::{Comparison, InputWords, Items};
 use educe_bound::Trait;
-use educe_handlers::{EnumPart, StructPart, Task, TraitHandler, TraitHandlerContext};
+use educe_handlers::{EnumPart, StructPart, TraitHandler, TraitHandlerContext};
+use educe_settings::Task;
 use educe_syntax::{DeriveInput, Predicates};
 use std::alloc::Global;
 
@@ -25,10 +26,15 @@ impl TraitHandler for PartialEqHandler {
         ast: &DeriveInput,
         listed: &[Trait],
         ctx: &TraitHandlerContext,
+        words: Option<&InputWords>,
     ) -> Result<(Items, Predicates), Stop> {
-        let which = Trait::PartialEq;
-        let task = Task { which, ast, listed };
-        comparison_block(alloc, Comparison::PartialEq, task, ctx)
+        let trait_ = Trait::PartialEq;
+        let task = Task {
+            trait_,
+            ast,
+            listed,
+        };
+        comparison_block(alloc, Comparison::PartialEq, task, ctx, words)
     }
 }
 

@@ -16,9 +16,9 @@ use Rattle.educe_syntax.specs.Refusal.{IsRefusalOf}
 use Rattle.educe_syntax.specs.Laws.{lawful_definition, lawful_definitions}
 use Rattle.educe_syntax.specs.TokenLaws.{lawful_lexing}
 use Rattle.educe_attrs.specs.Causes.{NoCause}
-use Rattle.educe_laws.specs.Handled.{IsListedCause}
+use Rattle.educe_settings.specs.Handled.{IsListedCause}
 use Rattle.educe_core.specs.Headline.{Defines, IsHandlerCause, IsCause, IsValid}
-use Rattle.educe_laws.specs.Listed.{IsListingCause}
+use Rattle.educe_settings.specs.Listed.{IsListingCause}
 use Rattle.educe_core.proofs.HandlerCauses.{handler_words}
 
 -- ---- readings

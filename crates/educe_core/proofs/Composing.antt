@@ -19,12 +19,12 @@ use Rattle.educe_attrs.specs.Phases.{OfHandler}
 use Rattle.educe_attrs.specs.Stop.{Stop}
 use Rattle.educe_body_items.specs.declared.items.Item.{Item}
 use Rattle.educe_handlers.specs.Laws.{lawful_traits}
-use Rattle.educe_laws.specs.Blocks.{IsBlock, Blocks, OneEach, EachEvaluates}
-use Rattle.educe_laws.specs.Handled.{handling, IsListedCause}
-use Rattle.educe_laws.specs.Handlers.{Noted, IsNoted, AreNoted, AddsBlock, AddsMeaning, handled_of}
-use Rattle.educe_laws.specs.Listed.{listed}
-use Rattle.educe_laws.specs.Said.{AreAllSaid}
-use Rattle.educe_laws.proofs.Elements.{each_joined}
+use Rattle.educe_meaning.specs.Blocks.{IsBlock, Blocks, OneEach, EachEvaluates}
+use Rattle.educe_settings.specs.Handled.{handling, IsListedCause}
+use Rattle.educe_meaning.specs.Handlers.{Noted, IsNoted, AreNoted, AddsBlock, AddsMeaning, handled_of}
+use Rattle.educe_settings.specs.Listed.{listed}
+use Rattle.educe_settings.specs.Said.{AreAllSaid}
+use Rattle.educe_settings.proofs.Elements.{each_joined}
 use Rattle.educe_core.specs.Composed.{AreHandled}
 
 -- ---- the listed traits

@@ -4,18 +4,18 @@ use Rattle.educe_tokens.specs.declared.error.EduceError.{EduceError}
 use Rattle.educe_tokens.specs.declared.error.Kind.{Kind}
 use Rattle.educe_tokens.specs.declared.error.Kind.TheVariants.{Syntax, TooDeep, NotCarried, Alloc}
 use Rattle.educe_tokens.specs.declared.token.Token.{Token}
-use Rattle.educe_tokens.specs.Causes.{HasCause, IsLexicalCause}
+use Rattle.educe_tokens.specs.Causes.{HasCause, IsLexicalCause, IsLexicalCauseWithin}
 use Rattle.educe_tokens.specs.Steps.{IsReading}
 use Rattle.educe_syntax.specs.DeriveInput.{DeriveInput}
 use Rattle.educe_syntax.specs.Definitions.{definition}
-use Rattle.educe_syntax.specs.Parsed.{IsWhole, IsParseCause}
+use Rattle.educe_syntax.specs.Parsed.{IsWhole, IsCauseWithin, IsParseCause}
 use Rattle.educe_syntax.specs.Refusal.{IsRefusalOf}
 use Rattle.educe_syntax.specs.Laws.{lawful_definitions}
 use Rattle.educe_syntax.specs.TokenLaws.{lawful_lexing}
 use Rattle.educe_attrs.specs.Causes.{Cause, NoCause}
-use Rattle.educe_laws.specs.Handled.{IsListedCause}
+use Rattle.educe_settings.specs.Handled.{IsListedCause}
 use Rattle.educe_core.specs.Headline.{Defines, IsValid, IsHandlerCause, IsCause}
-use Rattle.educe_laws.specs.Listed.{IsListingCause}
+use Rattle.educe_settings.specs.Listed.{IsListingCause}
 use Rattle.educe_core.proofs.Causes.{defined_by}
 use Rattle.educe_core.proofs.HandlerCauses.{listing_message, listed_message}
 
@@ -38,18 +38,18 @@ OfNone kind = (kind ≡ Syntax) ⊎ ((kind ≡ TooDeep) ⊎ (kind ≡ NotCarried
 
 -- a lexical cause is of these
 lexical_kind : (text : List ℕ) (e : EduceError) → e.kind ≢ Alloc → IsLexicalCause text e → OfNone e.kind
-lexical_kind text e told (IsLexicalCause.not_carried before literal kind rest reads carried is) = inr (inr refl)
-lexical_kind text e told (IsLexicalCause.no_piece before rest reads carried some none) = inl refl
-lexical_kind text e told (IsLexicalCause.wrong_close before token behind outer meets none) = inl refl
-lexical_kind text e told (IsLexicalCause.unclosed found innermost outer lexes opened shallow) = inl refl
-lexical_kind text e told (IsLexicalCause.too_deep before token behind outer b meets opens full) = inr (inl refl)
-lexical_kind text e told IsLexicalCause.memory = absurd (told refl)
+lexical_kind text e told (IsLexicalCauseWithin.not_carried before literal kind rest reads carried is) = inr (inr refl)
+lexical_kind text e told (IsLexicalCauseWithin.no_piece before rest reads carried some none) = inl refl
+lexical_kind text e told (IsLexicalCauseWithin.wrong_close before token behind outer meets none) = inl refl
+lexical_kind text e told (IsLexicalCauseWithin.unclosed found innermost outer lexes opened shallow) = inl refl
+lexical_kind text e told (IsLexicalCauseWithin.too_deep before token behind outer b meets opens full) = inr (inl refl)
+lexical_kind text e told IsLexicalCauseWithin.memory = absurd (told refl)
 
 -- a cause of the grammar is of these
 parse_kind : (found : List Token) (e : EduceError) → e.kind ≢ Alloc → IsParseCause definition found e → OfNone e.kind
-parse_kind found e told (IsParseCause.syntax left none stop) = inl refl
-parse_kind found e told (IsParseCause.too_deep front rest t none stop is many) = inr (inl refl)
-parse_kind found e told IsParseCause.memory = absurd (told refl)
+parse_kind found e told (IsCauseWithin.syntax left none stop) = inl refl
+parse_kind found e told (IsCauseWithin.too_deep front rest t none stop is many) = inr (inl refl)
+parse_kind found e told IsCauseWithin.memory = absurd (told refl)
 
 -- a rejection of tokens that are no definition is of these
 refusal_kind : (found : List Token) (e : EduceError) → e.kind ≢ Alloc → ((d : DeriveInput) → IsWhole definition found d → ⊥) → IsRefusalOf found e → OfNone e.kind

@@ -20,18 +20,18 @@ use Rattle.educe_bound_traits.specs.declared.traits.Trait.TheVariants as trait
 use Rattle.educe_attrs.specs.Among.{IsAmong}
 use Rattle.educe_attrs.specs.Compared.{place_of}
 use Rattle.educe_attrs.specs.Rank.{Rank}
-use Rattle.educe_laws.specs.Cases.{fields_in, shape_cases, cases_of, variant_attributes, field_attributes}
-use Rattle.educe_laws.specs.Defaults.{mark_row, value_row, IsCase, IsDefaultCause, AreMarkedTwice, IsNoneMarked}
-use Rattle.educe_laws.specs.Handled.{places, IsReuse, IsFieldwiseCause, IsTraitCause, IsListsCause, IsListedCause}
+use Rattle.educe_settings.specs.Cases.{fields_in, shape_cases, cases_of, variant_attributes, field_attributes}
+use Rattle.educe_settings.specs.Defaults.{mark_row, value_row, IsCase, IsDefaultCause, AreMarkedTwice, IsNoneMarked}
+use Rattle.educe_settings.specs.Handled.{places, IsReuse, IsFieldwiseCause, IsTraitCause, IsListsCause, IsListedCause}
 use Rattle.educe_core.specs.Headline.{IsHandlerCause}
-use Rattle.educe_laws.specs.Listed.{listed, IsListingCause}
-use Rattle.educe_laws.specs.Rows.{type_row, variant_row, field_row}
-use Rattle.educe_laws.specs.Settings.{settings_of, rank_span_of, Kept, is_kept, kept_at, kept_from, kept_fields}
-use Rattle.educe_laws.specs.Shown.{ShownCase, naming_row, entry_row, IsVariantCase, IsShownCause}
+use Rattle.educe_settings.specs.Listed.{listed, IsListingCause}
+use Rattle.educe_settings.specs.Rows.{type_row, variant_row, field_row}
+use Rattle.educe_settings.specs.Settings.{settings_of, rank_span_of, Kept, is_kept, kept_at, kept_from, kept_fields}
+use Rattle.educe_settings.specs.Shown.{ShownCase, naming_row, entry_row, IsVariantCase, IsShownCause}
 use Rattle.educe_attrs.specs.Laws.{lawful_reports}
 use Rattle.educe_attrs.specs.Messages.{HasMessage, IsBoundary}
-use Rattle.educe_laws.proofs.Elements.{each_joined, each_mapped, each_weaker, each_apart}
-use Rattle.educe_laws.proofs.ShownCauses.{case_within}
+use Rattle.educe_settings.proofs.Elements.{each_joined, each_mapped, each_weaker, each_apart}
+use Rattle.educe_settings.proofs.ShownCauses.{case_within}
 
 -- what holds of the causes of lists, of those of each trait that is read field by field, of those of `Debug` and of those of `Default`
 -- holds of those of the listed traits

@@ -1,6 +1,4 @@
 pub mod Single
-pub mod Table
-pub mod Outcomes
 pub mod Composing
 pub mod HandlerCauses
 pub mod Phased
@@ -8,3 +6,7 @@ pub mod Places
 pub mod Causes
 pub mod Alone
 pub mod Decided
+pub mod WordsApart
+pub mod Numbers
+pub mod SampleText
+pub mod SampleSize

@@ -1,6 +1,6 @@
 -- The law of coherence as a term, which proofs cite with no call.
-use Rattle.educe_laws_coherence.specs.Coherence.{CoherenceLaws}
-use Rattle.educe_laws_coherence.proofs.Fitting as fitting
+use Rattle.educe_meaning_coherence.specs.Coherence.{CoherenceLaws}
+use Rattle.educe_meaning_coherence.proofs.Fitting as fitting
 
 -- The derived functions are coherent, where they evaluate to what their traits mean.
 pub lawful_coherence : CoherenceLaws

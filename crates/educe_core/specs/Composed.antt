@@ -4,9 +4,9 @@ use Rattle.std.specs.List.{AllByRecursion}
 use Rattle.educe_syntax.specs.DeriveInput.{DeriveInput}
 use Rattle.educe_bound_traits.specs.declared.traits.Trait.{Trait}
 use Rattle.educe_body_items.specs.declared.items.Item.{Item}
-use Rattle.educe_laws.specs.Blocks.{Blocks, EachEvaluates}
-use Rattle.educe_laws.specs.Handlers.{Noted, AreNoted, AreUncaused, handled_of}
-use Rattle.educe_laws.specs.Listed.{listed}
+use Rattle.educe_meaning.specs.Blocks.{Blocks, EachEvaluates}
+use Rattle.educe_meaning.specs.Handlers.{Noted, AreNoted, AreUncaused, handled_of}
+use Rattle.educe_settings.specs.Listed.{listed}
 
 -- Each of these traits that is listed was handled, and no other trait: the context holds what their handlers noted; the items are
 -- their blocks, one behind the other, whose functions evaluate to what the traits mean; and no cause of theirs stands.

@@ -17,11 +17,11 @@ use Rattle.educe_body_items.specs.declared.items.Item.{Item}
 use Rattle.educe_body_items.specs.Items.{tokens_of, spelling}
 use Rattle.educe_attrs.specs.Causes.{NoCause}
 use Rattle.educe_attrs.specs.Listing.{IsListing}
-use Rattle.educe_laws.specs.Blocks.{OneEach, EachEvaluates, HasTightBounds}
-use Rattle.educe_laws.specs.Handled.{IsListedCause}
-use Rattle.educe_laws.specs.Listed.{listed, IsListingCause}
-use Rattle.educe_laws.specs.Said.{AreAllSaid}
-use Rattle.educe_laws_coherence.specs.Coherence.{IsCoherent}
+use Rattle.educe_meaning.specs.Blocks.{OneEach, EachEvaluates, HasTightBounds}
+use Rattle.educe_settings.specs.Handled.{IsListedCause}
+use Rattle.educe_settings.specs.Listed.{listed, IsListingCause}
+use Rattle.educe_settings.specs.Said.{AreAllSaid}
+use Rattle.educe_meaning_coherence.specs.Coherence.{IsCoherent}
 
 -- The definition that a text is: its tokens are a reading of the text, with brackets that match, not too deep; they are the
 -- definition by the grammar, within the limits; and its names are distinct.

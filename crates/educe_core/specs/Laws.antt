@@ -8,7 +8,7 @@ use Rattle.educe_tokens.specs.Steps.{IsReading}
 use Rattle.educe_syntax.specs.DeriveInput.{DeriveInput}
 use Rattle.educe_syntax.specs.Definitions.{definition}
 use Rattle.educe_syntax.specs.Parsed.{IsWhole}
-use Rattle.educe_core.specs.Headline.{Defines, IsValid, IsCause}
+use Rattle.educe_core.specs.Headline.{Defines, IsValid, IsCause, IsUndefined, IsAlone}
 
 -- What holds of each text.
 pub record ExpansionLaws : Type 0 where
@@ -21,3 +21,5 @@ pub record ExpansionLaws : Type 0 where
   pub valid_if_uncaused : (source : List ℕ) → ((e : EduceError) → IsCause source e → e.kind ≡ Alloc) → IsValid source
   -- A valid text has no cause of a rejection.
   pub uncaused_if_valid : (source : List ℕ) → IsValid source → (e : EduceError) → IsCause source e → e.kind ≢ Alloc → ⊥
+  -- If a text is no definition with distinct names, no rejection other than the one whose cause is in it has one.
+  pub alone_if_undefined : (source : List ℕ) → IsUndefined source → (e : EduceError) → IsCause source e → e.kind ≢ Alloc → IsAlone source e

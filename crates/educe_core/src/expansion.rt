@@ -1,10 +1,10 @@
 //! From the text of a definition to the text of its impls.
-ghost use Rattle.std.specs.Prelude.{◌≡◌, ◌≢◌, ◌≤◌, length, chars, IfOk, IfErr, IsCharBoundary};
+ghost use Rattle.std.specs.Prelude.{◌≡◌, ◌≢◌, ◌≤◌, length, chars, string_bytes, IfOk, IfErr, IsCharBoundary};
 ghost use Rattle.educe_syntax.specs.DeriveInput.{DeriveInput};
 ghost use Rattle.educe_syntax.specs.Parsed.{IsOnly};
 ghost use Rattle.educe_tokens.specs.Message.{HasWords};
 ghost use Rattle.educe_core.specs.Headline.{Defines, IsExpansion, IsCause, IsValid, IsUndefined, IsAlone};
-ghost use Rattle.educe_core.specs.Expansion.{text_of_expansion, items_of_expansion};
+ghost use Rattle.educe_core.specs.Expansion.{HasTokens, text_of_expansion, items_of_expansion, token_count_of_expansion};
 
 use crate::handler::derive_input_handler;
 use educe_body::{Items, spell};
@@ -17,6 +17,7 @@ use std::alloc::Global;
 pub struct Expansion {
     text: String,
     items: Items,
+    tokens: usize,
 }
 
 impl Expansion {
@@ -28,12 +29,28 @@ impl Expansion {
         self.text.as_str()
     }
 
+    /// The whole text, taken out.
+    #[tactic(auto, unfolding(crate::specs::Expansion::text_of_expansion))]
+    pub(crate) fn into_text(self) -> String
+        ensures { string_bytes result ≡ text_of_expansion self }
+    {
+        self.text
+    }
+
     /// The items that the text spells.
     #[tactic(auto, unfolding(crate::specs::Expansion::items_of_expansion))]
     pub fn items(&self) -> &Items
         ensures { result.now ≡ items_of_expansion self.now }
     {
         &self.items
+    }
+
+    /// How many tokens the definition has.
+    #[tactic(auto, unfolding(crate::specs::Expansion::token_count_of_expansion))]
+    pub fn token_count(&self) -> usize
+        ensures { result ≡ token_count_of_expansion self.now }
+    {
+        self.tokens
     }
 }
 
@@ -48,6 +65,7 @@ fn read(alloc: Global, source: &str) -> Result<DeriveInput, EduceError>
 {
     let tokens = match lex(alloc, source) {
         Ok(tokens) => tokens,
+        // (`?` would convert the rejection, which its clause takes as it is.)
         Err(lexical) => return Err(lexical),
     };
     match TokenSlice::new(alloc, tokens) {
@@ -56,11 +74,19 @@ fn read(alloc: Global, source: &str) -> Result<DeriveInput, EduceError>
     }
 }
 
+/// How many tokens there are.
+fn count(tokens: &TokenSlice) -> usize
+    ensures { result ≡ length tokens.now }
+{
+    tokens.as_slice().len()
+}
+
 /// The expansion of a definition, or a rejection with its cause.
 fn expanded(alloc: Global, source: &str) -> Result<Expansion, EduceError>
     requires { length source.now ≤ SOURCE_LIMIT }
     ensures done { IfOk result (λ e.
         IsExpansion source.now (items_of_expansion e) (text_of_expansion e)) }
+    ensures counted { IfOk result (λ e. HasTokens source.now (token_count_of_expansion e)) }
     ensures cause { IfErr result (IsCause source.now) }
     ensures valid { IsValid source.now → IfErr result (λ e. e.kind ≡ Kind.Alloc) }
     ensures invalid { IfOk result (λ _. (e : EduceError) → e.kind ≢ Kind.Alloc →
@@ -68,14 +94,21 @@ fn expanded(alloc: Global, source: &str) -> Result<Expansion, EduceError>
 {
     let ast = match read(alloc, source) {
         Ok(ast) => ast,
+        // (`?` would convert the rejection, which its clause takes as it is.)
         Err(unread) => return Err(unread),
     };
     let items = match derive_input_handler(alloc, &ast) {
         Ok(items) => items,
+        // (`?` would convert the rejection, which its clause takes as it is.)
         Err(error) => return Err(error),
     };
+    let tokens = count(&ast.tokens);
     match spell(alloc, &items) {
-        Ok(text) => Ok(Expansion { text, items }),
+        Ok(text) => Ok(Expansion {
+            text,
+            items,
+            tokens,
+        }),
         Err(_) => Err(EduceError::alloc(alloc)),
     }
 }
@@ -89,6 +122,7 @@ pub fn expand(alloc: Global, source: &str) -> Result<Expansion, EduceError>
     requires { length source.now ≤ 131_072 }
     ensures done { IfOk result (λ e.
         IsExpansion source.now (items_of_expansion e) (text_of_expansion e)) }
+    ensures counted { IfOk result (λ e. HasTokens source.now (token_count_of_expansion e)) }
     ensures cause { IfErr result (IsCause source.now) }
     // A valid text is expanded, or memory fails; a text with a cause is never expanded.
     ensures valid { IsValid source.now → IfErr result (λ e. e.kind ≡ Kind.Alloc) }

@@ -7,11 +7,11 @@ ghost use Rattle.educe_syntax.specs.Refusal.{IsDefinition};
 ghost use Rattle.educe_attrs.specs.Causes.{NoCause, OfStop};
 ghost use Rattle.educe_attrs.specs.Listing.{IsListing};
 ghost use Rattle.educe_core.specs.Headline.{IsHandlerCause};
-ghost use Rattle.educe_laws.specs.Blocks.{OneEach, EachEvaluates, HasTightBounds};
-ghost use Rattle.educe_laws.specs.Handled.{IsListedCause};
-ghost use Rattle.educe_laws.specs.Listed as listing;
-ghost use Rattle.educe_laws.specs.Said.{AreAllSaid};
-ghost use Rattle.educe_laws_coherence.specs.Coherence.{IsCoherent};
+ghost use Rattle.educe_meaning.specs.Blocks.{OneEach, EachEvaluates, HasTightBounds};
+ghost use Rattle.educe_settings.specs.Handled.{IsListedCause};
+ghost use Rattle.educe_settings.specs.Listed as listing;
+ghost use Rattle.educe_settings.specs.Said.{AreAllSaid};
+ghost use Rattle.educe_meaning_coherence.specs.Coherence.{IsCoherent};
 
 use crate::composition::blocks;
 use educe_attrs::{Stop, error_of, type_listing};

@@ -1,4 +1,4 @@
-//! The derive compiler's top: what a definition is expanded to, the command that runs it, and the
+//! The derive compiler's top: what a definition is expanded to, the commands of the program, and the
 //! devices that it reads and writes.
 #![tactic(auto)]
 
@@ -7,10 +7,12 @@ mod expansion;
 mod handler;
 mod laws;
 mod program;
-mod refusing;
+mod sample;
+mod spoken;
 
 pub use educe_core_devices::{Failed, MemorySink, MemorySource, Sink, Source, Status, Stopped};
 pub use expansion::{Expansion, expand};
 pub use handler::derive_input_handler;
 pub use laws::expansion_laws;
 pub use program::run;
+pub use spoken::Spoken;

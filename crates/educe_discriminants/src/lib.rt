@@ -8,6 +8,6 @@ mod literal;
 mod number;
 
 pub use discriminant_type::DiscriminantType;
-pub use laws::range_laws;
+pub use laws::{range_laws, type_list_laws};
 pub use literal::literal_number;
 pub use number::Number;

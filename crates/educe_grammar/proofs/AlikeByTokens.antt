@@ -24,9 +24,7 @@ use Rattle.educe_grammar.proofs.Sound.{parts_sound}
 use Rattle.educe_grammar.proofs.Unrolling.{read_below}
 use Rattle.educe_grammar.proofs.Balanced.{kinds_of, kinds-append, stop_kind, IsBalanced, balanced_closes, balanced_below}
 use Rattle.educe_grammar.proofs.Aside.{aside_first, aside_rest, aside_as, aside_more, aside_empty, is_steady, loosened, loose, apart_aside, colons_settled}
-use Rattle.educe_grammar.proofs.TypesAgain.{again_any_type}
-use Rattle.educe_grammar.proofs.Knot.{known, read_whole}
-use Rattle.educe_grammar.proofs.ReadsAgain.{ReadsAgain}
+use Rattle.educe_grammar.proofs.ReadsAgain.{any_type_again}
 use Rattle.educe_grammar.proofs.ReadAlike.{ends_of, settles, Agree, rule_agree}
 use Rattle.educe_grammar.proofs.TypesAlike.{Kin, types_related, plains_related}
 
@@ -180,11 +178,6 @@ parts_agree (suc i) (suc j) b c plains ts us rest left x y same h k s t =
 parts_agree (suc i) (suc j) b c exprs ts us rest left x y same h k s t = exprs_agree (suc i) (suc j) b c ts us rest left x y same h k s t
 parts_agree (suc i) (suc j) b c trees ts us rest left x y same h k s t = absurd (false≢true s)
 
--- a type is read to its end
-pub type_again : ReadsAgain any_type
-unfolding sees_any sees begins_pair begins_lone at_end
-type_again budget tokens x h = read_whole any_type budget (again_any_type (known budget) budget (omega arith)) tokens x h refl
-
 -- an empty list may stand behind a type
 type_ends : sees_any (ends_of types) [] ≡ true
 unfolding sees_any sees at_end
@@ -193,6 +186,6 @@ type_ends = refl
 -- Types of tokens that are equal aside are alike, whatever the budgets.
 pub types_alike : (b c : ℕ) (ts us : Tokens) (x y : Ty) → AreEqualAside ts us → Reads b any_type ts x → Reads c any_type us y → AlikeTypes x y
 types_alike b c ts us x y same p q =
-    let h : run (readers_below (suc b)) b any_type ts ≡ Ok (x, []) = sym (read_below b any_type ts) ∙ type_again b ts x p in
-    let k : run (readers_below (suc c)) c any_type us ≡ Ok (y, []) = sym (read_below c any_type us) ∙ type_again c us y q in
+    let h : run (readers_below (suc b)) b any_type ts ≡ Ok (x, []) = sym (read_below b any_type ts) ∙ any_type_again b ts x p in
+    let k : run (readers_below (suc c)) c any_type us ≡ Ok (y, []) = sym (read_below c any_type us) ∙ any_type_again c us y q in
     types_related x y (rule_agree Kin (suc b) (suc c) (parts_agree (suc b) (suc c)) any_type (ends_of types) types_settle b c ts us [] [] x y same h k type_ends type_ends).0

@@ -1,11 +1,10 @@
 -- Places at which more openers count than a budget.
-use Rattle.std.proofs.Common.{◌≡◌, ℕ, suc, ◌+◌, ◌-◌, ◌<◌, ◌≤◌, Bool, true, ◌&&◌, ◌==◌, List, [], ◌∷◌, ◌++◌, length, take, refl, ap, sym, subst, ◌∙◌, arith, cond, append_assoc, length-append}
-use Rattle.std.proofs.Math.Seq.{take-append_seam}
+use Rattle.std.proofs.Common.{◌≡◌, ℕ, suc, ◌+◌, ◌<◌, ◌≤◌, Bool, true, ◌&&◌, ◌==◌, List, [], ◌∷◌, ◌++◌, length, refl, ap, sym, subst, ◌∙◌, arith, cond, append_assoc}
 use Rattle.educe_tokens.specs.TokenKind.{TokenKind}
 use Rattle.educe_tokens.specs.TokenKind.TheVariants as kind
 use Rattle.educe_tokens.specs.declared.token.Token.{Token}
 use Rattle.educe_grammar.specs.Steps.{Tokens}
-use Rattle.educe_grammar.specs.Depth.{pending, is_opener, closed, counted, up_to}
+use Rattle.educe_grammar.specs.Depth.{pending, is_opener, closed, counted}
 use Rattle.educe_grammar.proofs.Beginnings.{opening}
 use Rattle.educe_grammar.proofs.Balanced.{IsEven}
 
@@ -102,13 +101,6 @@ unfolding closed counted
 deep_here t ts opens =
     let still = closed-opener t [] opens refl in
     record { front = t ∷ []; rest = ts; whole = refl; place = omega arith; open_still = still; many = omega (arith, counted-opener t [] opens still) }
-
--- at such a place more than the budget count
-pub deep_counts : (budget left : ℕ) (ts : Tokens) → DeepAt budget left ts → budget < counted (up_to left ts)
-deep_counts budget left ts deep =
-    let size : length ts + 1 - left ≡ length deep.front = omega (arith, ap length deep.whole, length-append deep.front deep.rest, deep.place) in
-    let cut : up_to left ts ≡ deep.front = ap (λ n. take n ts) size ∙ ap (take (length deep.front)) deep.whole ∙ take-append_seam deep.front deep.rest in
-    subst (λ us. budget < counted us) (sym cut) deep.many
 
 -- The token at which more openers than the budget count, with those before it and those behind it.
 pub record DeepPlace (budget left : ℕ) (ts : Tokens) : Type 0 where

@@ -15,11 +15,11 @@ use Rattle.educe_tree.specs.declared.attr.Attribute.{Attribute}
 use Rattle.educe_tree.specs.declared.derive.DeriveInput.{DeriveInput}
 use Rattle.educe_grammar.specs.declared.parse_error.ParseError.{ParseError}
 use Rattle.educe_grammar.specs.declared.parse_error.ParseError.TheVariants.{Memory, Syntax, TooDeep}
-use Rattle.educe_grammar.specs.Causes.{IsDecided}
+use Rattle.educe_grammar.specs.Causes.{IsDecidedWithin}
 use Rattle.educe_grammar.specs.Definitions.{definition}
 use Rattle.educe_grammar.specs.Naming.{duplicate_of}
-use Rattle.educe_grammar.specs.Parsed.{depth_limit, IsWhole, HasNoReading, IsParseCause, place_at, stop_of, refusal_of}
-use Rattle.educe_grammar.specs.Reads.{read}
+use Rattle.educe_grammar.specs.Parsed.{depth_limit, IsWhole, HasNoReading, IsCauseWithin, place_at, stop_of, refusal_of}
+use Rattle.educe_grammar.specs.Reads.{Reads, read}
 use Rattle.educe_grammar.specs.Refusal.{IsDefinition, IsUnion, IsUnionWord, IsRefusalOf, union_of}
 use Rattle.educe_grammar.specs.Rules.{Rule}
 use Rattle.educe_grammar.specs.Steps.{Tokens, Outcome}
@@ -55,42 +55,42 @@ place_of_token front rest t =
 
 -- ---- rules
 
-module _ {A : Type 0} (g : Rule A) (again : ReadsAgain g) where
+module _ {A : Type 0} (g : Rule A) (again : ReadsAgain g) (budget : ℕ) where
   -- a value that the program reads from the whole list is its value
-  pub whole_if_read : (tokens : Tokens) (x : A) → read depth_limit g tokens ≡ Ok (x, []) → IsWhole g tokens x
-  whole_if_read tokens x is = let t = reads_sound depth_limit g tokens [] x is in subst (λ ts. IsWhole g ts x) (sym (t.whole ∙ append-nil t.front)) t.is_in
+  pub whole_if_read : (tokens : Tokens) (x : A) → read budget g tokens ≡ Ok (x, []) → Reads budget g tokens x
+  whole_if_read tokens x is = let t = reads_sound budget g tokens [] x is in subst (λ ts. Reads budget g ts x) (sym (t.whole ∙ append-nil t.front)) t.is_in
 
   -- where the program stops, the whole list has no value
-  pub stops : (tokens : Tokens) (error : ParseError) → stop_of (read depth_limit g tokens) ≡ Some error → HasNoReading g tokens
-  stops tokens error stop x whole = let none : stop_of {A = A} (Ok (x, [])) ≡ Some error = ap stop_of (sym (again depth_limit tokens x whole)) ∙ stop in cc
+  pub stops : (tokens : Tokens) (error : ParseError) → stop_of (read budget g tokens) ≡ Some error → HasNoReading budget g tokens
+  stops tokens error stop x whole = let none : stop_of {A = A} (Ok (x, [])) ≡ Some error = ap stop_of (sym (again budget tokens x whole)) ∙ stop in cc
 
   module _ (ready : is_ready g ≡ true) where
     -- what the program stops at is a cause
-    pub stop_cause : (tokens : Tokens) (error : ParseError) → stop_of (read depth_limit g tokens) ≡ Some error → IsParseCause g tokens (refusal_of tokens error)
-    stop_cause tokens Memory stop = IsParseCause.memory
-    stop_cause tokens (Syntax left) stop = IsParseCause.syntax left (stops tokens (Syntax left) stop) stop
+    pub stop_cause : (tokens : Tokens) (error : ParseError) → stop_of (read budget g tokens) ≡ Some error → IsCauseWithin budget g tokens (refusal_of tokens error)
+    stop_cause tokens Memory stop = IsCauseWithin.memory
+    stop_cause tokens (Syntax left) stop = IsCauseWithin.syntax left (stops tokens (Syntax left) stop) stop
     stop_cause tokens (TooDeep left) stop =
-        let place = read_place depth_limit g ready (omega arith) tokens left (deep_stop (read depth_limit g tokens) left stop) in
+        let place = read_place budget g ready tokens left (deep_stop (read budget g tokens) left stop) in
         let left_is : left ≡ length (place.place ∷ place.rest) = omega (arith, place.left_is) in
         let same : place_at tokens left ≡ place.place.span = (λ i. place_at (place.whole i) (left_is i)) ∙ place_of_token place.front place.rest place.place in
-        subst (λ span. IsParseCause g tokens (too_deep_at span)) (sym same)
-        (IsParseCause.too_deep place.front place.rest place.place (stops tokens (TooDeep left) stop) (stop ∙ ap (λ n. Some (TooDeep n)) left_is) place.whole place.many)
+        subst (λ span. IsCauseWithin budget g tokens (too_deep_at span)) (sym same)
+        (IsCauseWithin.too_deep place.front place.rest place.place (stops tokens (TooDeep left) stop) (stop ∙ ap (λ n. Some (TooDeep n)) left_is) place.whole place.many)
 
     -- a rejection that is not out of memory
-    stopped : (tokens : Tokens) (error : ParseError) → stop_of (read depth_limit g tokens) ≡ Some error → (refusal_of tokens error).kind ≢ Alloc → HasCause (IsParseCause g tokens)
+    stopped : (tokens : Tokens) (error : ParseError) → stop_of (read budget g tokens) ≡ Some error → (refusal_of tokens error).kind ≢ Alloc → HasCause (IsCauseWithin budget g tokens)
     stopped tokens error stop reported = record { error = refusal_of tokens error; is_told = reported; stands = stop_cause tokens error stop }
 
     -- the whole list has a value, or a cause, by the outcome of the program
-    decided_by : (tokens : Tokens) (outcome : Outcome A) → read depth_limit g tokens ≡ outcome → IsDecided g tokens
+    decided_by : (tokens : Tokens) (outcome : Outcome A) → read budget g tokens ≡ outcome → IsDecidedWithin budget g tokens
     decided_by tokens (Ok (x, [])) is = inl (x, whole_if_read tokens x is)
     decided_by tokens (Ok (x, t ∷ rest)) is = inr (stopped tokens (Syntax (length (t ∷ rest))) (ap stop_of is) (λ same. cc))
-    decided_by tokens (Err Memory) is = absurd (read_needs_none depth_limit g tokens is)
+    decided_by tokens (Err Memory) is = absurd (read_needs_none budget g tokens is)
     decided_by tokens (Err (Syntax left)) is = inr (stopped tokens (Syntax left) (ap stop_of is) (λ same. cc))
     decided_by tokens (Err (TooDeep left)) is = inr (stopped tokens (TooDeep left) (ap stop_of is) (λ same. cc))
 
     -- A whole list has a value, or there is a cause why it is rejected, which is not out of memory.
-    pub decided : (tokens : Tokens) → IsDecided g tokens
-    decided tokens = decided_by tokens (read depth_limit g tokens) refl
+    pub decided : (tokens : Tokens) → IsDecidedWithin budget g tokens
+    decided tokens = decided_by tokens (read budget g tokens) refl
 
 -- ---- unions
 
@@ -140,7 +140,7 @@ pub definition_decided : (tokens : Tokens) → ((d : DeriveInput) × IsDefinitio
 definition_decided tokens =
     elim (union_by tokens (read depth_limit head tokens) refl) [
       | inl union ↦ inr (record { error = union_of union.0; is_told = (λ same. cc); stands = IsRefusalOf.union union.0 union.1 })
-      | inr never ↦ elim (decided definition definition_again definition_ready tokens) [
+      | inr never ↦ elim (decided definition definition_again depth_limit definition_ready tokens) [
         | inl found ↦ by_names tokens found.0 found.1
         | inr cause ↦ inr (record { error = cause.error; is_told = cause.is_told; stands = IsRefusalOf.grammar never cause.stands })
       ]

@@ -1,5 +1,6 @@
 -- Where the program of a rule rejects what nests too deep, more openers count than the budget.
-use Rattle.std.proofs.Common.{◌≡◌, ℕ, zero, suc, ◌-◌, ◌<◌, ◌≤◌, Bool, true, ◌&&◌, List, [], ◌∷◌, ◌++◌, length, drop, refl, ap, sym, subst, ◌∙◌, ◌⊎◌, inl, inr, arith, if◌then◌else◌, Option, Some, None, Ok, Err}
+use Rattle.std.proofs.Common.{◌≡◌, ℕ, zero, suc, ◌-◌, ◌<◌, ◌≤◌, min, Bool, true, ◌&&◌, List, [], ◌∷◌, ◌++◌, length, drop, refl, ap, sym, subst, ◌∙◌, ◌⊎◌, inl, inr, arith, if◌then◌else◌, Option, Some, None, Ok, Err}
+use Rattle.std.proofs.Math.Nat.{min-le_left, min-le_right}
 use Rattle.std.proofs.Math.Seq.{drop-append_seam}
 use Rattle.educe_tokens.specs.declared.token.Token.{Token}
 use Rattle.educe_tokens.specs.Copied.{may_be_copied}
@@ -10,7 +11,6 @@ use Rattle.educe_grammar.specs.declared.terminal.Terminal.TheVariants.{Sign}
 use Rattle.educe_grammar.specs.Terminals.{set_of, accepts}
 use Rattle.educe_grammar.specs.Steps.{Tokens, Parser, and_then, expect, enter, since}
 use Rattle.educe_grammar.specs.Ahead.{Look, sees_any, sees, opens, closes, documents, begins_pair, begins_lone}
-use Rattle.educe_grammar.specs.Depth.{counted, up_to}
 use Rattle.educe_grammar.specs.Operators.{operator_at}
 use Rattle.educe_grammar.specs.Reading.{chain_limit}
 use Rattle.educe_grammar.specs.Running.{run, items, repeat, links, segments, binary_with, skip_if, written_if}
@@ -24,7 +24,7 @@ use Rattle.educe_grammar.proofs.Sound.{rule_sound, parts_sound}
 use Rattle.educe_grammar.proofs.Keeping.{plains_keep}
 use Rattle.educe_grammar.proofs.Balanced.{IsEven, even_kept, plain_even, even_below}
 use Rattle.educe_grammar.proofs.Failing.{failed, ok_fails, syntax_fails, place_same, made_fails, ended_fails, expect_fails, skip_fails, written_fails, enter_fails}
-use Rattle.educe_grammar.proofs.Counted.{DeepAt, DeepPlace, deep_after, deep_less, deep_open, deep_link, deep_here, deep_counts, deep_place}
+use Rattle.educe_grammar.proofs.Counted.{DeepAt, DeepPlace, deep_after, deep_less, deep_open, deep_link, deep_here, deep_place}
 use Rattle.educe_grammar.proofs.Opening.{opens_with, is_opening_look, begins_with_opener, is_ready, terminal_opens, punct_opens, start_opens, look_opens, rule_opens}
 
 -- ---- loops
@@ -112,18 +112,18 @@ module _ {A : Type 0} (p : Parser A) (left : ℕ) (P : Tokens → Type 0)
 -- ---- levels
 
 -- A level that fails behind its opener: it has no budget, or what stands inside fails.
-nested_deep : {B : Type 0} (budget left : ℕ) (t : Token) (mid ts rest : Tokens) (next : Parser B) → opening t ≡ true → IsEven mid → ts ≡ t ∷ mid ++ rest
-    → ((us : Tokens) → next us ≡ Err (TooDeep left) → DeepAt (budget - 1) left us) → and_then (enter budget (length ts) rest) (λ _. next) ≡ Err (TooDeep left) → DeepAt budget left ts
-nested_deep budget left t mid ts rest next opener even whole deep h =
+nested_deep : {B : Type 0} (budget depth left : ℕ) (t : Token) (mid ts rest : Tokens) (next : Parser B) → depth ≤ budget → opening t ≡ true → IsEven mid → ts ≡ t ∷ mid ++ rest
+    → ((us : Tokens) → next us ≡ Err (TooDeep left) → DeepAt (depth - 1) left us) → and_then (enter budget (length ts) rest) (λ _. next) ≡ Err (TooDeep left) → DeepAt depth left ts
+nested_deep budget depth left t mid ts rest next fits opener even whole deep h =
     elim (failed (enter budget (length ts) rest) (λ _. next) (TooDeep left) h) [
       | inl u ↦ (let e = enter_fails budget (length ts) left rest u in
           let here : DeepAt 0 (length ts) ts = subst (λ us. DeepAt 0 (length us) us) (sym whole) (deep_here t (mid ++ rest) opener) in
-          subst (λ d. DeepAt d left ts) (sym e.0) (subst (λ n. DeepAt 0 n ts) e.1 here))
+          let none : 0 ≡ depth = omega (arith, e.0, fits) in
+          subst (λ d. DeepAt d left ts) none (subst (λ n. DeepAt 0 n ts) e.1 here))
       | inr v ↦ (let e = entered budget (length ts) rest v.left v.value v.first in
-          let inside = subst (DeepAt (budget - 1) left) (sym e.1) (deep v.left v.second) in
-          let more : suc (budget - 1) ≡ budget = omega (arith, e.0) in
-          let level = deep_open (budget - 1) left t (mid ++ rest) opener (deep_after (budget - 1) left mid rest even inside) in
-          subst (λ us. DeepAt budget left us) (sym whole) (subst (λ d. DeepAt d left (t ∷ mid ++ rest)) more level))
+          let inside = subst (DeepAt (depth - 1) left) (sym e.1) (deep v.left v.second) in
+          let level = deep_open (depth - 1) left t (mid ++ rest) opener (deep_after (depth - 1) left mid rest even inside) in
+          subst (λ us. DeepAt depth left us) (sym whole) (deep_less depth (suc (depth - 1)) left (t ∷ mid ++ rest) (omega arith) level))
     ]
 
 -- an operator whose second operand fails
@@ -147,7 +147,15 @@ even_nil ts = refl
 
 -- ---- rules
 
-module _ (n : ℕ) (part_deep : (budget : ℕ) → budget ≤ chain_limit → (p : Part) (ts : Tokens) (left : ℕ) → readers_below n budget p ts ≡ Err (TooDeep left) → DeepAt budget left ts) where
+-- The depth is within the budget and within the limit of chains.
+abbrev Fits : ℕ → ℕ → Type 0
+Fits budget depth = (depth ≤ budget) × (depth ≤ chain_limit)
+
+-- inside of a level the depth fits with one less
+fits_inside : (budget depth : ℕ) → Fits budget depth → Fits (budget - 1) (depth - 1)
+fits_inside budget depth fits = (omega (arith, fits.0), omega (arith, fits.1))
+
+module _ (n : ℕ) (part_deep : (budget depth : ℕ) → Fits budget depth → (p : Part) (ts : Tokens) (left : ℕ) → readers_below n budget p ts ≡ Err (TooDeep left) → DeepAt depth left ts) where
   -- what holds behind what a rule reads holds in front of it
   rule_behind : {A : Type 0} (g : Rule A) (budget : ℕ) (ts rest : Tokens) (x : A) → run (readers_below n) budget g ts ≡ Ok (x, rest) → (k left : ℕ) → DeepAt k left rest → DeepAt k left ts
   rule_behind g budget ts rest x h k left deep =
@@ -167,105 +175,106 @@ module _ (n : ℕ) (part_deep : (budget : ℕ) → budget ≤ chain_limit → (p
   plain_behind : (k left : ℕ) (t : Token) (ts : Tokens) → is_plain t.kind ≡ true → DeepAt k left ts → DeepAt k left (t ∷ ts)
   plain_behind k left t ts is deep = deep_after k left (t ∷ []) ts (plain_even t is) deep
 
-  -- where the program of a rule rejects what nests too deep, more openers count than the budget, if so it is with the parts
-  pub rule_deep : {A : Type 0} (g : Rule A) → is_ready g ≡ true → (budget : ℕ) → budget ≤ chain_limit → (ts : Tokens) (left : ℕ) → run (readers_below n) budget g ts ≡ Err (TooDeep left) → DeepAt budget left ts
+  -- where the program of a rule rejects what nests too deep, more openers count than a depth that fits its budget, if so it is with
+  -- the parts
+  pub rule_deep : {A : Type 0} (g : Rule A) → is_ready g ≡ true → (budget depth : ℕ) → Fits budget depth → (ts : Tokens) (left : ℕ) → run (readers_below n) budget g ts ≡ Err (TooDeep left) → DeepAt depth left ts
   unfolding run is_ready
-  rule_deep (token asked) ready budget within ts left h = absurd (expect_fails (accepts asked) ts left h)
-  rule_deep documentation ready budget within ts left h = absurd (expect_fails documents ts left h)
-  rule_deep (empty x) ready budget within ts left h = absurd (ok_fails _ (TooDeep left) h)
-  rule_deep (both g k) ready budget within ts left h =
+  rule_deep (token asked) ready budget depth within ts left h = absurd (expect_fails (accepts asked) ts left h)
+  rule_deep documentation ready budget depth within ts left h = absurd (expect_fails documents ts left h)
+  rule_deep (empty x) ready budget depth within ts left h = absurd (ok_fails _ (TooDeep left) h)
+  rule_deep (both g k) ready budget depth within ts left h =
       let parts = both_hold (is_ready g) (is_ready k) ready in
       elim (failed (run (readers_below n) budget g ts) (λ x ts. and_then (run (readers_below n) budget k ts) (λ y ts. Ok ((x, y), ts))) (TooDeep left) h) [
-        | inl u ↦ rule_deep g parts.0 budget within ts left u
-        | inr v ↦ rule_behind g budget ts v.left v.value v.first budget left (rule_deep k parts.1 budget within v.left left (made_fails (run (readers_below n) budget k v.left) (λ y _. (v.value, y)) left v.second))
+        | inl u ↦ rule_deep g parts.0 budget depth within ts left u
+        | inr v ↦ rule_behind g budget ts v.left v.value v.first depth left (rule_deep k parts.1 budget depth within v.left left (made_fails (run (readers_below n) budget k v.left) (λ y _. (v.value, y)) left v.second))
       ]
-  rule_deep (made f g) ready budget within ts left h = rule_deep g ready budget within ts left (made_fails (run (readers_below n) budget g ts) (λ x _. f x) left h)
-  rule_deep {A} (checked test g) ready budget within ts left h =
+  rule_deep (made f g) ready budget depth within ts left h = rule_deep g ready budget depth within ts left (made_fails (run (readers_below n) budget g ts) (λ x _. f x) left h)
+  rule_deep {A} (checked test g) ready budget depth within ts left h =
       elim (failed (run (readers_below n) budget g ts) (λ x ts. if test x then Ok (x, ts) else Err (Syntax (length ts))) (TooDeep left) h) [
-        | inl u ↦ rule_deep g ready budget within ts left u
+        | inl u ↦ rule_deep g ready budget depth within ts left u
         | inr v ↦ elim (chose (test v.value) (Ok (v.value, v.left)) (Err (Syntax (length v.left))) (Err (TooDeep left)) v.second) [
           | inl w ↦ absurd (ok_fails _ (TooDeep left) w.1)
           | inr w ↦ absurd (syntax_fails {A = A} (length v.left) left w.1)
         ]
       ]
-  rule_deep (either look g k) ready budget within ts left h =
+  rule_deep (either look g k) ready budget depth within ts left h =
       elim (chose (sees_any look ts) (run (readers_below n) budget g ts) (run (readers_below n) budget k ts) (Err (TooDeep left)) h) [
-        | inl u ↦ rule_deep g (both_hold (is_ready g) (is_ready k) ready).0 budget within ts left u.1
-        | inr u ↦ rule_deep k (both_hold (is_ready g) (is_ready k) ready).1 budget within ts left u.1
+        | inl u ↦ rule_deep g (both_hold (is_ready g) (is_ready k) ready).0 budget depth within ts left u.1
+        | inr u ↦ rule_deep k (both_hold (is_ready g) (is_ready k) ready).1 budget depth within ts left u.1
       ]
-  rule_deep (prefer asked g k) ready budget within ts left h =
+  rule_deep (prefer asked g k) ready budget depth within ts left h =
       elim (chose (sees (accepts asked) ts) (run (readers_below n) budget g ts) (run (readers_below n) budget k ts) (Err (TooDeep left)) h) [
-        | inl u ↦ rule_deep g (both_hold (is_ready g) (is_ready k) ready).0 budget within ts left u.1
-        | inr u ↦ rule_deep k (both_hold (is_ready g) (is_ready k) ready).1 budget within ts left u.1
+        | inl u ↦ rule_deep g (both_hold (is_ready g) (is_ready k) ready).0 budget depth within ts left u.1
+        | inr u ↦ rule_deep k (both_hold (is_ready g) (is_ready k) ready).1 budget depth within ts left u.1
       ]
-  rule_deep (operator c d) ready budget within ts left h = absurd (skip_fails (begins_pair c d ts) 2 ts left h)
-  rule_deep (lone c d g) ready budget within ts left h =
+  rule_deep (operator c d) ready budget depth within ts left h = absurd (skip_fails (begins_pair c d ts) 2 ts left h)
+  rule_deep (lone c d g) ready budget depth within ts left h =
       elim (failed (skip_if (begins_lone c d ts) 1 ts) (λ _. run (readers_below n) budget g) (TooDeep left) h) [
         | inl u ↦ absurd (skip_fails (begins_lone c d ts) 1 ts left u)
         | inr v ↦ (let s = skipped (begins_lone c d ts) 1 ts v.left v.value v.first in
             let p = loned c d ts s.0 in
             let same : v.left ≡ p.behind = sym s.1 ∙ ap (drop 1) p.whole in
-            let deep = subst (DeepAt budget left) same (rule_deep g ready budget within v.left left v.second) in
-            subst (DeepAt budget left) (sym p.whole) (plain_behind budget left p.first p.behind (sign_plain c p.first.kind p.is) deep))
+            let deep = subst (DeepAt depth left) same (rule_deep g ready budget depth within v.left left v.second) in
+            subst (DeepAt depth left) (sym p.whole) (plain_behind depth left p.first p.behind (sign_plain c p.first.kind p.is) deep))
       ]
-  rule_deep (binary g) ready budget within ts left h =
-      operand_deep (run (readers_below n) budget g) budget left (operator_at ts) ts refl (λ us. rule_deep g ready budget within us left) h
-  rule_deep (nest b g) ready budget within ts left h =
+  rule_deep (binary g) ready budget depth within ts left h =
+      operand_deep (run (readers_below n) budget g) depth left (operator_at ts) ts refl (λ us. rule_deep g ready budget depth within us left) h
+  rule_deep (nest b g) ready budget depth within ts left h =
       elim (failed (expect (opens b) ts) (λ _ rest. and_then (enter budget (length ts) rest) (λ _. ended (closes b) (run (readers_below n) (budget - 1) g))) (TooDeep left) h) [
         | inl u ↦ absurd (expect_fails (opens b) ts left u)
-        | inr v ↦ nested_deep budget left v.value.token [] ts v.left (ended (closes b) (run (readers_below n) (budget - 1) g)) (start_opens b v.value.token v.value.passes) even_nil (expected (opens b) ts v.left v.value v.first)
-            (λ us e. rule_deep g ready (budget - 1) (omega arith) us left (ended_fails (run (readers_below n) (budget - 1) g us) (closes b) left e)) v.second
+        | inr v ↦ nested_deep budget depth left v.value.token [] ts v.left (ended (closes b) (run (readers_below n) (budget - 1) g)) within.0 (start_opens b v.value.token v.value.passes) even_nil (expected (opens b) ts v.left v.value v.first)
+            (λ us e. rule_deep g ready (budget - 1) (depth - 1) (fits_inside budget depth within) us left (ended_fails (run (readers_below n) (budget - 1) g us) (closes b) left e)) v.second
       ]
-  rule_deep (angles g) ready budget within ts left h =
+  rule_deep (angles g) ready budget depth within ts left h =
       elim (failed (skip_if (begins_lone 60 61 ts) 1 ts) (λ _ rest. and_then (enter budget (length ts) rest) (λ _. ended (accepts (Sign 62)) (run (readers_below n) (budget - 1) g))) (TooDeep left) h) [
         | inl u ↦ absurd (skip_fails (begins_lone 60 61 ts) 1 ts left u)
         | inr v ↦ (let s = skipped (begins_lone 60 61 ts) 1 ts v.left v.value v.first in
             let p = loned 60 61 ts s.0 in
             let whole : ts ≡ p.first ∷ v.left = p.whole ∙ ap (λ us. p.first ∷ us) (sym (ap (drop 1) p.whole) ∙ s.1) in
-            nested_deep budget left p.first [] ts v.left (ended (accepts (Sign 62)) (run (readers_below n) (budget - 1) g)) (punct_opens 60 p.first refl p.is) even_nil whole
-            (λ us e. rule_deep g ready (budget - 1) (omega arith) us left (ended_fails (run (readers_below n) (budget - 1) g us) (accepts (Sign 62)) left e)) v.second)
+            nested_deep budget depth left p.first [] ts v.left (ended (accepts (Sign 62)) (run (readers_below n) (budget - 1) g)) within.0 (punct_opens 60 p.first refl p.is) even_nil whole
+            (λ us e. rule_deep g ready (budget - 1) (depth - 1) (fits_inside budget depth within) us left (ended_fails (run (readers_below n) (budget - 1) g us) (accepts (Sign 62)) left e)) v.second)
       ]
-  rule_deep (under asked g) ready budget within ts left h =
+  rule_deep (under asked g) ready budget depth within ts left h =
       let parts = both_hold (opens_with asked) (is_ready g) ready in
       elim (failed (expect (accepts asked) ts) (λ _ rest. and_then (enter budget (length ts) rest) (λ _. run (readers_below n) (budget - 1) g)) (TooDeep left) h) [
         | inl u ↦ absurd (expect_fails (accepts asked) ts left u)
-        | inr v ↦ nested_deep budget left v.value.token [] ts v.left (run (readers_below n) (budget - 1) g) (terminal_opens asked v.value.token parts.0 v.value.passes) even_nil (expected (accepts asked) ts v.left v.value v.first)
-            (λ us e. rule_deep g parts.1 (budget - 1) (omega arith) us left e) v.second
+        | inr v ↦ nested_deep budget depth left v.value.token [] ts v.left (run (readers_below n) (budget - 1) g) within.0 (terminal_opens asked v.value.token parts.0 v.value.passes) even_nil (expected (accepts asked) ts v.left v.value v.first)
+            (λ us e. rule_deep g parts.1 (budget - 1) (depth - 1) (fits_inside budget depth within) us left e) v.second
       ]
-  rule_deep (arrow g) ready budget within ts left h =
+  rule_deep (arrow g) ready budget depth within ts left h =
       elim (failed (skip_if (begins_pair 45 62 ts) 2 ts) (λ _ rest. and_then (enter budget (length ts) rest) (λ _. run (readers_below n) (budget - 1) g)) (TooDeep left) h) [
         | inl u ↦ absurd (skip_fails (begins_pair 45 62 ts) 2 ts left u)
         | inr v ↦ (let s = skipped (begins_pair 45 62 ts) 2 ts v.left v.value v.first in
             let p = paired 45 62 ts s.0 in
             let whole : ts ≡ p.first ∷ p.second ∷ v.left = p.whole ∙ ap (λ us. p.first ∷ p.second ∷ us) (sym (ap (drop 2) p.whole) ∙ s.1) in
             let even = plain_even p.second (sign_plain 62 p.second.kind p.follows) in
-            nested_deep budget left p.first (p.second ∷ []) ts v.left (run (readers_below n) (budget - 1) g) (punct_opens 45 p.first refl (joint_sign 45 p.first.kind p.joins)) even whole
-            (λ us e. rule_deep g ready (budget - 1) (omega arith) us left e) v.second)
+            nested_deep budget depth left p.first (p.second ∷ []) ts v.left (run (readers_below n) (budget - 1) g) within.0 (punct_opens 45 p.first refl (joint_sign 45 p.first.kind p.joins)) even whole
+            (λ us e. rule_deep g ready (budget - 1) (depth - 1) (fits_inside budget depth within) us left e) v.second)
       ]
-  rule_deep (list separator stop g) ready budget within ts left h =
-      items_fail (run (readers_below n) budget g) left (DeepAt budget left) (λ us. rule_deep g ready budget within us left) (λ us rest x e. rule_behind g budget us rest x e budget left)
-      (plain_behind budget left) (accepts separator) (accepted_token separator) stop (suc (length ts)) [] ts h
-  rule_deep (many look g) ready budget within ts left h =
-      repeat_fails (run (readers_below n) budget g) left (DeepAt budget left) (λ us. rule_deep g ready budget within us left) (λ us rest x e. rule_behind g budget us rest x e budget left)
-      (plain_behind budget left) look (suc (length ts)) [] ts h
-  rule_deep (chain look g) ready budget within ts left h =
+  rule_deep (list separator stop g) ready budget depth within ts left h =
+      items_fail (run (readers_below n) budget g) left (DeepAt depth left) (λ us. rule_deep g ready budget depth within us left) (λ us rest x e. rule_behind g budget us rest x e depth left)
+      (plain_behind depth left) (accepts separator) (accepted_token separator) stop (suc (length ts)) [] ts h
+  rule_deep (many look g) ready budget depth within ts left h =
+      repeat_fails (run (readers_below n) budget g) left (DeepAt depth left) (λ us. rule_deep g ready budget depth within us left) (λ us rest x e. rule_behind g budget us rest x e depth left)
+      (plain_behind depth left) look (suc (length ts)) [] ts h
+  rule_deep (chain look g) ready budget depth within ts left h =
       let parts = both_hold (is_opening_look look) (begins_with_opener g && is_ready g) ready in
       let link = both_hold (begins_with_opener g) (is_ready g) parts.1 in
-      elim (links_fail (run (readers_below n) budget g) left (DeepAt budget left) (λ us. rule_deep g link.1 budget within us left) (λ us rest x e. rule_behind g budget us rest x e budget left)
-      (plain_behind budget left) look parts.0 (rule_counts g budget link.0 left) chain_limit [] ts h) [
-        | inl deep ↦ deep_less budget chain_limit left ts within deep
+      elim (links_fail (run (readers_below n) budget g) left (DeepAt depth left) (λ us. rule_deep g link.1 budget depth within us left) (λ us rest x e. rule_behind g budget us rest x e depth left)
+      (plain_behind depth left) look parts.0 (rule_counts g budget link.0 left) chain_limit [] ts h) [
+        | inl deep ↦ deep_less depth chain_limit left ts within.1 deep
         | inr deep ↦ deep
       ]
-  rule_deep (path g) ready budget within ts left h =
-      segments_fail (run (readers_below n) budget g) left (DeepAt budget left) (λ us. rule_deep g ready budget within us left) (λ us rest x e. rule_behind g budget us rest x e budget left)
-      (plain_behind budget left) (suc (length ts)) [] ts h
-  rule_deep (sliced g) ready budget within ts left h = rule_deep g ready budget within ts left (made_fails (run (readers_below n) budget g ts) (λ x rest. (x, since ts rest)) left h)
-  rule_deep (written g) ready budget within ts left h =
+  rule_deep (path g) ready budget depth within ts left h =
+      segments_fail (run (readers_below n) budget g) left (DeepAt depth left) (λ us. rule_deep g ready budget depth within us left) (λ us rest x e. rule_behind g budget us rest x e depth left)
+      (plain_behind depth left) (suc (length ts)) [] ts h
+  rule_deep (sliced g) ready budget depth within ts left h = rule_deep g ready budget depth within ts left (made_fails (run (readers_below n) budget g ts) (λ x rest. (x, since ts rest)) left h)
+  rule_deep (written g) ready budget depth within ts left h =
       elim (failed (run (readers_below n) budget g ts) (λ x rest. written_if x (since ts rest) rest (may_be_copied (lexemes (since ts rest))) refl) (TooDeep left) h) [
-        | inl u ↦ rule_deep g ready budget within ts left u
+        | inl u ↦ rule_deep g ready budget depth within ts left u
         | inr v ↦ absurd (written_fails v.value (since ts v.left) v.left (may_be_copied (lexemes (since ts v.left))) refl left v.second)
       ]
-  rule_deep (part p) ready budget within ts left h = part_deep budget within p ts left h
+  rule_deep (part p) ready budget depth within ts left h = part_deep budget depth within p ts left h
 
 -- each part is ready
 part_ready : (p : Part) → is_ready (rule_of p) ≡ true
@@ -275,20 +284,21 @@ part_ready plains = refl
 part_ready exprs = refl
 part_ready trees = refl
 
--- where a part rejects what nests too deep, more openers count than the budget
-pub parts_deep : (n budget : ℕ) → budget ≤ chain_limit → (p : Part) (ts : Tokens) (left : ℕ) → readers_below n budget p ts ≡ Err (TooDeep left) → DeepAt budget left ts
+-- where a part rejects what nests too deep, more openers count than a depth that fits its budget
+pub parts_deep : (n budget depth : ℕ) → Fits budget depth → (p : Part) (ts : Tokens) (left : ℕ) → readers_below n budget p ts ≡ Err (TooDeep left) → DeepAt depth left ts
 unfolding readers_below
-parts_deep zero budget within p ts left h = absurd (syntax_fails {A = TreeOf p} (length ts) left h)
-parts_deep (suc n) budget within p ts left h = rule_deep n (parts_deep n) (rule_of p) (part_ready p) budget within ts left h
+parts_deep zero budget depth within p ts left h = absurd (syntax_fails {A = TreeOf p} (length ts) left h)
+parts_deep (suc n) budget depth within p ts left h = rule_deep n (parts_deep n) (rule_of p) (part_ready p) budget depth within ts left h
+
+-- the lesser of the budget and the limit fits it
+lesser_fits : (budget : ℕ) → Fits budget (min budget chain_limit)
+lesser_fits budget = (min-le_left budget chain_limit, min-le_right budget chain_limit)
 
 -- where a rule does
-pub reads_deep : {A : Type 0} (budget : ℕ) (g : Rule A) → is_ready g ≡ true → budget ≤ chain_limit → (ts : Tokens) (left : ℕ) → read budget g ts ≡ Err (TooDeep left) → DeepAt budget left ts
-reads_deep budget g ready within ts left h = rule_deep (suc budget) (parts_deep (suc budget)) g ready budget within ts left (sym (read_below budget g ts) ∙ h)
+pub reads_deep : {A : Type 0} (budget : ℕ) (g : Rule A) → is_ready g ≡ true → (ts : Tokens) (left : ℕ) → read budget g ts ≡ Err (TooDeep left) → DeepAt (min budget chain_limit) left ts
+reads_deep budget g ready ts left h =
+    rule_deep (suc budget) (parts_deep (suc budget)) g ready budget (min budget chain_limit) (lesser_fits budget) ts left (sym (read_below budget g ts) ∙ h)
 
--- more openers count there
-pub read_counts : {A : Type 0} (budget : ℕ) (g : Rule A) → is_ready g ≡ true → budget ≤ chain_limit → (ts : Tokens) (left : ℕ) → read budget g ts ≡ Err (TooDeep left) → budget < counted (up_to left ts)
-read_counts budget g ready within ts left h = deep_counts budget left ts (reads_deep budget g ready within ts left h)
-
--- the place is a token's
-pub read_place : {A : Type 0} (budget : ℕ) (g : Rule A) → is_ready g ≡ true → budget ≤ chain_limit → (ts : Tokens) (left : ℕ) → read budget g ts ≡ Err (TooDeep left) → DeepPlace budget left ts
-read_place budget g ready within ts left h = deep_place budget left ts (reads_deep budget g ready within ts left h)
+-- The place is a token's, and more openers count there than the lesser of the budget and the limit.
+pub read_place : {A : Type 0} (budget : ℕ) (g : Rule A) → is_ready g ≡ true → (ts : Tokens) (left : ℕ) → read budget g ts ≡ Err (TooDeep left) → DeepPlace (min budget chain_limit) left ts
+read_place budget g ready ts left h = deep_place (min budget chain_limit) left ts (reads_deep budget g ready ts left h)

@@ -43,4 +43,4 @@ ends_behind ending ts h = ends_name ending ts (all_apart_sound behind_type (goin
 -- what stands behind an expression
 abbrev pub behind_expression : Look
 behind_expression =
-    (one (Sign 44) ∷ []) ∷ (stop Round ∷ []) ∷ (stop Square ∷ []) ∷ (stop Curly ∷ []) ∷ (pair 46 46 ∷ []) ∷ (finish ∷ []) ∷ []
+    (one (Sign 44) ∷ []) ∷ (one (Sign 59) ∷ []) ∷ (stop Round ∷ []) ∷ (stop Square ∷ []) ∷ (stop Curly ∷ []) ∷ (pair 46 46 ∷ []) ∷ (finish ∷ []) ∷ []

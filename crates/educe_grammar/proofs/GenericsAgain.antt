@@ -2,13 +2,13 @@
 use Rattle.std.proofs.Common.{◌≡◌, ℕ, ◌-◌, ◌<◌, ◌≤◌, true, false, [], ◌∷◌, ◌++◌, refl, arith}
 use Rattle.educe_grammar.specs.declared.terminal.Keyword.TheVariants as keyword
 use Rattle.educe_grammar.specs.declared.terminal.Terminal.TheVariants as terminal
-use Rattle.educe_grammar.specs.Ahead.{one, Look, sees_any}
+use Rattle.educe_grammar.specs.Ahead.{one, finish, Look, sees_any}
 use Rattle.educe_grammar.specs.Rules.{types, part}
 use Rattle.educe_grammar.specs.Reading.{Parts}
 use Rattle.educe_grammar.specs.Running.{Readers}
-use Rattle.educe_grammar.specs.Combining.{at_sign, at_word, at_colon, at_angle, skipping, sign, flag, behind_colon, in_angles}
+use Rattle.educe_grammar.specs.Combining.{at, at_sign, at_word, at_colon, at_angle, skipping, sign, flag, behind_colon, in_angles}
 use Rattle.educe_grammar.specs.Types.{behind_type, for_all, bounds}
-use Rattle.educe_grammar.specs.Generics.{lifetime_param, type_param, const_param, generic_param, generic_params, lifetime_predicate, bounded_type, type_predicate, predicate, behind_where, predicates, where_clause}
+use Rattle.educe_grammar.specs.Generics.{lifetime_param, type_param, const_param, generic_param, generic_params, params, lifetime_predicate, bounded_type, type_predicate, predicate, behind_where, predicates, where_clause}
 use Rattle.educe_grammar.proofs.Apart.{all_apart, all_within, all_apart_sound, all_within_sound}
 use Rattle.educe_grammar.proofs.Computed.{computed, more_computed}
 use Rattle.educe_grammar.proofs.Again.{Again, again_weaker, again_both, again_made, again_written, again_empty, again_lone, again_angles, again_prefer, again_either}
@@ -18,9 +18,13 @@ use Rattle.educe_grammar.proofs.PartFronts.{part_fronts}
 use Rattle.educe_grammar.proofs.Known.{firsts, behind_empty, Known, inside, begins, begins_before, not_empty, again_choice_before, again_then_before, again_skip, again_before}
 use Rattle.educe_grammar.proofs.TypesAgain.{again_bounds}
 
+-- what stands behind parameters
+abbrev behind_params : Look
+behind_params = (one (terminal.Sign 62) ∷ []) ∷ at finish
+
 -- what stands behind a parameter
 abbrev behind_param : Look
-behind_param = behind_item (terminal.Sign 44) (at_sign 62)
+behind_param = behind_item (terminal.Sign 44) behind_params
 
 -- what stands before the default of a parameter
 abbrev before_default : Look
@@ -52,10 +56,17 @@ module _ {readers : Readers} {parts : Parts} {limit : ℕ} (known : Known reader
       (λ x rest s. all_within_sound (firsts (flag (at_sign 61) (skipping (sign 61) (part types))) behind_param) before_default rest refl s))
 
   -- a parameter
-  again_generic_param : Again readers parts budget generic_param (Seen behind_param)
+  pub again_generic_param : Again readers parts budget generic_param (Seen behind_param)
   unfolding computed more_computed
   again_generic_param = again_choice_before known behind_param budget refl refl (inside known lifetime_param behind_param budget room refl)
       (again_choice_before known behind_param budget refl refl (inside known const_param behind_param budget room refl) again_type_param)
+
+  -- parameters up to the end of the tokens
+  pub again_params : Again readers parts budget params (Seen (at finish))
+  unfolding computed more_computed
+  again_params = again_list readers parts budget
+      (again_weaker readers parts budget again_generic_param (λ front rest x p s. all_within_sound (behind_item (terminal.Sign 44) (at finish)) behind_param rest refl s))
+      (list_fits 2 (part_fronts 2) readers parts limit known.reads known.begins generic_param budget (terminal.Sign 44) (at finish) (at finish) refl refl refl)
 
   -- a predicate of a type
   again_bounded_type : Again readers parts budget bounded_type (Seen behind_predicate)
@@ -72,7 +83,7 @@ module _ {readers : Readers} {parts : Parts} {limit : ℕ} (known : Known reader
       (not_empty known bounded_type budget refl)
 
   -- a predicate
-  again_predicate : Again readers parts budget predicate (Seen behind_predicate)
+  pub again_predicate : Again readers parts budget predicate (Seen behind_predicate)
   unfolding computed more_computed
   again_predicate = again_made readers parts budget (again_written readers parts budget {G = Seen behind_predicate}
       (again_choice_before known behind_predicate budget refl refl (inside known lifetime_predicate behind_predicate budget room refl) again_type_predicate)
@@ -97,7 +108,9 @@ module _ {readers : Readers} {parts : Parts} {limit : ℕ} (known : Known reader
   unfolding computed more_computed
   again_generic_params budget room = again_either readers parts budget
       (again_angles readers parts budget
-      (λ some. again_list readers parts (budget - 1) (again_generic_param known (budget - 1) (omega arith))
+      (λ some. again_list readers parts (budget - 1)
+      (again_weaker readers parts (budget - 1) (again_generic_param known (budget - 1) (omega arith))
+      (λ front rest x p s. all_within_sound (behind_item (terminal.Sign 44) (at_sign 62)) behind_param rest refl s))
       (list_fits 2 (part_fronts 2) readers parts limit known.reads known.begins generic_param (budget - 1) (terminal.Sign 44) (at_sign 62) (at_sign 62) refl refl refl))
       (λ front rest x last p c. one_seen (terminal.Sign 62) last rest c))
       (again_empty readers parts budget [])

@@ -1,12 +1,13 @@
 -- What the grammar has, its programs read; and a list of tokens is one tree at most.
 use Rattle.std.proofs.Common.{◌≡◌, ℕ, suc, [], refl, ap, sym, ◌∙◌, Ok, Err, arith}
 use Rattle.educe_grammar.specs.Steps.{Tokens, Outcome}
-use Rattle.educe_grammar.specs.Ahead.{begins_pair, sees, at_end, finish, sees_any}
+use Rattle.educe_grammar.specs.Ahead.{begins_pair, begins_lone, sees, at_end, finish, sees_any}
 use Rattle.educe_grammar.specs.Rules.{Rule}
 use Rattle.educe_grammar.specs.Combining.{at}
 use Rattle.educe_grammar.specs.Names.{name}
+use Rattle.educe_grammar.specs.Types.{any_type}
 use Rattle.educe_grammar.specs.Expressions.{expr_path, expression}
-use Rattle.educe_grammar.specs.Generics.{predicates}
+use Rattle.educe_grammar.specs.Generics.{generic_param, params, predicate, predicates}
 use Rattle.educe_grammar.specs.Attributes.{metas}
 use Rattle.educe_grammar.specs.Definitions.{definition}
 use Rattle.educe_grammar.specs.Reads.{Reads, read}
@@ -14,9 +15,10 @@ use Rattle.educe_grammar.proofs.Computed.{computed, more_computed}
 use Rattle.educe_grammar.proofs.Deciding.{finish_seen}
 use Rattle.educe_grammar.proofs.Known.{always, inside}
 use Rattle.educe_grammar.proofs.Knot.{known, read_whole}
+use Rattle.educe_grammar.proofs.TypesAgain.{again_any_type}
 use Rattle.educe_grammar.proofs.OperandsAgain.{again_expr_path}
 use Rattle.educe_grammar.proofs.ExpressionsAgain.{again_expression}
-use Rattle.educe_grammar.proofs.GenericsAgain.{again_predicates}
+use Rattle.educe_grammar.proofs.GenericsAgain.{again_generic_param, again_params, again_predicate, again_predicates}
 use Rattle.educe_grammar.proofs.DefinitionsAgain.{again_definition}
 use Rattle.educe_grammar.proofs.ScopeApart.{no_scope}
 
@@ -33,6 +35,11 @@ pub name_again : ReadsAgain name
 unfolding computed
 name_again budget tokens x h = read_whole name budget (always (known budget) name budget (omega arith) refl) tokens x h tt
 
+-- a type
+pub any_type_again : ReadsAgain any_type
+unfolding sees_any sees begins_pair begins_lone at_end
+any_type_again budget tokens x h = read_whole any_type budget (again_any_type (known budget) budget (omega arith)) tokens x h refl
+
 -- a path of an expression
 pub expr_path_again : ReadsAgain expr_path
 unfolding sees_any begins_pair
@@ -47,6 +54,20 @@ expression_again budget tokens x h = read_whole expression budget (again_express
 pub metas_again : ReadsAgain metas
 unfolding computed more_computed
 metas_again budget tokens x h = read_whole metas budget (inside (known (suc budget)) metas (at finish) budget (omega arith) refl) tokens x h finish_seen
+
+-- a generic parameter
+pub generic_param_again : ReadsAgain generic_param
+unfolding sees_any sees at_end
+generic_param_again budget tokens x h = read_whole generic_param budget (again_generic_param (known (suc budget)) budget (omega arith)) tokens x h refl
+
+-- the generic parameters of a header
+pub params_again : ReadsAgain params
+params_again budget tokens x h = read_whole params budget (again_params (known (suc budget)) budget (omega arith)) tokens x h finish_seen
+
+-- a predicate of a where-clause
+pub predicate_again : ReadsAgain predicate
+unfolding sees_any sees at_end
+predicate_again budget tokens x h = read_whole predicate budget (again_predicate (known (suc budget)) budget (omega arith)) tokens x h refl
 
 -- the predicates of a where-clause
 pub predicates_again : ReadsAgain predicates

@@ -3,7 +3,7 @@ use Rattle.std.proofs.Common.{◌≡◌, true, refl}
 use Rattle.educe_grammar.specs.Names.{name}
 use Rattle.educe_grammar.specs.Types.{any_type, plain_type, type_path}
 use Rattle.educe_grammar.specs.Expressions.{expression, tree, expr_path}
-use Rattle.educe_grammar.specs.Generics.{predicate, predicates}
+use Rattle.educe_grammar.specs.Generics.{params, predicate, predicates}
 use Rattle.educe_grammar.specs.Attributes.{meta, metas}
 use Rattle.educe_grammar.specs.Definitions.{definition}
 use Rattle.educe_grammar.proofs.Keeping.{has_no_documentation, writes_no_documentation}
@@ -46,6 +46,11 @@ tree_ready = refl
 pub expr_path_ready : is_ready expr_path ≡ true
 unfolding is_ready begins_with_opener productions
 expr_path_ready = refl
+
+-- List(Param)
+pub params_ready : is_ready params ≡ true
+unfolding is_ready begins_with_opener productions
+params_ready = refl
 
 -- Predicate
 pub predicate_ready : is_ready predicate ≡ true

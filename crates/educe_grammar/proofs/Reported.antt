@@ -9,7 +9,7 @@ use Rattle.educe_tree.specs.declared.derive.DeriveInput.{DeriveInput}
 use Rattle.educe_grammar.specs.Steps.{Tokens}
 use Rattle.educe_grammar.specs.Rules.{Rule}
 use Rattle.educe_grammar.specs.Definitions.{definition}
-use Rattle.educe_grammar.specs.Parsed.{IsWhole, IsParseCause, place_at}
+use Rattle.educe_grammar.specs.Parsed.{depth_limit, IsWhole, IsCauseWithin, place_at}
 use Rattle.educe_grammar.specs.Naming.{Named, scopes, IsRepeatedIn}
 use Rattle.educe_grammar.specs.Refusal.{IsRefusalOf}
 use Rattle.educe_grammar.specs.Placed.{HasPlace, IsPlace}
@@ -42,16 +42,16 @@ repeated_placed tokens found again whole twice =
     all_at (λ (n : Named). HasPlace tokens n.span) (r.before ++ r.first ∷ r.between) r.after again (subst (AllByRecursion (λ (n : Named). HasPlace tokens n.span)) split names)
 
 -- A cause of the grammar reports its place, and no words.
-pub cause_reported : {A : Type 0} (g : Rule A) (tokens : Tokens) (e : EduceError) → IsParseCause g tokens e → IsReported tokens e
-cause_reported g tokens e (IsParseCause.syntax left never stop) = record { words = refl; place = inl (place_at_placed tokens left) }
-cause_reported g tokens e (IsParseCause.too_deep front rest t never stop is many) =
+pub cause_reported : {A : Type 0} (budget : ℕ) (g : Rule A) (tokens : Tokens) (e : EduceError) → IsCauseWithin budget g tokens e → IsReported tokens e
+cause_reported budget g tokens e (IsCauseWithin.syntax left never stop) = record { words = refl; place = inl (place_at_placed tokens left) }
+cause_reported budget g tokens e (IsCauseWithin.too_deep front rest t never stop is many) =
     record { words = refl; place = inl (inl (record { front = front; found = t; rest = rest; is = is; at_place = refl })) }
-cause_reported g tokens e IsParseCause.memory = record { words = refl; place = inr refl }
+cause_reported budget g tokens e IsCauseWithin.memory = record { words = refl; place = inr refl }
 
 -- a cause of the rejection of a definition has its place and the words that its message cites
 pub refusal_reported : (tokens : Tokens) (e : EduceError) → IsRefusalOf tokens e → IsReported tokens e
 refusal_reported tokens e (IsRefusalOf.union word is) =
     record { words = refl; place = inl (inl (record { front = is.front; found = word; rest = is.rest; is = is.is; at_place = refl })) }
-refusal_reported tokens e (IsRefusalOf.grammar never cause) = cause_reported definition tokens e cause
+refusal_reported tokens e (IsRefusalOf.grammar never cause) = cause_reported depth_limit definition tokens e cause
 refusal_reported tokens e IsRefusalOf.memory = record { words = refl; place = inr refl }
 refusal_reported tokens e (IsRefusalOf.repeated found again whole twice) = record { words = refl; place = inl (inl (repeated_placed tokens found again whole twice)) }

@@ -1,6 +1,6 @@
 -- The tokens that open a level of nesting, and how many of them count at a place: each level of nesting, and each link
 -- of a chain, takes one.
-use Rattle.std.specs.Prelude.{ℕ, ◌+◌, ◌-◌, ◌==◌, Bool, true, false, ◌&&◌, ◌||◌, if◌then◌else◌, List, [], ◌∷◌, length, take, codes}
+use Rattle.std.specs.Prelude.{ℕ, ◌+◌, ◌-◌, ◌==◌, Bool, true, false, ◌&&◌, ◌||◌, if◌then◌else◌, List, [], ◌∷◌, codes}
 use Rattle.std.specs.List.{list_any}
 use Rattle.std.specs.Str.{bytes_eq}
 use Rattle.educe_tokens.specs.TokenKind.{TokenKind}
@@ -41,8 +41,3 @@ closed (t ∷ ts) = pending t.kind (closed ts)
 unfoldable pub counted : Tokens → ℕ
 counted [] = 0
 counted (t ∷ ts) = counted ts + (if is_opener t.kind t.spelling && (closed (t ∷ ts) == 0) then 1 else 0)
-
--- The tokens up to and including the one at which this many are left. Where that one is an opener, it closes no bracket
--- pair.
-abbrev pub up_to : ℕ → Tokens → Tokens
-up_to left ts = take (length ts + 1 - left) ts

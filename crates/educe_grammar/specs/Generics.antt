@@ -67,6 +67,10 @@ generic_param =
 unfoldable pub generic_params : Rule (List GenericParam)
 generic_params = either at_angle (in_angles generic_param) (empty [])
 
+-- Rule for the generic parameters of a header, without its angle brackets, up to the end of the tokens.
+unfoldable pub params : Rule (List GenericParam)
+params = commas (at finish) generic_param
+
 -- ---- where-clauses
 
 -- The predicate of what was read and its tokens.

@@ -1,5 +1,5 @@
 -- The results of parsing a whole list of tokens by a rule.
-use Rattle.std.specs.Prelude.{◌≡◌, ℕ, ◌-◌, ◌<◌, [], ◌∷◌, ◌++◌, length, slice_get, Option, Some, None, Result, Ok, Err}
+use Rattle.std.specs.Prelude.{◌≡◌, ℕ, ◌-◌, ◌<◌, min, [], ◌∷◌, ◌++◌, length, slice_get, Option, Some, None, Result, Ok, Err}
 use Rattle.educe_tokens.specs.declared.brackets.TheConstants.{NESTING}
 use Rattle.educe_tokens.specs.declared.span.Span.{Span}
 use Rattle.educe_tokens.specs.declared.token.Token.{Token}
@@ -21,9 +21,9 @@ depth_limit = NESTING
 abbrev pub IsWhole : {A : Type 0} → Rule A → Tokens → A → Type 0
 IsWhole g tokens x = Reads depth_limit g tokens x
 
--- The whole list has no value by the rule, within the limits.
-abbrev pub HasNoReading : {A : Type 0} → Rule A → Tokens → Type 0
-HasNoReading {A = A} g tokens = (x : A) → IsWhole g tokens x → ⊥
+-- The whole list has no value by the rule, with this budget.
+abbrev pub HasNoReading : {A : Type 0} → ℕ → Rule A → Tokens → Type 0
+HasNoReading {A = A} budget g tokens = (x : A) → Reads budget g tokens x → ⊥
 
 -- ---- places
 
@@ -61,14 +61,23 @@ refusal_of tokens Memory = placeless Alloc
 refusal_of tokens (SyntaxAt left) = syntax_at (place_at tokens left)
 refusal_of tokens (TooDeepAt left) = too_deep_at (place_at tokens left)
 
--- The causes of rejection of a whole list: it has no reading within the limits; or it has none, and at the place, a
--- token, more openers count than the limit allows. The place is where the parser stops. Out of memory may end any call.
-pub data IsParseCause {A : Type 0} (g : Rule A) (tokens : Tokens) : EduceError → Type 0 where
-  syntax : (left : ℕ) → HasNoReading g tokens → stop_of (read depth_limit g tokens) ≡ Some (SyntaxAt left)
-      → IsParseCause g tokens (record { kind = Syntax; span = place_at tokens left; words = [] })
-  too_deep : (front rest : Tokens) (t : Token) → HasNoReading g tokens → stop_of (read depth_limit g tokens) ≡ Some (TooDeepAt (length (t ∷ rest)))
-      → tokens ≡ front ++ t ∷ rest → depth_limit < counted (front ++ t ∷ []) → IsParseCause g tokens (record { kind = TooDeep; span = t.span; words = [] })
-  memory : IsParseCause g tokens (placeless Alloc)
+-- How many openers may count where a list is read with this budget: no more than the budget, and no more than the limit,
+-- which holds for the links of a chain whatever the budget.
+abbrev pub depth_within : ℕ → ℕ
+depth_within budget = min budget depth_limit
+
+-- The causes of rejection of a whole list with this budget: it has no reading; or it has none, and at the place, a token,
+-- more openers count than may. The place is where the parser stops. Out of memory may end any call.
+pub data IsCauseWithin {A : Type 0} (budget : ℕ) (g : Rule A) (tokens : Tokens) : EduceError → Type 0 where
+  syntax : (left : ℕ) → HasNoReading budget g tokens → stop_of (read budget g tokens) ≡ Some (SyntaxAt left)
+      → IsCauseWithin budget g tokens (record { kind = Syntax; span = place_at tokens left; words = [] })
+  too_deep : (front rest : Tokens) (t : Token) → HasNoReading budget g tokens → stop_of (read budget g tokens) ≡ Some (TooDeepAt (length (t ∷ rest)))
+      → tokens ≡ front ++ t ∷ rest → depth_within budget < counted (front ++ t ∷ []) → IsCauseWithin budget g tokens (record { kind = TooDeep; span = t.span; words = [] })
+  memory : IsCauseWithin budget g tokens (placeless Alloc)
+
+-- The causes of rejection of a whole list, within the limits.
+abbrev pub IsParseCause : {A : Type 0} → Rule A → Tokens → EduceError → Type 0
+IsParseCause g tokens = IsCauseWithin depth_limit g tokens
 
 -- The result is this value or out of memory.
 abbrev pub IsOnly : {A : Type 0} → A → Result A EduceError → Type 0

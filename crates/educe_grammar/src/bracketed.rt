@@ -102,7 +102,8 @@ pub fn in_round<C: Context, P: Production<C>>(
     budget: u8,
 ) -> Result<Seq<P::Tree>, ParseError>
     requires { (below : ℕ) → below + 1 ≡ budget → P.ready context.now below }
-    ensures { Gives (spec.nested bracket.Round budget (comma_items (at (stop bracket.Round)) (P.reads (budget - 1))) input.old) result input.new }
+    ensures { Gives (spec.nested bracket.Round budget
+        (comma_items (at (stop bracket.Round)) (P.reads (budget - 1))) input.old) result input.new }
 {
     in_brackets::<C, P, RoundEnd>(context, input, budget, Bracket::Round)
 }
@@ -114,7 +115,8 @@ pub fn in_curly<C: Context, P: Production<C>>(
     budget: u8,
 ) -> Result<Seq<P::Tree>, ParseError>
     requires { (below : ℕ) → below + 1 ≡ budget → P.ready context.now below }
-    ensures { Gives (spec.nested bracket.Curly budget (comma_items (at (stop bracket.Curly)) (P.reads (budget - 1))) input.old) result input.new }
+    ensures { Gives (spec.nested bracket.Curly budget
+        (comma_items (at (stop bracket.Curly)) (P.reads (budget - 1))) input.old) result input.new }
 {
     in_brackets::<C, P, CurlyEnd>(context, input, budget, Bracket::Curly)
 }

@@ -6,7 +6,7 @@ use Rattle.educe_body_forms.specs.declared.body.Body.{Body}
 use Rattle.educe_body_items.specs.declared.items.Function.{Function}
 use Rattle.educe_body_items.specs.declared.items.ImplItem.{ImplItem}
 use Rattle.educe_body_items.specs.declared.items.Item.{Item}
-use Rattle.educe_laws.specs.Blocks.{IsFunction, IsImpl, IsImplBlock}
+use Rattle.educe_meaning.specs.Blocks.{IsFunction, IsImpl, IsImplBlock}
 
 -- the one function with this body, where the body is as it is to be
 pub function_with : (name : List ℕ) (IsRight : Body → Type 0) (body : Body) (functions : List Function) → IsFunction name (λ own. own ≡ body) functions → IsRight body

@@ -5,10 +5,10 @@ use Rattle.std.proofs.lemmas.List.Elements.{filter-append}
 use Rattle.educe_syntax.specs.DeriveInput.{DeriveInput}
 use Rattle.educe_bound_traits.specs.declared.traits.Trait.{Trait}
 use Rattle.educe_bound_traits.specs.Traits.{is_listed}
-use Rattle.educe_handlers.proofs.Lists.{zip_push}
-use Rattle.educe_laws.specs.Handlers.{Noted, IsNoted, AreNoted, handled_of, traits_before, traits_through}
-use Rattle.educe_laws.specs.Headers.{ImplAdds}
-use Rattle.educe_laws.specs.Listed.{listed}
+use Rattle.educe_settings.proofs.Lists.{zip_push}
+use Rattle.educe_meaning.specs.Handlers.{Noted, IsNoted, AreNoted, handled_of, traits_before, traits_through}
+use Rattle.educe_meaning.specs.Headers.{ImplAdds}
+use Rattle.educe_settings.specs.Listed.{listed}
 
 module _ (d : DeriveInput) (which : Trait) (lists : is_listed (listed d) which ≡ true) where
   -- of the traits up to this one, it is handled behind those that were before

@@ -4,7 +4,7 @@ use Rattle.std.proofs.lemmas.List.{take_more, length-take-le}
 use Rattle.educe_syntax.specs.Field.{Field}
 use Rattle.educe_attrs.specs.FieldSettings.{FieldSettings}
 use Rattle.educe_body_forms.specs.declared.pattern.PatternField.{PatternField}
-use Rattle.educe_laws.specs.Arms.{ArePatternFields, IsPatternField}
+use Rattle.educe_meaning.specs.Arms.{ArePatternFields, IsPatternField}
 
 -- one more field on all three sides
 fields_push : (prefix : List ℕ) (place : ℕ) (fs : List Field) (all : List FieldSettings) (xs : List PatternField) (f : Field) (s : FieldSettings) (x : PatternField)

@@ -1,6 +1,6 @@
 -- The laws of traits as terms, which proofs cite with no call.
-use Rattle.educe_laws.specs.Laws.{TraitLaws}
-use Rattle.educe_laws.proofs.Traits as traits
+use Rattle.educe_meaning.specs.Laws.{TraitLaws}
+use Rattle.educe_meaning.proofs.Traits as traits
 
 -- What holds of every trait.
 pub lawful_traits : TraitLaws

@@ -4,7 +4,7 @@ use Rattle.educe_tokens.specs.Appends.{no_place}
 use Rattle.educe_tokens.specs.Spells.{IsWord}
 use Rattle.educe_handlers.specs.declared.reading.Reading.{Reading}
 use Rattle.educe_handlers.specs.declared.reading.Reading.TheVariants.{OfBase, Bound}
-use Rattle.educe_laws.specs.Steps as steps
+use Rattle.educe_meaning.specs.Steps as steps
 
 -- How a field is read, by the texts of the names.
 abbrev pub reading_of : Reading → steps.Reading

@@ -2,7 +2,7 @@
 ghost use Rattle.std.specs.Prelude.{◌≡◌, [], ◌∷◌, IfOk};
 ghost use Rattle.std.specs.Option.{option_copied};
 ghost use Rattle.educe_tokens.specs.Appends.{no_place};
-ghost use Rattle.educe_laws.specs.Arms.{IsName};
+ghost use Rattle.educe_meaning.specs.Arms.{IsName};
 
 use educe_body::{Body, Form, Forms};
 use educe_syntax::{Duplicate, Ident};

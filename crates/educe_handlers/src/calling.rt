@@ -1,9 +1,9 @@
 //! What is called on a field.
 ghost use Rattle.std.specs.Prelude.{◌≡◌, IfOk};
-ghost use Rattle.educe_handlers.specs.Ranked.{how_of, called_by};
+ghost use Rattle.educe_settings.specs.Ranked.{how_of, called_by};
 
-use crate::ranked::How;
 use educe_body::Shared;
+use educe_settings::How;
 use educe_syntax::{Duplicate, ExprPath};
 use std::alloc::{AllocError, Global};
 

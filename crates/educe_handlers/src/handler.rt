@@ -1,20 +1,22 @@
 //! The trait that handlers implement.
-ghost use Rattle.std.specs.Prelude.{◌≡◌, ◌≤◌, ◌^◌, Bool, IsTrue, length, OnOk, OnErr, IfOk, IfErr};
+ghost use Rattle.std.specs.Prelude.{◌≡◌, ◌≤◌, ◌^◌, Bool, IsTrue, length, OnOk, OnErr, IfOk, IfErr, IfSome};
 ghost use Rattle.std.specs.List.{AllByRecursion};
+ghost use Rattle.std.specs.Option.{option_copied};
 ghost use Rattle.educe_tokens.specs.Prefix.{HasPrefix};
 ghost use Rattle.educe_syntax.specs.Shape.{Shape};
 ghost use Rattle.educe_bound_traits.specs.declared.traits.Trait.{Trait};
 ghost use Rattle.educe_attrs.specs.Causes.{NoCause, OfStop};
 ghost use Rattle.educe_attrs.specs.Phases.{OfHandler};
-ghost use Rattle.educe_laws.specs.Blocks.{IsBlock, EachEvaluates};
-ghost use Rattle.educe_laws.specs.Handled.{handling};
-ghost use Rattle.educe_laws.specs.Handlers.{IsReady, AddsBlock, AddsMeaning, AreNoted, traits_through};
-ghost use Rattle.educe_laws.specs.Headers.{ImplAdds};
+ghost use Rattle.educe_body.specs.Held.{AreWordsOf};
+ghost use Rattle.educe_meaning.specs.Blocks.{IsBlock, EachEvaluates};
+ghost use Rattle.educe_settings.specs.Handled.{handling};
+ghost use Rattle.educe_meaning.specs.Handlers.{IsReady, AddsBlock, AddsMeaning, AreNoted, traits_through};
+ghost use Rattle.educe_meaning.specs.Headers.{ImplAdds};
 
+use crate::context::TraitHandlerContext;
 use educe_attrs::Stop;
-use educe_body::Items;
+use educe_body::{InputWords, Items};
 use educe_bound::Trait;
-use educe_handlers_bounds::TraitHandlerContext;
 use educe_syntax::{DeriveInput, Predicates};
 use std::alloc::Global;
 
@@ -29,13 +31,16 @@ pub trait TraitHandler {
     ghost takes: { Shape → Bool };
 
     /// The items of the trait, and the predicates that its impl adds. A handler writes this function alone.
+    /// The words of the definition may be lent; where they are not, a handler that needs them gathers them.
     fn block(
         alloc: Global,
         ast: &DeriveInput,
         listed: &[Trait],
         ctx: &TraitHandlerContext,
+        words: Option<&InputWords>,
     ) -> Result<(Items, Predicates), Stop>
         requires ready { IsReady TRAIT ast.now listed.now ctx.now }
+        requires words { IfSome (option_copied words) (AreWordsOf ast.now.tokens) }
         requires takes { IsTrue (takes ast.now.shape) }
         ensures block { IfOk result (λ found. IsBlock TRAIT ast.now found.0) }
         // Its functions evaluate to what the trait means, where the tokens are as few as a `usize` can count.
@@ -54,8 +59,10 @@ pub trait TraitHandler {
         ctx: &mut TraitHandlerContext,
         items: &mut Items,
         traits: &[Trait],
+        words: Option<&InputWords>,
     ) -> Result<(), Stop>
         requires ready { IsReady TRAIT ast.now traits.now ctx.old }
+        requires words { IfSome (option_copied words) (AreWordsOf ast.now.tokens) }
         requires takes { IsTrue (takes ast.now.shape) }
         ensures kept { HasPrefix items.old items.new }
         ensures adds { OnOk result (AddsBlock TRAIT ast.now items.old items.new) }
@@ -70,7 +77,7 @@ pub trait TraitHandler {
     {
         // There are as many tokens as a `usize` can count, so as many fields at the most.
         let _count = ast.tokens.len();
-        let (own, added) = Self::block(alloc, ast, traits, ctx)?;
+        let (own, added) = Self::block(alloc, ast, traits, ctx, words)?;
         items.append(own)?;
         ctx.note_predicates(Self::TRAIT, added)?;
         Ok(())

@@ -5,23 +5,24 @@ ghost use Rattle.educe_syntax.specs.Readings.{IsReadType};
 ghost use Rattle.educe_syntax.specs.Refusal.{IsDefinition};
 ghost use Rattle.educe_bound.specs.Predicates.{keys_of, exceptions_of, AreByBound, AreRead, IsReadBound, lifetimes_first};
 ghost use Rattle.educe_bound_classes.specs.Needs.{AreNames};
-ghost use Rattle.educe_handlers.specs.Adding.{Adds};
-ghost use Rattle.educe_handlers.specs.SeenTypes.{read_of, touched_of};
-ghost use Rattle.educe_laws.specs.Handlers.{IsReady, AreNotedRead, inherited_from};
-ghost use Rattle.educe_laws.specs.Headers as spec;
-ghost use Rattle.educe_laws.specs.Rows as rows;
-ghost use Rattle.educe_laws.specs.Settings as settings;
-ghost use Rattle.educe_laws.specs.Types.{AreTypes};
+ghost use Rattle.educe_handlers.specs.Adding.{Adds, IsByRule};
+ghost use Rattle.educe_settings.specs.SeenTypes.{read_of, touched_of};
+ghost use Rattle.educe_meaning.specs.Handlers.{IsReady, AreNotedRead, inherited_from};
+ghost use Rattle.educe_meaning.specs.Headers as spec;
+ghost use Rattle.educe_settings.specs.Packed.{AreCopied};
+ghost use Rattle.educe_settings.specs.Rows as rows;
+ghost use Rattle.educe_settings.specs.Settings as settings;
+ghost use Rattle.educe_settings.specs.Types.{AreTypes};
+ghost use Rattle.educe_bound.specs.Sets.{AreOnceByBound};
 
-use crate::rows::reads_fields;
-use crate::seen_types::SeenTypes;
-use crate::task::Task;
-use educe_attrs::is_packed;
+use crate::context::TraitHandlerContext;
+use crate::prerequisites::inherit;
 use educe_bound::{
-    Bound, Trait, exceptions_of, extend_where_predicates, lifetimes_first, with_predicates,
+    Bound, PredicateSet, Trait, exceptions_of, extend_where_predicates, lifetimes_first,
+    with_predicates,
 };
-use educe_handlers_bounds::{TraitHandlerContext, inherit};
-use educe_syntax::{DeriveInput, Generics, Predicates, Shape};
+use educe_settings::{SeenTypes, Task, reads_fields};
+use educe_syntax::{DeriveInput, Generics, Predicates};
 use educe_tokens::Seq;
 use std::alloc::{AllocError, Global};
 
@@ -32,33 +33,48 @@ pub struct Header {
     pub added: Predicates,
 }
 
-/// Whether fields are read by copies: in a packed struct, of whose fields no references can be taken
-/// (Rust Reference, The alignment modifiers).
-pub fn is_copied(alloc: Global, ast: &DeriveInput) -> Result<bool, AllocError>
-    ensures { IfOk result (spec.AreCopied ast.now) }
+/// The predicates that the bound asks for by itself, in a set.
+fn own_set(
+    alloc: Global,
+    task: Task<'_, '_>,
+    bound: &Bound,
+    types: &SeenTypes<'_>,
+) -> Result<PredicateSet, AllocError>
+    ensures keys { let which = task.entry.trait_ in let ast = task.entry.ast.now in
+        IfOk result (λ found. AreOnceByBound bound.now (exceptions_of which) ast.generics.params ast.ident.text which
+        (touched_of types.now) (keys_of found)) }
+    ensures read { IsReadBound bound.now → AreNames task.entry.ast.now.generics.params →
+        AllByRecursion IsReadType (touched_of types.now) → IfOk result AreRead }
 {
-    match &ast.shape {
-        Shape::Struct(_) => is_packed(alloc, &ast.attrs),
-        Shape::Enum(_) => Ok(false),
-    }
+    let exceptions = exceptions_of(task.trait_);
+    bound.predicate_set(
+        alloc,
+        &task.ast.generics.params,
+        task.trait_,
+        &types.touched,
+        &task.ast.ident,
+        &exceptions,
+    )
 }
 
-/// The predicates that the bound asks for by itself.
+/// The predicates that the bound asks for by itself, as a list.
 fn own_predicates(
     alloc: Global,
     task: Task<'_, '_>,
     bound: &Bound,
     types: &SeenTypes<'_>,
 ) -> Result<Predicates, AllocError>
-    ensures keys { let which = task.entry.which in let ast = task.entry.ast.now in
-        IfOk result (λ found. AreByBound bound.now (exceptions_of which) ast.generics.params ast.ident.text which (touched_of types.now) (keys_of found)) }
-    ensures read { IsReadBound bound.now → AreNames task.entry.ast.now.generics.params → AllByRecursion IsReadType (touched_of types.now) → IfOk result AreRead }
+    ensures keys { let which = task.entry.trait_ in let ast = task.entry.ast.now in
+        IfOk result (λ found. AreByBound bound.now (exceptions_of which) ast.generics.params ast.ident.text which
+        (touched_of types.now) (keys_of found)) }
+    ensures read { IsReadBound bound.now → AreNames task.entry.ast.now.generics.params →
+        AllByRecursion IsReadType (touched_of types.now) → IfOk result AreRead }
 {
-    let exceptions = exceptions_of(task.which);
+    let exceptions = exceptions_of(task.trait_);
     bound.into_where_predicates_by_generic_parameters_check_types(
         alloc,
         &task.ast.generics.params,
-        task.which,
+        task.trait_,
         &types.touched,
         &task.ast.ident,
         &exceptions,
@@ -90,8 +106,36 @@ fn copy_predicates(
     }
 }
 
+/// The predicates that an impl adds under a bound whose predicates are made by rule: one set takes its
+/// own, those for copies, and those that it inherits.
+fn added_by_rule(
+    alloc: Global,
+    task: Task<'_, '_>,
+    bound: &Bound,
+    types: &SeenTypes<'_>,
+    copied: bool,
+    ctx: &TraitHandlerContext,
+) -> Result<Predicates, AllocError>
+    requires by_rule { IsByRule bound.now }
+    requires is_read { IsDefinition task.ast.now.tokens task.ast.now }
+    requires bound { settings.IsBoundOf task.trait_ task.ast.now bound.now }
+    requires types { AreTypes task.trait_ task.ast.now (read_of types.now) (touched_of types.now) }
+    requires copied { AreCopied task.ast.now copied }
+    requires noted { AreNotedRead ctx.now }
+    ensures adds { IfOk result (λ all. Adds task.entry.trait_ task.entry.ast.now
+        (inherited_from ctx.now (spec.prerequisites task.entry.trait_)) (keys_of all)) }
+    ensures read { IfOk result AreRead }
+{
+    let by_copies = are_copied(task.trait_, copied);
+    let mut all = own_set(alloc, task, bound, types)?;
+    let copies = copy_predicates(alloc, task.ast, bound, types, by_copies)?;
+    extend_where_predicates(&mut all, &copies)?;
+    inherit(task.trait_, bound, ctx, &mut all)?;
+    Ok(all.into_list())
+}
+
 /// The predicates that an impl adds to those of the definition: its own, those for copies, and those
-/// that it inherits (documentation of `educe`, Bounds).
+/// that it inherits (documentation of `educe`, Bounds). A list that the bound gives stays as it is.
 fn added(
     alloc: Global,
     task: Task<'_, '_>,
@@ -101,19 +145,20 @@ fn added(
     ctx: &TraitHandlerContext,
 ) -> Result<Predicates, AllocError>
     requires is_read { IsDefinition task.ast.now.tokens task.ast.now }
-    requires bound { settings.IsBoundOf task.which task.ast.now bound.now }
-    requires types { AreTypes task.which task.ast.now (read_of types.now) (touched_of types.now) }
-    requires copied { spec.AreCopied task.ast.now copied }
+    requires bound { settings.IsBoundOf task.trait_ task.ast.now bound.now }
+    requires types { AreTypes task.trait_ task.ast.now (read_of types.now) (touched_of types.now) }
+    requires copied { AreCopied task.ast.now copied }
     requires noted { AreNotedRead ctx.now }
-    ensures adds { IfOk result (λ all. Adds task.entry.which task.entry.ast.now (inherited_from ctx.now (spec.prerequisites task.entry.which)) (keys_of all)) }
+    ensures adds { IfOk result (λ all. Adds task.entry.trait_ task.entry.ast.now
+        (inherited_from ctx.now (spec.prerequisites task.entry.trait_)) (keys_of all)) }
     ensures read { IfOk result AreRead }
 {
-    let by_copies = are_copied(task.which, copied);
-    let mut all = own_predicates(alloc, task, bound, types)?;
-    let copies = copy_predicates(alloc, task.ast, bound, types, by_copies)?;
-    extend_where_predicates(alloc, &mut all, &copies)?;
-    inherit(alloc, task.which, bound, ctx, &mut all)?;
-    Ok(all)
+    match bound {
+        Bound::Auto => added_by_rule(alloc, task, bound, types, copied, ctx),
+        Bound::All => added_by_rule(alloc, task, bound, types, copied, ctx),
+        Bound::Disabled => own_predicates(alloc, task, bound, types),
+        Bound::Custom(_) => own_predicates(alloc, task, bound, types),
+    }
 }
 
 /// The generics of an impl that adds these predicates.
@@ -139,12 +184,12 @@ pub fn header_of(
     copied: bool,
     ctx: &TraitHandlerContext,
 ) -> Result<Header, AllocError>
-    requires ready { IsReady task.which task.ast.now task.listed.now ctx.now }
-    requires bound { settings.IsBoundOf task.which task.ast.now bound.now }
-    requires types { AreTypes task.which task.ast.now (read_of types.now) (touched_of types.now) }
-    requires copied { spec.AreCopied task.ast.now copied }
-    ensures generics { IfOk result (λ header. spec.IsHeader task.entry.which task.entry.ast.now header.generics) }
-    ensures added { IfOk result (λ header. spec.ImplAdds task.entry.ast.now task.entry.which header.added) }
+    requires ready { IsReady task.trait_ task.ast.now task.listed.now ctx.now }
+    requires bound { settings.IsBoundOf task.trait_ task.ast.now bound.now }
+    requires types { AreTypes task.trait_ task.ast.now (read_of types.now) (touched_of types.now) }
+    requires copied { AreCopied task.ast.now copied }
+    ensures generics { IfOk result (λ header. spec.IsHeader task.entry.trait_ task.entry.ast.now header.generics) }
+    ensures added { IfOk result (λ header. spec.ImplAdds task.entry.ast.now task.entry.trait_ header.added) }
 {
     let added = added(alloc, task, bound, types, copied, ctx)?;
     let generics = generics_with(alloc, &task.ast.generics, &added)?;

@@ -1,19 +1,18 @@
 //! The impl of a trait that is next, with its header.
 ghost use Rattle.std.specs.Prelude.{◌≡◌, [], ◌∷◌, IfOk};
-ghost use Rattle.educe_handlers.specs.SeenTypes.{read_of, touched_of};
-ghost use Rattle.educe_laws.specs.Blocks.{IsImpl, IsImplBlock};
-ghost use Rattle.educe_laws.specs.Handlers.{IsReady};
-ghost use Rattle.educe_laws.specs.Headers.{ImplAdds};
-ghost use Rattle.educe_laws.specs.Settings.{IsBoundOf};
-ghost use Rattle.educe_laws.specs.Types.{AreTypes};
+ghost use Rattle.educe_settings.specs.SeenTypes.{read_of, touched_of};
+ghost use Rattle.educe_meaning.specs.Blocks.{IsImpl, IsImplBlock};
+ghost use Rattle.educe_meaning.specs.Handlers.{IsReady};
+ghost use Rattle.educe_meaning.specs.Headers.{ImplAdds};
+ghost use Rattle.educe_settings.specs.Settings.{IsBoundOf};
+ghost use Rattle.educe_settings.specs.Types.{AreTypes};
 
-use crate::header::{Header, header_of, is_copied};
+use crate::context::TraitHandlerContext;
+use crate::header::{Header, header_of};
 use crate::items::impl_item;
-use crate::seen_types::SeenTypes;
-use crate::task::Task;
 use educe_body::{Functions, ImplItem, Item, Items};
 use educe_bound::Bound;
-use educe_handlers_bounds::TraitHandlerContext;
+use educe_settings::{SeenTypes, Task, is_copied};
 use educe_syntax::Predicates;
 use educe_tokens::Seq;
 use std::alloc::{AllocError, Global};
@@ -28,15 +27,15 @@ pub fn impl_of(
     functions: Functions,
     ctx: &TraitHandlerContext,
 ) -> Result<(ImplItem, Predicates), AllocError>
-    requires ready { IsReady task.which task.ast.now task.listed.now ctx.now }
-    requires bound { IsBoundOf task.which task.ast.now bound.now }
-    requires types { AreTypes task.which task.ast.now (read_of types.now) (touched_of types.now) }
-    ensures item { IfOk result (λ made. IsImpl task.entry.which task.entry.ast.now (λ own. own ≡ functions) made.0) }
-    ensures added { IfOk result (λ made. ImplAdds task.entry.ast.now task.entry.which made.1) }
+    requires ready { IsReady task.trait_ task.ast.now task.listed.now ctx.now }
+    requires bound { IsBoundOf task.trait_ task.ast.now bound.now }
+    requires types { AreTypes task.trait_ task.ast.now (read_of types.now) (touched_of types.now) }
+    ensures item { IfOk result (λ made. IsImpl task.entry.trait_ task.entry.ast.now (λ own. own ≡ functions) made.0) }
+    ensures added { IfOk result (λ made. ImplAdds task.entry.ast.now task.entry.trait_ made.1) }
 {
     let copied = is_copied(alloc, task.ast)?;
     let Header { generics, added } = header_of(alloc, task, bound, types, copied, ctx)?;
-    let item = impl_item(alloc, task.which, task.ast, generics, functions)?;
+    let item = impl_item(alloc, task.trait_, task.ast, generics, functions)?;
     Ok((item, added))
 }
 
@@ -58,11 +57,11 @@ pub fn impl_block(
     functions: Functions,
     ctx: &TraitHandlerContext,
 ) -> Result<(Items, Predicates), AllocError>
-    requires ready { IsReady task.which task.ast.now task.listed.now ctx.now }
-    requires bound { IsBoundOf task.which task.ast.now bound.now }
-    requires types { AreTypes task.which task.ast.now (read_of types.now) (touched_of types.now) }
-    ensures block { IfOk result (λ made. IsImplBlock task.entry.which task.entry.ast.now (λ own. own ≡ functions) made.0) }
-    ensures added { IfOk result (λ made. ImplAdds task.entry.ast.now task.entry.which made.1) }
+    requires ready { IsReady task.trait_ task.ast.now task.listed.now ctx.now }
+    requires bound { IsBoundOf task.trait_ task.ast.now bound.now }
+    requires types { AreTypes task.trait_ task.ast.now (read_of types.now) (touched_of types.now) }
+    ensures block { IfOk result (λ made. IsImplBlock task.entry.trait_ task.entry.ast.now (λ own. own ≡ functions) made.0) }
+    ensures added { IfOk result (λ made. ImplAdds task.entry.ast.now task.entry.trait_ made.1) }
 {
     let (item, added) = impl_of(alloc, task, bound, types, functions, ctx)?;
     let items = impl_alone(alloc, item)?;

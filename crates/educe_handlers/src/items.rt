@@ -3,14 +3,14 @@ ghost use Rattle.std.specs.Prelude.{◌≡◌, IsTrue, IfOk};
 ghost use Rattle.educe_tokens.specs.Quote.{is_ascii_name};
 ghost use Rattle.educe_tokens.specs.WrittenLexemes.{written_lexemes};
 ghost use Rattle.educe_attrs.specs.Lints.{lints, impl_attributes};
-ghost use Rattle.educe_laws.specs.Blocks.{IsFunction, IsImpl};
-ghost use Rattle.educe_laws.specs.Headers.{IsHeader};
+ghost use Rattle.educe_meaning.specs.Blocks.{IsFunction, IsImpl};
+ghost use Rattle.educe_meaning.specs.Headers.{IsHeader};
 
 use educe_attrs::{generated_impl_attributes, generated_lint_attributes};
 use educe_body::{Body, Function, Functions, ImplItem};
 use educe_bound::Trait;
 use educe_syntax::{DeriveInput, Duplicate, Generics};
-use educe_tokens::{Seq, TokenSlice, Word, Written};
+use educe_tokens::{Seq, Word, Written};
 use std::alloc::{AllocError, Global};
 
 /// The attributes of the impls that are generated for a definition.
@@ -18,7 +18,7 @@ fn attributes(alloc: Global, ast: &DeriveInput) -> Result<Written, AllocError>
     ensures { IfOk result (λ attributes. written_lexemes attributes ≡ impl_attributes ast.now.attrs) }
 {
     let tokens = generated_impl_attributes(alloc, &ast.attrs)?;
-    Ok(Written::new(TokenSlice::new(alloc, tokens)?))
+    Ok(Written::new(tokens))
 }
 
 /// The attributes of items that are no impls of traits: those that set the levels of lints.
@@ -26,7 +26,7 @@ pub fn lint_attributes(alloc: Global, ast: &DeriveInput) -> Result<Written, Allo
     ensures { IfOk result (λ attributes. written_lexemes attributes ≡ lints ast.now.attrs) }
 {
     let tokens = generated_lint_attributes(alloc, &ast.attrs)?;
-    Ok(Written::new(TokenSlice::new(alloc, tokens)?))
+    Ok(Written::new(tokens))
 }
 
 /// One function of this ASCII name, with this body.

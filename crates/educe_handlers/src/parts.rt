@@ -1,9 +1,9 @@
 //! The parts of a handler, by the shape of the definition.
+use crate::context::TraitHandlerContext;
 use crate::handler::TraitHandler;
 use educe_attrs::Stop;
-use educe_body::Items;
+use educe_body::{InputWords, Items};
 use educe_bound::Trait;
-use educe_handlers_bounds::TraitHandlerContext;
 use educe_syntax::{DeriveInput, Predicates};
 use std::alloc::Global;
 use std::marker::PhantomData;
@@ -15,7 +15,7 @@ pub struct StructPart<H> {
 
 impl<H: TraitHandler> TraitHandler for StructPart<H> {
     ghost use Rattle.std.specs.Prelude.{◌&&◌};
-    ghost use Rattle.educe_laws.specs.Cases.{is_struct};
+    ghost use Rattle.educe_settings.specs.Cases.{is_struct};
 
     const TRAIT: Trait = H::TRAIT;
 
@@ -28,8 +28,9 @@ impl<H: TraitHandler> TraitHandler for StructPart<H> {
         ast: &DeriveInput,
         listed: &[Trait],
         ctx: &TraitHandlerContext,
+        words: Option<&InputWords>,
     ) -> Result<(Items, Predicates), Stop> {
-        H::block(alloc, ast, listed, ctx)
+        H::block(alloc, ast, listed, ctx, words)
     }
 }
 
@@ -40,7 +41,7 @@ pub struct EnumPart<H> {
 
 impl<H: TraitHandler> TraitHandler for EnumPart<H> {
     ghost use Rattle.std.specs.Prelude.{◌&&◌};
-    ghost use Rattle.educe_laws.specs.Cases.{is_enum};
+    ghost use Rattle.educe_settings.specs.Cases.{is_enum};
 
     const TRAIT: Trait = H::TRAIT;
 
@@ -53,7 +54,8 @@ impl<H: TraitHandler> TraitHandler for EnumPart<H> {
         ast: &DeriveInput,
         listed: &[Trait],
         ctx: &TraitHandlerContext,
+        words: Option<&InputWords>,
     ) -> Result<(Items, Predicates), Stop> {
-        H::block(alloc, ast, listed, ctx)
+        H::block(alloc, ast, listed, ctx, words)
     }
 }

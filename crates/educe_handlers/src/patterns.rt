@@ -2,13 +2,14 @@
 ghost use Rattle.std.specs.Prelude.{◌≡◌, ◌++◌, length, IfOk};
 ghost use Rattle.educe_tokens.specs.Spells.{IsWord};
 ghost use Rattle.educe_body_forms.specs.Keys.{binding_key};
-ghost use Rattle.educe_laws.specs.Cases.{fields_in};
-ghost use Rattle.educe_laws.specs.Settings.{keeps};
-ghost use Rattle.educe_laws.specs.Arms as spec;
+ghost use Rattle.educe_settings.specs.Cases.{fields_in};
+ghost use Rattle.educe_settings.specs.Settings.{keeps};
+ghost use Rattle.educe_settings.specs.Cases as cases;
+ghost use Rattle.educe_meaning.specs.Arms as spec;
 
-use crate::settings::is_kept;
 use educe_attrs::FieldSettings;
 use educe_body::{Pattern, PatternField, PatternFields, binding};
+use educe_settings::is_kept;
 use educe_syntax::{Duplicate, Field, FieldForm, Ident, Variant};
 use educe_tokens::{Seq, Spelling, Word};
 use std::alloc::{AllocError, Global};
@@ -85,13 +86,20 @@ pub fn pattern(
 
 /// Whether a pattern of this form has brackets.
 pub fn has_brackets(form: FieldForm) -> bool
-    ensures { result ≡ spec.has_brackets form }
+    ensures { result ≡ cases.has_brackets form }
 {
     match form {
         FieldForm::Named => true,
         FieldForm::Unnamed => true,
         FieldForm::Unit => false,
     }
+}
+
+/// Whether a variant has neither brackets nor fields.
+pub fn is_unit(variant: &Variant) -> bool
+    ensures { result ≡ cases.is_unit variant.now }
+{
+    !has_brackets(variant.fields.form) && variant.fields.fields.len() == 0
 }
 
 /// The pattern of a variant with `..` in place of its fields.

@@ -2,12 +2,12 @@
 ghost use Rattle.std.specs.Prelude.{◌≡◌, IfOk};
 ghost use Rattle.educe_tokens.specs.Appends.{no_place};
 ghost use Rattle.educe_tokens.specs.Spells.{IsWord};
-ghost use Rattle.educe_laws.specs.Steps as spec;
-ghost use Rattle.educe_handlers.specs.Ranked.{kept_of};
+ghost use Rattle.educe_meaning.specs.Steps as spec;
+ghost use Rattle.educe_settings.specs.Ranked.{kept_of};
 ghost use Rattle.educe_handlers.specs.Readings.{reading_of, CanRead};
 
-use crate::ranked::Ranked;
 use educe_body::{Form, binding, key_word};
+use educe_settings::Ranked;
 use educe_syntax::{Duplicate, Field, Ident};
 use educe_tokens::Spelling;
 use std::alloc::{AllocError, Global};

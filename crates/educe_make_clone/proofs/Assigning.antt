@@ -2,8 +2,8 @@
 use Rattle.std.proofs.Common.{◌≡◌, ◌≢◌, ℕ, Bool, List, [], ◌∷◌, length, refl, arith}
 use Rattle.std.specs.List.{AllZip}
 use Rattle.educe_body_forms.specs.declared.form.Form.{Form}
-use Rattle.educe_laws.specs.CloneBodies.{IsDiscard, IsAssignment, AreAssignments}
-use Rattle.educe_laws.specs.Settings.{Kept}
+use Rattle.educe_meaning.specs.CloneBodies.{IsDiscard, IsAssignment, AreAssignments}
+use Rattle.educe_settings.specs.Settings.{Kept}
 
 module _ (copied : Bool) (source : List ℕ) where
   -- without fields the source is discarded

@@ -2,10 +2,10 @@
 use Rattle.std.proofs.Common.{◌≡◌, ℕ, ◌+◌, ◌<◌, ◌≤◌, List, [], ◌∷◌, ◌++◌, map, take, length, get_or, subst}
 use Rattle.std.specs.List.{AllZip}
 use Rattle.std.proofs.lemmas.List.{take_all}
-use Rattle.educe_handlers.specs.declared.ranked.Ranked.{Ranked}
-use Rattle.educe_handlers.specs.Ranked.{kept_of}
-use Rattle.educe_handlers.proofs.Lists.{zip_more, zip_mapped}
-use Rattle.educe_laws.specs.Settings.{Kept}
+use Rattle.educe_settings.specs.declared.ranked.Ranked.{Ranked}
+use Rattle.educe_settings.specs.Ranked.{kept_of}
+use Rattle.educe_settings.proofs.Lists.{zip_more, zip_mapped}
+use Rattle.educe_settings.specs.Settings.{Kept}
 
 module _ {Y : Type 0} (IsOf : Kept → Y → Type 0) (fields : List Ranked) (i : ℕ) where
   -- of one field more

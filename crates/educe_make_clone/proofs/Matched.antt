@@ -5,8 +5,8 @@ use Rattle.educe_syntax.specs.DeriveInput.{DeriveInput}
 use Rattle.educe_syntax.specs.Variant.{Variant}
 use Rattle.educe_body_forms.specs.declared.form.Arm.{Arm}
 use Rattle.educe_body_forms.specs.declared.form.Form.{Form, Unreachable}
-use Rattle.educe_laws.specs.Arms.{IsMatchOnSelf}
-use Rattle.educe_laws.specs.CloneBodies.{CloneNames, IsCloneArm, IsCloneEnum, IsDiscard, IsFromArm, IsFromEnum}
+use Rattle.educe_meaning.specs.Arms.{IsMatchOnSelf}
+use Rattle.educe_meaning.specs.CloneBodies.{CloneNames, IsCloneArm, IsCloneEnum, IsDiscard, IsFromArm, IsFromEnum}
 use Rattle.educe_make_clone.specs.Matches.{IsMatchOf}
 
 -- a match with these arms is one on the variants

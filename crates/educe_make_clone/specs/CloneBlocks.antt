@@ -1,6 +1,6 @@
 -- The blocks of `clone` and of `clone_from`.
 use Rattle.educe_syntax.specs.DeriveInput.{DeriveInput}
-use Rattle.educe_laws.specs.CloneBodies.{CloneNames, IsCloneBlockFor, IsFromBlockFor}
+use Rattle.educe_meaning.specs.CloneBodies.{CloneNames, IsCloneBlockFor, IsFromBlockFor}
 use Rattle.educe_make_clone.specs.declared.clone_cases.CloneBlocks.{CloneBlocks}
 
 -- The blocks of `clone` and of `clone_from` are those for the struct, or for the variants.

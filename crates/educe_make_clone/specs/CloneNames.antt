@@ -1,6 +1,6 @@
 -- The names that the block of `Clone` declares, as texts.
 use Rattle.educe_make_clone.specs.declared.clone_names.CloneNames.{CloneNames}
-use Rattle.educe_laws.specs.CloneBodies as laws
+use Rattle.educe_meaning.specs.CloneBodies as laws
 
 -- The texts of the names, and the prefixes.
 abbrev pub names_of : CloneNames → laws.CloneNames

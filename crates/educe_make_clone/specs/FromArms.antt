@@ -6,9 +6,9 @@ use Rattle.educe_syntax.specs.Variant.{Variant}
 use Rattle.educe_attrs.specs.FieldSettings.{FieldSettings}
 use Rattle.educe_body_forms.specs.declared.form.Form.{Form, IfLet}
 use Rattle.educe_body_forms.specs.declared.pattern.Pattern.{Pattern}
-use Rattle.educe_laws.specs.Arms.{IsName, IsPatternBy}
-use Rattle.educe_laws.specs.CloneBodies.{CloneNames, IsThrough, IsWhole}
-use Rattle.educe_laws.specs.Settings.{Kept}
+use Rattle.educe_meaning.specs.Arms.{IsName, IsPatternBy}
+use Rattle.educe_meaning.specs.CloneBodies.{CloneNames, IsThrough, IsWhole}
+use Rattle.educe_settings.specs.Settings.{Kept}
 
 -- If the source is of this variant, one step for each of these fields, and else it is cloned as a whole.
 pub record IsFromArmBlock (names : CloneNames) (variant : Variant) (all : List FieldSettings) (fields : List Kept) (block : List Form) : Type 0 where

@@ -1,5 +1,3 @@
--- Whether `clone` copies values as a whole.
-pub mod Bitwise
 -- The blocks of `Clone`.
 pub mod CloneBlocks
 pub mod CloneNames

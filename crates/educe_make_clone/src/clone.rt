@@ -1,13 +1,11 @@
 //! The handler of `Clone`.
-use crate::clone_copying::can_use_bitwise_copy;
 use crate::clone_handling::make_clone;
 use educe_attrs::Stop;
-use educe_body::Items;
+use educe_body::{InputWords, Items};
 use educe_bound::Trait;
-use educe_handlers::{
-    EnumPart, StructPart, Task, TraitHandler, TraitHandlerContext, bound_of_type, settings_of_cases,
-};
-use educe_make_markers::has_custom_method;
+use educe_handlers::{EnumPart, StructPart, TraitHandler, TraitHandlerContext};
+use educe_settings::{Task, bound_of_type, has_custom_method, settings_of_cases};
+use educe_settings_types::{can_use_bitwise_copy, seen_types};
 use educe_syntax::{DeriveInput, Predicates};
 use std::alloc::Global;
 
@@ -29,14 +27,22 @@ impl TraitHandler for CloneHandler {
         ast: &DeriveInput,
         listed: &[Trait],
         ctx: &TraitHandlerContext,
+        words: Option<&InputWords>,
     ) -> Result<(Items, Predicates), Stop> {
-        let which = Trait::Clone;
-        let task = Task { which, ast, listed };
+        let trait_ = Trait::Clone;
+        let task = Task {
+            trait_,
+            ast,
+            listed,
+        };
         let bound = bound_of_type(alloc, task)?;
         let settings = settings_of_cases(alloc, task)?;
         let settings = settings.as_slice();
         let copies = can_use_bitwise_copy(alloc, task, has_custom_method(settings))?;
-        Ok(make_clone(alloc, ast, listed, &bound, settings, copies, ctx)?)
+        let types = seen_types(alloc, task)?;
+        Ok(make_clone(
+            alloc, ast, listed, &bound, settings, copies, &types, ctx, words,
+        )?)
     }
 }
 

@@ -8,19 +8,20 @@ ghost use Rattle.educe_syntax.specs.Variant.{Variant};
 ghost use Rattle.educe_body_values.specs.BuiltIn.{IsBuiltIn};
 ghost use Rattle.educe_body_values.specs.declared.callee.BuiltIn.TheVariants as built_in;
 ghost use Rattle.educe_bound_traits.specs.declared.traits.Trait.TheVariants.{Clone};
-ghost use Rattle.educe_handlers.specs.Ranked.{kept_of};
+ghost use Rattle.educe_settings.specs.Ranked.{kept_of};
 ghost use Rattle.educe_handlers.specs.Readings.{reading_of, CanRead};
-ghost use Rattle.educe_laws.specs.Cases.{fields_in};
-ghost use Rattle.educe_laws.specs.CloneBodies as spec;
-ghost use Rattle.educe_laws.specs.Headers.{AreCopied};
-ghost use Rattle.educe_laws.specs.Settings.{settings_of, kept_fields};
+ghost use Rattle.educe_settings.specs.Cases.{fields_in};
+ghost use Rattle.educe_meaning.specs.CloneBodies as spec;
+ghost use Rattle.educe_settings.specs.Packed.{AreCopied};
+ghost use Rattle.educe_settings.specs.Settings.{settings_of, kept_fields};
 ghost use Rattle.educe_make_clone.specs.CloneNames.{names_of};
 ghost use Rattle.educe_make_clone.specs.Matches.{IsMatchOf};
 
 use crate::clone_names::CloneNames;
 use educe_attrs::FieldSettings;
 use educe_body::{Arm, Arms, Form, Forms, Init, Inits, Shared};
-use educe_handlers::{Ranked, Reading, block_of, called, key, name_of, pattern, read};
+use educe_handlers::{Reading, block_of, called, key, name_of, pattern, read};
+use educe_settings::Ranked;
 use educe_syntax::{ExprPath, FieldShape, Ident, Variant};
 use educe_tokens::Seq;
 use std::alloc::{AllocError, Global};
@@ -75,7 +76,8 @@ fn cloned(
     requires plain { IsBuiltIn built_in.Clone plain.now }
     requires reading { CanRead reading }
     ensures { (definition : DeriveInput) → map kept_of fields.now ≡ kept_fields Clone definition shape.now.fields →
-        IfOk result (spec.IsCloneConstruct definition (reading_of reading.entry) (option_map (λ (i : Ident). i.text) (option_copied name.entry)) shape.now) }
+        IfOk result (spec.IsCloneConstruct definition (reading_of reading.entry)
+        (option_map (λ (i : Ident). i.text) (option_copied name.entry)) shape.now) }
 {
     let inits = inits(alloc, plain, reading, fields)?;
     Ok(Form::Construct(name_of(alloc, name)?, shape.form, inits))

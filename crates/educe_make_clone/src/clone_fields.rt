@@ -2,14 +2,14 @@
 ghost use Rattle.std.specs.Prelude.{◌≡◌, ◌++◌, map, IfOk, OnOk};
 ghost use Rattle.std.specs.List.{flat_map};
 ghost use Rattle.educe_bound_traits.specs.declared.traits.Trait.TheVariants.{Clone};
-ghost use Rattle.educe_handlers.specs.CaseSettings.{settings_in};
-ghost use Rattle.educe_handlers.specs.Ranked.{kept_of};
-ghost use Rattle.educe_laws.specs.Cases.{fields_in, cases_of};
-ghost use Rattle.educe_laws.specs.Settings.{settings_of, kept_fields, all_kept};
+ghost use Rattle.educe_settings.specs.CaseSettings.{settings_in};
+ghost use Rattle.educe_settings.specs.Ranked.{kept_of};
+ghost use Rattle.educe_settings.specs.Cases.{fields_in, cases_of};
+ghost use Rattle.educe_settings.specs.Settings.{settings_of, kept_fields, all_kept};
 
 use educe_attrs::FieldSettings;
-use educe_handlers::{Ranked, Task};
 use educe_make_markers::add_case;
+use educe_settings::{Ranked, Task};
 use educe_syntax::{Field, Shape, Variant};
 use educe_tokens::Seq;
 use std::alloc::{AllocError, Global};
@@ -37,7 +37,8 @@ fn add_variants<'d, 's>(
     all: &mut Vec<Ranked<'d, 's>>,
 ) -> Result<(), AllocError>
     requires { settings.now ≡ settings_in Clone task.ast.now (map fields_in variants.now) }
-    ensures { OnOk result (map kept_of all.new.items ≡ map kept_of all.old.items ++ flat_map (kept_fields Clone task.entry.ast.now) (map fields_in variants.now)) }
+    ensures { OnOk result (map kept_of all.new.items ≡ map kept_of all.old.items ++ flat_map
+        (kept_fields Clone task.entry.ast.now) (map fields_in variants.now)) }
 {
     for (place, variant) in variants.iter().enumerate() {
         let fields = variant.fields.fields.as_slice();
@@ -54,7 +55,8 @@ fn add_all<'d, 's>(
     all: &mut Vec<Ranked<'d, 's>>,
 ) -> Result<(), AllocError>
     requires { settings.now ≡ settings_in Clone task.ast.now (cases_of task.ast.now) }
-    ensures { OnOk result (map kept_of all.new.items ≡ map kept_of all.old.items ++ flat_map (kept_fields Clone task.entry.ast.now) (cases_of task.entry.ast.now)) }
+    ensures { OnOk result (map kept_of all.new.items ≡ map kept_of all.old.items ++ flat_map
+        (kept_fields Clone task.entry.ast.now) (cases_of task.entry.ast.now)) }
 {
     match &task.ast.shape {
         Shape::Struct(shape) => {

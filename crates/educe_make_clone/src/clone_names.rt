@@ -1,12 +1,14 @@
 //! The names that the block of `Clone` declares.
-ghost use Rattle.std.specs.Prelude.{◌≡◌, None, IfOk};
+ghost use Rattle.std.specs.Prelude.{◌≡◌, None, IfOk, IfSome};
+ghost use Rattle.std.specs.Option.{option_copied};
+ghost use Rattle.educe_body.specs.Held.{AreWordsOf};
 ghost use Rattle.educe_tokens.specs.Appends.{no_place};
 ghost use Rattle.educe_tokens.specs.Spells.{IsWord};
 ghost use Rattle.educe_handlers.specs.OneWord.{IsWord-prop};
-ghost use Rattle.educe_laws.specs.CloneBodies.{AreCloneNames};
+ghost use Rattle.educe_meaning.specs.CloneBodies.{AreCloneNames};
 
-use educe_body::UsedIdents;
-use educe_handlers::{select, select_prefix};
+use educe_body::InputWords;
+use educe_handlers::{select, select_prefix, used_idents};
 use educe_make_markers::MarkerNames;
 use educe_syntax::{DeriveInput, Ident};
 use educe_tokens::Spelling;
@@ -35,10 +37,15 @@ impl CloneNames {
 
     /// The names for a definition: each is chosen apart from the words of the input and from the names
     /// before it.
-    pub fn choose(alloc: Global, ast: &DeriveInput) -> Result<CloneNames, AllocError>
+    pub fn choose(
+        alloc: Global,
+        ast: &DeriveInput,
+        words: Option<&InputWords>,
+    ) -> Result<CloneNames, AllocError>
+        requires words { IfSome (option_copied words) (AreWordsOf ast.now.tokens) }
         ensures { IfOk result (λ names. AreCloneNames ast.now (names_of names)) }
     {
-        let mut used = UsedIdents::new(alloc, ast.tokens.as_slice())?;
+        let mut used = used_idents(alloc, ast, words)?;
         let source = select(alloc, &mut used, "source")?;
         let sources = select_prefix(alloc, &used, "_s_")?;
         let own = select_prefix(alloc, &used, "_d_")?;

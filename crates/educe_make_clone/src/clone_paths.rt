@@ -1,7 +1,7 @@
 //! The functions of the core library that the functions of `Clone` call.
 ghost use Rattle.std.specs.Prelude.{IfOk};
 ghost use Rattle.educe_body_values.specs.BuiltIn.{IsBuiltIn};
-ghost use Rattle.educe_laws.specs.CloneBodies as spec;
+ghost use Rattle.educe_meaning.specs.CloneBodies as spec;
 ghost use Rattle.educe_make_clone.specs.ClonePaths.{AreClonePaths};
 
 use educe_body::{BuiltIn, Shared, built_in_path};

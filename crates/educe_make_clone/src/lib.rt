@@ -4,7 +4,6 @@
 mod clone;
 mod clone_body;
 mod clone_cases;
-mod clone_copying;
 mod clone_fields;
 mod clone_from_body;
 mod clone_handling;
@@ -13,5 +12,4 @@ mod clone_paths;
 mod copy;
 
 pub use clone::{CloneEnumHandler, CloneHandler, CloneStructHandler};
-pub use clone_copying::can_use_bitwise_copy;
 pub use copy::{CopyEnumHandler, CopyHandler, CopyStructHandler};

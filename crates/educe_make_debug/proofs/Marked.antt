@@ -10,11 +10,11 @@ use Rattle.educe_syntax.specs.Shape.TheVariants.{Struct, Enum}
 use Rattle.educe_bound_traits.specs.declared.traits.Trait.TheVariants.{Debug}
 use Rattle.educe_attrs.specs.Causes.{NoCause}
 use Rattle.educe_attrs.specs.Places.{OfField}
-use Rattle.educe_laws.specs.Cases.{fields_in}
-use Rattle.educe_laws.specs.Listed.{listed}
-use Rattle.educe_laws.specs.Shown.{entry_row, ShownCase, variant_shown, cases_for, shown_cases, all_shown, IsCaseRead}
-use Rattle.educe_laws.proofs.Elements.{In, In-all, In-image}
-use Rattle.educe_make_debug_reading.specs.Read.{AreRead}
+use Rattle.educe_settings.specs.Cases.{fields_in}
+use Rattle.educe_settings.specs.Listed.{listed}
+use Rattle.educe_settings.specs.Shown.{entry_row, ShownCase, variant_shown, cases_for, shown_cases, all_shown, IsCaseRead}
+use Rattle.educe_settings.proofs.Elements.{In, In-all, In-image}
+use Rattle.educe_settings_types.specs.Read.{AreRead}
 use Rattle.educe_make_markers.specs.Marking.{MayMark}
 use Rattle.educe_make_markers.proofs.KeptFields.{in_flat}
 use Rattle.educe_make_markers.proofs.Visiting.{own_field, markers_visit}

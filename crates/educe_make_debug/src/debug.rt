@@ -1,10 +1,12 @@
 //! The handler of `Debug`.
 use crate::debug_handling::make_debug;
+use crate::debug_reading::read;
 use educe_attrs::Stop;
-use educe_body::Items;
+use educe_body::{InputWords, Items};
 use educe_bound::Trait;
 use educe_handlers::{EnumPart, StructPart, TraitHandler, TraitHandlerContext};
-use educe_make_debug_reading::read;
+use educe_settings::Task;
+use educe_settings_types::seen_types;
 use educe_syntax::{DeriveInput, Predicates};
 use std::alloc::Global;
 
@@ -26,9 +28,17 @@ impl TraitHandler for DebugHandler {
         ast: &DeriveInput,
         listed: &[Trait],
         ctx: &TraitHandlerContext,
+        words: Option<&InputWords>,
     ) -> Result<(Items, Predicates), Stop> {
+        let trait_ = Trait::Debug;
+        let task = Task {
+            trait_,
+            ast,
+            listed,
+        };
         let (shown, bound) = read(alloc, ast, listed)?;
-        Ok(make_debug(alloc, ast, listed, &shown, &bound, ctx)?)
+        let types = seen_types(alloc, task)?;
+        Ok(make_debug(alloc, ast, listed, &shown, &bound, &types, ctx, words)?)
     }
 }
 

@@ -1,29 +1,33 @@
 //! The items of `Debug`.
-ghost use Rattle.std.specs.Prelude.{◌≡◌, map, IfOk, codes};
+ghost use Rattle.std.specs.Prelude.{◌≡◌, map, IfOk, codes, IfSome};
 ghost use Rattle.std.specs.List.{AllByRecursion};
+ghost use Rattle.std.specs.Option.{option_copied};
+ghost use Rattle.educe_body.specs.Held.{AreWordsOf};
 ghost use Rattle.educe_syntax.specs.Readings.{AreNamed, AreReadGenerics};
 ghost use Rattle.educe_bound_traits.specs.declared.traits.Trait.TheVariants.{Debug};
-ghost use Rattle.educe_handlers.specs.Ranked.{kept_of};
-ghost use Rattle.educe_laws.specs.Blocks.{IsDebugBlock, IsFunction, IsImpl};
-ghost use Rattle.educe_laws.specs.Handlers.{IsReady};
-ghost use Rattle.educe_laws.specs.Headers.{ImplAdds};
-ghost use Rattle.educe_laws.specs.Settings.{IsBoundOf};
-ghost use Rattle.educe_laws.specs.Shown as laws;
-ghost use Rattle.educe_laws.specs.ShownBodies as bodies;
-ghost use Rattle.educe_make_debug_shown.specs.Cases.{IsShown};
-ghost use Rattle.educe_make_debug_reading.specs.Read.{AreRead};
-ghost use Rattle.educe_make_debug_bodies.specs.DebugNames.{names_of};
+ghost use Rattle.educe_settings.specs.Ranked.{kept_of};
+ghost use Rattle.educe_meaning.specs.Blocks.{IsDebugBlock, IsFunction, IsImpl};
+ghost use Rattle.educe_meaning.specs.Handlers.{IsReady};
+ghost use Rattle.educe_meaning.specs.Headers.{ImplAdds};
+ghost use Rattle.educe_settings.specs.SeenTypes.{read_of, touched_of};
+ghost use Rattle.educe_settings.specs.Settings.{IsBoundOf};
+ghost use Rattle.educe_settings.specs.Types.{AreOfThese};
+ghost use Rattle.educe_settings.specs.Shown as laws;
+ghost use Rattle.educe_meaning.specs.ShownBodies as bodies;
+ghost use Rattle.educe_make_debug.specs.Cases.{IsShown};
+ghost use Rattle.educe_settings_types.specs.Read.{AreRead};
+ghost use Rattle.educe_make_debug.specs.DebugNames.{names_of};
 ghost use Rattle.educe_make_markers.specs.Marking as marking;
 
+use crate::debug_body::body;
 use crate::debug_fields::all_shown;
-use educe_body::{Functions, ImplItem, Item, Items};
+use crate::debug_names::DebugNames;
+use crate::debug_shown::Shown;
+use educe_body::{Functions, ImplItem, InputWords, Item, Items};
 use educe_bound::{Bound, Trait};
-use educe_handlers::{
-    Ranked, Task, TraitHandlerContext, function, impl_of, is_copied, no_types, see_each,
-};
-use educe_make_debug_bodies::{DebugNames, body};
-use educe_make_debug_shown::Shown;
+use educe_handlers::{TraitHandlerContext, function, impl_of};
 use educe_make_markers::{MarkerNames, method_markers};
+use educe_settings::{Ranked, SeenTypes, Task, is_copied};
 use educe_syntax::{DeriveInput, Duplicate, Predicates};
 use educe_tokens::Seq;
 use std::alloc::{AllocError, Global};
@@ -92,51 +96,57 @@ fn fields_of<'d, 'c>(
     all_shown(alloc, shown.cases.as_slice())
 }
 
-/// The impl with these functions, where these fields are shown, and the predicates that it adds.
+/// The impl with these functions, where bounds speak of these types, and the predicates that it adds.
 fn debug_impl(
     alloc: Global,
     ast: &DeriveInput,
     listed: &[Trait],
     bound: &Bound,
-    kept: &[Ranked<'_, '_>],
+    types: &SeenTypes<'_>,
     functions: Functions,
     ctx: &TraitHandlerContext,
 ) -> Result<(ImplItem, Predicates), AllocError>
     requires ready { IsReady Debug ast.now listed.now ctx.now }
     requires bound { IsBoundOf Debug ast.now bound.now }
-    requires kept { map kept_of kept.now ≡ laws.all_shown ast.now }
+    requires types { AreOfThese (laws.all_shown ast.now) (read_of types.now) (touched_of types.now) }
     ensures item { IfOk result (λ made. IsImpl Debug ast.now (λ own. own ≡ functions) made.0) }
     ensures added { IfOk result (λ made. ImplAdds ast.now Debug made.1) }
 {
-    let which = Trait::Debug;
-    let task = Task { which, ast, listed };
-    let mut types = no_types(alloc);
-    see_each(kept, &mut types)?;
-    impl_of(alloc, task, bound, &types, functions, ctx)
+    let trait_ = Trait::Debug;
+    let task = Task {
+        trait_,
+        ast,
+        listed,
+    };
+    impl_of(alloc, task, bound, types, functions, ctx)
 }
 
-/// The block of `Debug` with this bound, where the values of the definition are shown like this, and the
-/// predicates that its impl adds.
+/// The block of `Debug` with this bound, where the values of the definition are shown like this and bounds
+/// speak of these types, and the predicates that its impl adds.
 pub fn make_debug(
     alloc: Global,
     ast: &DeriveInput,
     listed: &[Trait],
     shown: &Shown<'_>,
     bound: &Bound,
+    types: &SeenTypes<'_>,
     ctx: &TraitHandlerContext,
+    words: Option<&InputWords>,
 ) -> Result<(Items, Predicates), AllocError>
     requires ready { IsReady Debug ast.now listed.now ctx.now }
+    requires words { IfSome (option_copied words) (AreWordsOf ast.now.tokens) }
     requires ast { shown.now.ast.now ≡ ast.now }
     requires shown { IsShown shown.now }
     requires read { AreRead ast.now }
     requires bound { IsBoundOf Debug ast.now bound.now }
+    requires types { AreOfThese (laws.all_shown ast.now) (read_of types.now) (touched_of types.now) }
     ensures block { IfOk result (λ found. IsDebugBlock ast.now found.0) }
     ensures added { IfOk result (λ found. ImplAdds ast.now Debug found.1) }
 {
     let kept = fields_of(alloc, ast, shown)?;
-    let names = DebugNames::choose(alloc, ast)?;
+    let names = DebugNames::choose(alloc, ast, words)?;
     let functions = fmt(alloc, ast, &names, shown)?;
-    let (item, added) = debug_impl(alloc, ast, listed, bound, &kept, functions, ctx)?;
+    let (item, added) = debug_impl(alloc, ast, listed, bound, types, functions, ctx)?;
     let items = debug_items(alloc, ast, &names, item, &kept)?;
     Ok((items, added))
 }

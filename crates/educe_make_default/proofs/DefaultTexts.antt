@@ -8,7 +8,7 @@ use Rattle.educe_tokens.specs.WrittenLexemes.{written_lexemes}
 use Rattle.educe_tokens.proofs.Copying.{copied-written, may_be_copied-written}
 use Rattle.educe_tokens.proofs.Printable.{IsPrintable, printable-written, printable-append, printable-quoted}
 use Rattle.educe_syntax.specs.Ty.{Ty}
-use Rattle.educe_laws.specs.Making.{default_tokens}
+use Rattle.educe_meaning.specs.Making.{default_tokens}
 
 -- the call of `Default::default` for a type
 default_printable : (ty : Ty) → IsPrintable (default_tokens ty)

@@ -1,4 +1,4 @@
 -- How the default value of an enum is chosen.
-pub mod Defaults
+pub mod MadeForms
 -- The laws of `Default` as terms.
 pub mod DefaultLaws

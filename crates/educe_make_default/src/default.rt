@@ -1,9 +1,12 @@
 //! The handler of `Default`.
-use crate::default_handling::{Own, made, make_default, own_of};
+use crate::default_body::form_of;
+use crate::default_handling::{Own, make_default, own_of};
 use educe_attrs::Stop;
-use educe_body::Items;
+use educe_body::{InputWords, Items};
 use educe_bound::Trait;
-use educe_handlers::{EnumPart, StructPart, Task, TraitHandler, TraitHandlerContext, type_values};
+use educe_handlers::{EnumPart, StructPart, TraitHandler, TraitHandlerContext};
+use educe_settings::{Task, type_values};
+use educe_settings_types::{choose, seen_types};
 use educe_syntax::{DeriveInput, Predicates};
 use std::alloc::Global;
 
@@ -25,9 +28,14 @@ impl TraitHandler for DefaultHandler {
         ast: &DeriveInput,
         listed: &[Trait],
         ctx: &TraitHandlerContext,
+        _words: Option<&InputWords>,
     ) -> Result<(Items, Predicates), Stop> {
-        let which = Trait::Default;
-        let task = Task { which, ast, listed };
+        let trait_ = Trait::Default;
+        let task = Task {
+            trait_,
+            ast,
+            listed,
+        };
         let values = type_values(alloc, task)?;
         let Own {
             bound,
@@ -35,8 +43,10 @@ impl TraitHandler for DefaultHandler {
             value,
             span,
         } = own_of(values);
-        let made = made(alloc, task, value, span)?;
-        Ok(make_default(alloc, ast, listed, &bound, made, has_new, ctx)?)
+        let chosen = choose(alloc, task, value, span)?;
+        let form = form_of(alloc, ast, chosen)?;
+        let types = seen_types(alloc, task)?;
+        Ok(make_default(alloc, ast, listed, &bound, form, &types, has_new, ctx)?)
     }
 }
 

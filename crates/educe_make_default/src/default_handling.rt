@@ -1,30 +1,25 @@
 //! The items of `Default`.
-ghost use Rattle.std.specs.Prelude.{◌≡◌, true, ◌∷◌, map, is_none, unwrap_or, false, IfOk, IfErr, codes};
-ghost use Rattle.std.specs.Borrow.{Bor};
+ghost use Rattle.std.specs.Prelude.{◌≡◌, ◌∷◌, unwrap_or, false, IfOk, codes};
 ghost use Rattle.educe_syntax.specs.DeriveInput.{DeriveInput};
-ghost use Rattle.educe_syntax.specs.Ty.{Ty};
-ghost use Rattle.educe_attrs.specs.Causes.{NoCause, OfStop};
-ghost use Rattle.educe_attrs.specs.Phases.{OfHandler};
 ghost use Rattle.educe_bound_traits.specs.declared.traits.Trait.TheVariants as derived;
-ghost use Rattle.educe_bound_traits.specs.Traits.{is_listed};
-ghost use Rattle.educe_laws.specs.Blocks.{IsDefaultBlock, IsFunction, AreNew, IsNew};
-ghost use Rattle.educe_laws.specs.Defaults as said;
-ghost use Rattle.educe_laws.specs.Handled.{handling};
-ghost use Rattle.educe_laws.specs.Handlers.{IsReady};
-ghost use Rattle.educe_laws.specs.Headers.{ImplAdds};
-ghost use Rattle.educe_laws.specs.Making as spec;
-ghost use Rattle.educe_laws.specs.Settings as settings;
-ghost use Rattle.educe_make_default.specs.Defaults.{IsTyped, IsMadeForm, new_items};
+ghost use Rattle.educe_meaning.specs.Blocks.{IsDefaultBlock, IsFunction, AreNew, IsNew};
+ghost use Rattle.educe_settings.specs.Defaults as said;
+ghost use Rattle.educe_meaning.specs.Handlers.{IsReady};
+ghost use Rattle.educe_meaning.specs.Headers.{ImplAdds};
+ghost use Rattle.educe_meaning.specs.Making as spec;
+ghost use Rattle.educe_settings.specs.SeenTypes.{read_of, touched_of};
+ghost use Rattle.educe_settings.specs.Settings as settings;
+ghost use Rattle.educe_settings.specs.Types.{AreUnread};
+ghost use Rattle.educe_make_default.specs.MadeForms.{IsMadeForm, new_items};
 
-use crate::default_body::{Made, enum_form, struct_form};
-use educe_attrs::{Stop, Values};
+use educe_attrs::Values;
 use educe_body::{Form, Functions, ImplItem, Item, Items};
 use educe_bound::{Bound, Trait};
 use educe_handlers::{
-    SeenTypes, Task, TraitHandlerContext, body_of, bound_said, function, impl_alone, impl_of,
-    lint_attributes,
+    TraitHandlerContext, body_of, function, impl_alone, impl_of, lint_attributes,
 };
-use educe_syntax::{DeriveInput, Duplicate, Expr, Generics, Predicates, Shape};
+use educe_settings::{SeenTypes, Task, bound_said};
+use educe_syntax::{DeriveInput, Duplicate, Expr, Generics, Predicates};
 use educe_tokens::{Span, Written};
 use std::alloc::{AllocError, Global};
 
@@ -56,30 +51,6 @@ pub fn own_of(values: Values) -> Own
         has_new: new.unwrap_or(false),
         value: expression,
         span,
-    }
-}
-
-/// The form of `default`, and the types of which it takes the default values. It is rejected exactly where
-/// the attributes of a variant or a field have a cause, or which variant is made is not determined, or
-/// memory fails.
-pub fn made<'d>(
-    alloc: Global,
-    task: Task<'d, '_>,
-    value: Option<Expr>,
-    own: Span,
-) -> Result<Made<'d>, Stop>
-    requires typed { IsTyped task.ast.now task.listed.now (is_none value) }
-    requires lists { is_listed task.listed.now derived.Default ≡ true }
-    requires value { value ≡ (said.type_values task.ast.now).expression }
-    requires own { own ≡ (said.type_values task.ast.now).span }
-    ensures form { IfOk result (λ made. IsMadeForm task.entry.ast.now made.form) }
-    ensures types { IfOk result (λ made. map (λ (t : Bor Ty). t.now) made.types.items ≡ said.default_types task.entry.ast.now) }
-    ensures uncaused { IfOk result (λ _. NoCause (OfHandler (handling task.entry.ast.now) derived.Default)) }
-    ensures err { IfErr result (λ s. OfStop (OfHandler (handling task.entry.ast.now) derived.Default) s) }
-{
-    match &task.ast.shape {
-        Shape::Struct(shape) => struct_form(alloc, task, value, shape),
-        Shape::Enum(variants) => enum_form(alloc, task, value, own, variants.as_slice()),
     }
 }
 
@@ -150,27 +121,27 @@ pub fn make_default(
     ast: &DeriveInput,
     listed: &[Trait],
     bound: &Bound,
-    made: Made<'_>,
+    form: Form,
+    types: &SeenTypes<'_>,
     has_new: bool,
     ctx: &TraitHandlerContext,
 ) -> Result<(Items, Predicates), AllocError>
     requires ready { IsReady derived.Default ast.now listed.now ctx.now }
     requires bound { settings.IsBoundOf derived.Default ast.now bound.now }
-    requires form { IsMadeForm ast.now made.form }
-    requires types { map (λ (t : Bor Ty). t.now) made.types.items ≡ said.default_types ast.now }
+    requires form { IsMadeForm ast.now form }
+    requires types { AreUnread (said.default_types ast.now) (read_of types.now) (touched_of types.now) }
     requires new { has_new ≡ spec.has_new ast.now }
     ensures block { IfOk result (λ found. IsDefaultBlock ast.now found.0) }
     ensures added { IfOk result (λ found. ImplAdds ast.now derived.Default found.1) }
 {
-    let which = Trait::Default;
-    let task = Task { which, ast, listed };
-    let Made { form, types } = made;
-    let types = SeenTypes {
-        read: Vec::new(alloc),
-        touched: types,
+    let trait_ = Trait::Default;
+    let task = Task {
+        trait_,
+        ast,
+        listed,
     };
     let functions = default_function(alloc, form)?;
-    let (item, added) = impl_of(alloc, task, bound, &types, functions, ctx)?;
+    let (item, added) = impl_of(alloc, task, bound, types, functions, ctx)?;
     let new = new_if(alloc, ast, &item.generics, has_new)?;
     let items = both_impls(alloc, item, new)?;
     Ok((items, added))

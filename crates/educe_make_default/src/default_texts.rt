@@ -4,11 +4,11 @@ ghost use Rattle.std.specs.Option.{option_copied};
 ghost use Rattle.educe_tokens.specs.Appends.{Appends};
 ghost use Rattle.educe_tokens.specs.WrittenLexemes.{written_lexemes};
 ghost use Rattle.educe_attrs.specs.Adjusted.{adjusted};
-ghost use Rattle.educe_laws.specs.Making as spec;
+ghost use Rattle.educe_meaning.specs.Making as spec;
 
 use educe_attrs::auto_adjust_expr;
 use educe_syntax::{Duplicate, Expr, Field, Ty};
-use educe_tokens::{Seq, TokenSlice, TokenStream, Written, append_written, quote};
+use educe_tokens::{TokenStream, Written, append_written, quote};
 use std::alloc::{AllocError, Global};
 
 /// Appends the call of `Default::default` for a type.
@@ -28,9 +28,9 @@ fn push_default(alloc: Global, tokens: &mut TokenStream, ty: &Ty) -> Result<(), 
 fn default_call(alloc: Global, ty: &Ty) -> Result<Written, AllocError>
     ensures { IfOk result (λ text. written_lexemes text ≡ spec.default_tokens ty.now) }
 {
-    let mut tokens = Seq::new(alloc);
+    let mut tokens = TokenStream::new(alloc);
     push_default(alloc, &mut tokens, ty)?;
-    Ok(Written::new(TokenSlice::new(alloc, tokens)?))
+    Ok(Written::new(tokens.into_slice(alloc)?))
 }
 
 /// A value as it is written for a field of the type; that of a whole type has none to fit

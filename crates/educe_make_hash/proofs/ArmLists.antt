@@ -3,7 +3,7 @@ use Rattle.std.proofs.Common.{◌≡◌, ℕ, ◌+◌, ◌<◌, List, [], ◌∷
 use Rattle.std.proofs.lemmas.List.{take_more, length-take}
 use Rattle.educe_syntax.specs.Variant.{Variant}
 use Rattle.educe_body_forms.specs.declared.form.Arm.{Arm}
-use Rattle.educe_laws.specs.Arms.{AreArms}
+use Rattle.educe_meaning.specs.Arms.{AreArms}
 
 module _ (IsOwn : ℕ → Variant → Arm → Type 0) where
   -- one arm more

@@ -1,12 +1,13 @@
 //! The handler of `Hash`.
 use crate::hash_body::body;
 use educe_attrs::Stop;
-use educe_body::Items;
+use educe_body::{InputWords, Items};
 use educe_bound::Trait;
 use educe_handlers::{
-    EnumPart, StructPart, Task, TraitHandler, TraitHandlerContext, bound_of_type, function,
-    impl_block, is_copied, no_types,
+    EnumPart, StructPart, TraitHandler, TraitHandlerContext, function, impl_block,
 };
+use educe_settings::{Task, bound_of_type, is_copied};
+use educe_settings_types::seen_types;
 use educe_syntax::{DeriveInput, Predicates};
 use std::alloc::Global;
 
@@ -28,14 +29,19 @@ impl TraitHandler for HashHandler {
         ast: &DeriveInput,
         listed: &[Trait],
         ctx: &TraitHandlerContext,
+        words: Option<&InputWords>,
     ) -> Result<(Items, Predicates), Stop> {
-        let which = Trait::Hash;
-        let task = Task { which, ast, listed };
+        let trait_ = Trait::Hash;
+        let task = Task {
+            trait_,
+            ast,
+            listed,
+        };
         let bound = bound_of_type(alloc, task)?;
         let copied = is_copied(alloc, ast)?;
-        let mut types = no_types(alloc);
-        let body = body(alloc, task, copied, &mut types)?;
+        let body = body(alloc, task, copied, words)?;
         let functions = function(alloc, "hash", body)?;
+        let types = seen_types(alloc, task)?;
         Ok(impl_block(alloc, task, &bound, &types, functions, ctx)?)
     }
 }

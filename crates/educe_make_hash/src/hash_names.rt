@@ -1,12 +1,14 @@
 //! The names that `hash` declares.
-ghost use Rattle.std.specs.Prelude.{◌≡◌, IfOk};
+ghost use Rattle.std.specs.Prelude.{◌≡◌, IfOk, IfSome};
+ghost use Rattle.std.specs.Option.{option_copied};
+ghost use Rattle.educe_body.specs.Held.{AreWordsOf};
 ghost use Rattle.educe_tokens.specs.Appends.{no_place};
 ghost use Rattle.educe_tokens.specs.Spells.{IsWord};
 ghost use Rattle.educe_handlers.specs.OneWord.{IsWord-prop};
-ghost use Rattle.educe_laws.specs.HashBodies.{AreHashNames};
+ghost use Rattle.educe_meaning.specs.HashBodies.{AreHashNames};
 
-use educe_body::UsedIdents;
-use educe_handlers::{select, select_prefix};
+use educe_body::InputWords;
+use educe_handlers::{select, select_prefix, used_idents};
 use educe_syntax::{DeriveInput, Ident};
 use educe_tokens::Spelling;
 use std::alloc::{AllocError, Global};
@@ -29,10 +31,15 @@ impl HashNames {
 
     /// The names for a definition: each is chosen apart from the words of the input and from the names
     /// before it, and then the prefix is.
-    pub fn choose(alloc: Global, ast: &DeriveInput) -> Result<HashNames, AllocError>
+    pub fn choose(
+        alloc: Global,
+        ast: &DeriveInput,
+        words: Option<&InputWords>,
+    ) -> Result<HashNames, AllocError>
+        requires words { IfSome (option_copied words) (AreWordsOf ast.now.tokens) }
         ensures { IfOk result (λ names. AreHashNames ast.now (names_of names)) }
     {
-        let mut used = UsedIdents::new(alloc, ast.tokens.as_slice())?;
+        let mut used = used_idents(alloc, ast, words)?;
         let state = select(alloc, &mut used, "state")?;
         let hasher = select(alloc, &mut used, "H")?;
         let prefix = select_prefix(alloc, &used, "_v_")?;

@@ -1,6 +1,7 @@
 //! The handler of `Hash`.
 #![tactic(auto)]
 
+mod feeding;
 mod hash;
 mod hash_body;
 mod hash_cases;

@@ -4,9 +4,9 @@ use Rattle.std.specs.Prelude.{if◌then◌else◌}
 use Rattle.std.specs.List.{flat_map}
 use Rattle.educe_syntax.specs.Field.{Field}
 use Rattle.educe_attrs.specs.FieldSettings.{FieldSettings}
-use Rattle.educe_handlers.proofs.Refused.{in_one_of}
-use Rattle.educe_laws.specs.Settings.{Kept, keeps, how_by, kept_with, kept_by}
-use Rattle.educe_laws.proofs.Elements.{In, In-behind}
+use Rattle.educe_settings.proofs.Uncaused.{in_one_of}
+use Rattle.educe_settings.specs.Settings.{Kept, keeps, how_by, kept_with, kept_by}
+use Rattle.educe_settings.proofs.Elements.{In, In-behind}
 
 -- ---- elements
 

@@ -6,8 +6,8 @@ use Rattle.std.proofs.lemmas.List.Elements.{filter_map-append}
 use Rattle.educe_syntax.specs.ExprPath.{ExprPath}
 use Rattle.educe_body_items.specs.declared.items.Item.{Item}
 use Rattle.educe_body_items.specs.declared.items.Item.TheVariants.{Marker}
-use Rattle.educe_laws.specs.Markers.{Marked, marked_by}
-use Rattle.educe_laws.specs.Settings.{Kept, How, plainly}
+use Rattle.educe_meaning.specs.Markers.{Marked, marked_by}
+use Rattle.educe_settings.specs.Settings.{Kept, How, plainly}
 use Rattle.educe_make_markers.specs.declared.markers.MethodMarker.{MethodMarker}
 use Rattle.educe_make_markers.specs.Marking.{IsMarkerOf, AddsMarker, AddsMarkers}
 

@@ -17,11 +17,11 @@ use Rattle.educe_attrs.specs.Laws.{lawful_settings}
 use Rattle.educe_attrs.specs.Places.{OfField}
 use Rattle.educe_attrs.specs.Row.{Row}
 use Rattle.educe_bound_traits.specs.declared.traits.Trait.{Trait}
-use Rattle.educe_laws.specs.Cases.{fields_in, shape_cases}
-use Rattle.educe_laws.specs.Listed.{listed}
-use Rattle.educe_laws.specs.Markers.{marked_by}
-use Rattle.educe_laws.specs.Settings.{Kept, how_with}
-use Rattle.educe_laws.proofs.Elements.{In, In-all, In-image, each_in, each_weaker}
+use Rattle.educe_settings.specs.Cases.{fields_in, shape_cases}
+use Rattle.educe_settings.specs.Listed.{listed}
+use Rattle.educe_meaning.specs.Markers.{marked_by}
+use Rattle.educe_settings.specs.Settings.{Kept, how_with}
+use Rattle.educe_settings.proofs.Elements.{In, In-all, In-image, each_in, each_weaker}
 use Rattle.educe_make_markers.specs.Marking.{IsReadMarked, MayMark}
 use Rattle.educe_make_markers.proofs.KeptFields.{in_flat, IsMadeOf, kept_in, from_cases}
 use Rattle.educe_make_markers.proofs.OwnMethods.{method_own}

@@ -11,9 +11,9 @@ use Rattle.educe_bound_traits.specs.declared.traits.Trait.{Trait}
 use Rattle.educe_body_items.specs.declared.items.Item.{Item}
 use Rattle.educe_body_items.specs.declared.items.Item.TheVariants.{Marker}
 use Rattle.educe_body_items.specs.declared.items.MarkerItem.{MarkerItem}
-use Rattle.educe_laws.specs.Checks.{IsHeadFor}
-use Rattle.educe_laws.specs.Markers.{Marked, marked_by, IsMarker, AreMarkers}
-use Rattle.educe_laws.specs.Settings.{Kept}
+use Rattle.educe_meaning.specs.Checks.{IsHeadFor}
+use Rattle.educe_meaning.specs.Markers.{Marked, marked_by, IsMarker, AreMarkers}
+use Rattle.educe_settings.specs.Settings.{Kept}
 use Rattle.educe_make_markers.specs.declared.markers.MarkerNames.{MarkerNames}
 use Rattle.educe_make_markers.specs.declared.markers.MethodMarker.{MethodMarker}
 

@@ -2,9 +2,7 @@
 #![tactic(auto)]
 
 mod markers;
-mod methods;
 mod several_cases;
 
-pub use markers::{MarkerNames, method_markers};
-pub use methods::has_custom_method;
+pub use markers::{MarkerNames, MethodMarker, method_markers};
 pub use several_cases::add_case;

@@ -2,13 +2,14 @@
 ghost use Rattle.std.specs.Prelude.{◌≡◌, ◌∷◌, [], ◌++◌, map, IfOk, OnOk};
 ghost use Rattle.std.specs.List.{AllByRecursion};
 ghost use Rattle.educe_syntax.specs.Readings.{AreNamed, AreReadGenerics, IsReadType, IsReadPath};
-ghost use Rattle.educe_handlers.specs.Ranked.{kept_of};
-ghost use Rattle.educe_laws.specs.Checks.{texts_of};
+ghost use Rattle.educe_settings.specs.Ranked.{kept_of};
+ghost use Rattle.educe_meaning.specs.Checks.{texts_of};
 ghost use Rattle.educe_make_markers.specs.Marking as spec;
 
 use educe_body::{Item, Items, MarkerItem, Names};
 use educe_bound::Trait;
-use educe_handlers::{How, Ranked, lint_attributes};
+use educe_handlers::lint_attributes;
+use educe_settings::{How, Ranked};
 use educe_syntax::{DeriveInput, Duplicate, ExprPath, Field, Generics, Ident};
 use educe_syntax_self::ReplaceSelf;
 use educe_tokens::{Seq, Word};

@@ -1,10 +1,10 @@
 //! The fields that take part, of several cases.
 ghost use Rattle.std.specs.Prelude.{◌≡◌, ◌++◌, length, map, OnOk};
-ghost use Rattle.educe_handlers.specs.Ranked.{kept_of};
-ghost use Rattle.educe_laws.specs.Settings.{kept_by};
+ghost use Rattle.educe_settings.specs.Ranked.{kept_of};
+ghost use Rattle.educe_settings.specs.Settings.{kept_by};
 
 use educe_attrs::FieldSettings;
-use educe_handlers::{Ranked, kept_fields};
+use educe_settings::{Ranked, kept_fields};
 use educe_syntax::Field;
 use std::alloc::{AllocError, Global};
 

@@ -1,5 +1,5 @@
 //! The choice of the fewest `_` after which a name clashes with no word.
-ghost use Rattle.std.specs.Prelude.{◌≡◌, ℕ, ◌<◌, ◌≤◌, ◌^◌, ◌||◌, true, false, length, slice_index_or, IfOk};
+ghost use Rattle.std.specs.Prelude.{◌≡◌, ◌++◌, ℕ, ◌<◌, ◌≤◌, ◌^◌, ◌||◌, true, false, length, slice_index_or, IfOk};
 ghost use Rattle.std.specs.List.{All};
 ghost use Rattle.educe_names.specs.Chosen.{underscored, clash, IsFewest};
 
@@ -15,17 +15,23 @@ pub enum Clash {
     Front,
 }
 
-/// The least number of `_` after which a name clashes with no word. Takes one pass over the words.
+/// The least number of `_` after which a name clashes with no word of two lists. Takes one pass over
+/// the words.
 pub fn fewest(
     alloc: Global,
     how: Clash,
     words: &[Letters],
+    more: &[Letters],
     name: &[char],
 ) -> Result<usize, AllocError>
-    ensures { IfOk result (IsFewest how words.now name.now) }
+    ensures { IfOk result (IsFewest how (words.now ++ more.now) name.now) }
 {
-    let mut taken = vec![in alloc; false; longest(words) + 1]?;
+    let most = larger(longest(words), longest(more));
+    let mut taken = vec![in alloc; false; most + 1]?;
     for word in words {
+        mark(&mut taken, how, word.as_slice(), name);
+    }
+    for word in more {
         mark(&mut taken, how, word.as_slice(), name);
     }
     Ok(first_free(&taken))

@@ -5,7 +5,7 @@ ghost use Rattle.educe_names.specs.Chosen.{underscored, IsFree, IsChosen, IsPref
 ghost use Rattle.educe_names.specs.Held.{AreWordsOf};
 
 use crate::fewest::{Clash, fewest};
-use crate::gathered::add_words;
+use crate::input_words::InputWords;
 use crate::letters::Letters;
 use educe_tokens::{Seq, Span, Spelling, Token};
 use educe_tree::Ident;
@@ -16,15 +16,16 @@ use std::marker::Model;
 /// were chosen, in the order of the choices. A contract sees them as a list.
 #[derive(Drop)]
 pub struct UsedIdents {
-    words: Seq<Letters>,
+    words: InputWords,
+    chosen: Seq<Letters>,
 }
 
 impl Model for UsedIdents {
-    ghost use Rattle.std.specs.Prelude.{ℕ, List};
+    ghost use Rattle.std.specs.Prelude.{ℕ, List, ◌++◌};
 
     ghost Value = { List (List ℕ) };
 
-    ghost view = { λ used. used.words };
+    ghost view = { λ used. used.words ++ used.chosen };
 }
 
 impl UsedIdents {
@@ -33,11 +34,19 @@ impl UsedIdents {
     pub fn new(alloc: Global, tokens: &[Token]) -> Result<UsedIdents, AllocError>
         ensures { IfOk result (λ used. AreWordsOf tokens.now used) }
     {
-        let mut words = Seq::new(alloc);
-        for token in tokens {
-            add_words(alloc, &mut words, token)?;
-        }
-        Ok(UsedIdents { words })
+        let words = InputWords::new(alloc, tokens)?;
+        UsedIdents::over(alloc, &words)
+    }
+
+    /// The words of an input, which were gathered before. They share the list, and no word is copied.
+    pub fn over(alloc: Global, words: &InputWords) -> Result<UsedIdents, AllocError>
+        ensures { IfOk result (λ used. used ≡ words.now) }
+    {
+        let words = words.share()?;
+        Ok(UsedIdents {
+            words,
+            chosen: Seq::new(alloc),
+        })
     }
 
     /// An identifier that is not held: the name after as few `_` as that takes. It is held from
@@ -55,7 +64,7 @@ impl UsedIdents {
             text,
             span: Span::NONE,
         };
-        self.words.push(Letters::from_str(alloc, &free)?)?;
+        self.chosen.push(Letters::from_str(alloc, &free)?)?;
         Ok(ident)
     }
 
@@ -76,7 +85,13 @@ impl UsedIdents {
             IsFree how self.now (chars name.now) (chars (string_bytes text))) }
     {
         let letters = Letters::from_str(alloc, name)?;
-        let count = fewest(alloc, how, self.words.as_slice(), letters.as_slice())?;
+        let count = fewest(
+            alloc,
+            how,
+            self.words.as_slice(),
+            self.chosen.as_slice(),
+            letters.as_slice(),
+        )?;
         underscored(alloc, count, name)
     }
 }

@@ -246,7 +246,8 @@ fn variant_rest<R: Inside>(
     budget: u8,
 ) -> Result<(FieldShape, Option<Expr>), ParseError>
     requires { R.nests parts.now.inside (budget + 1) }
-    ensures { Gives (read budget (both spec.variant_fields (optional (at_sign 61) (skipping (sign 61) (part exprs)))) input.old) result input.new }
+    ensures { Gives (read budget (both spec.variant_fields (optional (at_sign 61) (skipping (sign 61) (part exprs))))
+        input.old) result input.new }
 {
     let fields = variant_fields(parts, input, budget)?;
     let equals = Terminal::Sign('=');
@@ -264,7 +265,8 @@ fn bare_variant<R: Inside>(
     budget: u8,
 ) -> Result<(Ident, (FieldShape, Option<Expr>)), ParseError>
     requires { R.nests parts.now.inside (budget + 1) }
-    ensures { Gives (read budget (both names.name (both spec.variant_fields (optional (at_sign 61) (skipping (sign 61) (part exprs))))) input.old) result input.new }
+    ensures { Gives (read budget (both names.name (both spec.variant_fields
+        (optional (at_sign 61) (skipping (sign 61) (part exprs))))) input.old) result input.new }
 {
     let ident = name(parts.alloc, input)?;
     pair(ident, variant_rest(parts, input, budget))
@@ -311,7 +313,8 @@ fn last_fields<R: Inside>(
     budget: u8,
 ) -> Result<FieldShape, ParseError>
     requires { R.nests parts.now.inside budget }
-    ensures { Gives (read budget (either (at (start Curly)) spec.named_fields (made (λ _. spec.unit_shape) (sign 59))) input.old) result input.new }
+    ensures { Gives (read budget (either (at (start Curly)) spec.named_fields (made (λ _. spec.unit_shape) (sign 59)))
+        input.old) result input.new }
 {
     if input.cursor.opens(Bracket::Curly) {
         return named_fields(parts, input, budget);
@@ -464,7 +467,8 @@ fn visible_item<R: Inside>(
     budget: u8,
 ) -> Result<Item, ParseError>
     requires { R.nests parts.now.inside (budget + 1) }
-    ensures { Gives (read budget (skipping spec.visibility (either (at_word keyword.Enum) spec.enum_item spec.struct_item)) input.old) result input.new }
+    ensures { Gives (read budget (skipping spec.visibility
+        (either (at_word keyword.Enum) spec.enum_item spec.struct_item)) input.old) result input.new }
 {
     visibility(parts.alloc, input, budget)?;
     item(parts, input, budget)

@@ -8,7 +8,7 @@ ghost use Rattle.educe_grammar.specs.Rules.{part, types};
 ghost use Rattle.educe_grammar.specs.Steps.{Gives};
 ghost use Rattle.educe_grammar.specs.Types.{bounds, lifetime_bounds};
 
-use crate::lookahead::BehindWhere;
+use crate::lookahead::{AtEnd, BehindWhere};
 use educe_grammar::{
     Inside, Keyword, ParseError, ParseStream, Parts, Production, Terminal, in_angles, list, written,
 };
@@ -307,6 +307,20 @@ pub fn generic_params<R: Inside>(
         return Ok(Seq::new(parts.alloc));
     }
     in_angles::<Parts<R>, Param>(parts, input, budget)
+}
+
+/// The generic parameters of a header, without its angle brackets, up to the end of the tokens (Rust
+/// Reference, Generic parameters).
+#[tactic(auto, unfolding(educe_grammar::proofs::Opened::rules, educe_grammar::specs::Generics::params))]
+pub fn params<R: Inside>(
+    parts: &Parts<R>,
+    input: &mut ParseStream<'_>,
+    budget: u8,
+) -> Result<Params, ParseError>
+    requires { R.nests parts.now.inside (budget + 1) }
+    ensures { Gives (read budget spec.params input.old) result input.new }
+{
+    list::<Parts<R>, Param, AtEnd>(parts, input, budget, Terminal::Sign(','))
 }
 
 /// A type with bounds (Rust Reference, Where clauses).

@@ -9,4 +9,4 @@ mod lookahead;
 
 pub use attribute::{attributes, metas};
 pub use definitions::{definition, visibility};
-pub use generics::{generic_param, predicates, where_predicate};
+pub use generics::{generic_param, params, predicates, where_predicate};

@@ -144,7 +144,8 @@ fn path_operand<R: Inside>(
     budget: u8,
 ) -> Result<ExprForm, ParseError>
     requires { R.nests parts.now.inside budget }
-    ensures { Gives (read budget (made (λ p. spec.tail_form p.1) (checked spec.fits_tail (both spec.expr_path spec.path_tail))) input.old) result input.new }
+    ensures { Gives (read budget (made (λ p. spec.tail_form p.1)
+        (checked spec.fits_tail (both spec.expr_path spec.path_tail))) input.old) result input.new }
 {
     let path = expr_path(parts, input, budget)?;
     let (path, tail) = pair(path, path_tail(parts, input, budget))?;
@@ -165,7 +166,9 @@ fn group_or_path<R: Inside>(
     budget: u8,
 ) -> Result<ExprForm, ParseError>
     requires { R.nests parts.now.inside budget }
-    ensures { Gives (read budget (either (at (start Round)) (made (λ _. form.Other) (in_round (part exprs))) (made (λ p. spec.tail_form p.1) (checked spec.fits_tail (both spec.expr_path spec.path_tail)))) input.old) result input.new }
+    ensures { Gives (read budget (either (at (start Round)) (made (λ _. form.Other) (in_round (part exprs)))
+        (made (λ p. spec.tail_form p.1) (checked spec.fits_tail (both spec.expr_path spec.path_tail)))) input.old)
+        result input.new }
 {
     if input.cursor.opens(Bracket::Round) {
         round_exprs(parts, input, budget)?;

@@ -66,7 +66,9 @@ fn skip_unsafe(input: &mut ParseStream<'_>) -> bool
 /// `extern "C"`, if it comes next (Rust Reference, Function pointer types).
 #[tactic(auto, unfolding(educe_grammar::proofs::Opened::rules))]
 fn skip_abi(input: &mut ParseStream<'_>) -> bool
-    ensures { (budget : ℕ) → read budget (flag (at_word keyword.Extern) (both (word keyword.Extern) (flag (at (one terminal.Str)) (token terminal.Str)))) input.old ≡ Ok (result, input.new) }
+    ensures { (budget : ℕ) → read budget (flag (at_word keyword.Extern)
+        (both (word keyword.Extern) (flag (at (one terminal.Str)) (token terminal.Str)))) input.old ≡ Ok
+        (result, input.new) }
 {
     if !input.cursor.eat(Terminal::Word(Keyword::Extern)) {
         return false;
@@ -114,7 +116,9 @@ fn some_types<R: Inside>(
     budget: u8,
 ) -> Result<(Ty, Option<Types>), ParseError>
     requires { R.nests parts.now.inside (budget + 1) }
-    ensures { Gives (read budget (both (part types) (optional (at_sign 44) (skipping (sign 44) (commas (at (stop Round)) (part types))))) input.old) result input.new }
+    ensures { Gives (read budget (both (part types)
+        (optional (at_sign 44) (skipping (sign 44) (commas (at (stop Round)) (part types))))) input.old) result
+        input.new }
 {
     let first = parts.ty(input, budget)?;
     let comma = Terminal::Sign(',');
@@ -171,7 +175,8 @@ fn referred<R: Inside>(
     budget: u8,
 ) -> Result<(bool, Typed), ParseError>
     requires { R.nests parts.now.inside (budget + 1) }
-    ensures { Gives (read budget (skipping (flag (at (one terminal.Lifetime)) lifetime) (both (flag (at_word keyword.Mut) (word keyword.Mut)) (part plains))) input.old) result input.new }
+    ensures { Gives (read budget (skipping (flag (at (one terminal.Lifetime)) lifetime)
+        (both (flag (at_word keyword.Mut) (word keyword.Mut)) (part plains))) input.old) result input.new }
 {
     skip_lifetime(input);
     let mutable = input.cursor.eat(Terminal::Word(Keyword::Mut));
@@ -306,7 +311,8 @@ fn named_form<R: Inside>(
     budget: u8,
 ) -> Result<FormRead, ParseError>
     requires { R.nests parts.now.inside budget }
-    ensures { Gives (read budget (either at_angle spec.qualified (either spec.at_fn spec.fn_pointer (made spec.path_form spec.type_path))) input.old) result input.new }
+    ensures { Gives (read budget (either at_angle spec.qualified
+        (either spec.at_fn spec.fn_pointer (made spec.path_form spec.type_path))) input.old) result input.new }
 {
     if input.cursor.begins_lone('<', '=') {
         return qualified(parts, input, budget);

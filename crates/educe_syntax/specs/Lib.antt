@@ -1,3 +1,6 @@
+pub mod Nests
+pub mod Answers
+pub mod Laws
 -- Re-exports: the results of the calls, and the causes of rejection.
 pub use Rattle.educe_grammar.specs.Parsed
 pub use Rattle.educe_grammar.specs.Refusal
@@ -11,7 +14,6 @@ pub use Rattle.educe_grammar.specs.Depth
 pub use Rattle.educe_grammar.specs.Causes
 -- Re-exports: the laws of tokens and of the calls, by which each list has either a reading or a cause of rejection.
 pub use Rattle.educe_tree.specs.TokenLaws
-pub use Rattle.educe_parser.specs.Laws
 -- Re-exports: the grammar, which relates tokens and values, and the combinators of rules.
 pub use Rattle.educe_grammar.specs.Reads
 pub use Rattle.educe_grammar.specs.Reading

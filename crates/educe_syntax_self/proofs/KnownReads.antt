@@ -1,31 +1,23 @@
 -- Tokens that have a value are read to that value, unless memory fails, and what is noted of them is known.
-use Rattle.std.proofs.Common.{◌≡◌, ℕ, List, [], refl, sym, ap, subst, ◌∙◌, Result, Ok, Err, arith}
+use Rattle.std.proofs.Common.{◌≡◌, ℕ, List, [], refl, sym, ap, subst, ◌∙◌, Result, Ok, Err}
 use Rattle.std.specs.Prelude.{IfOk, IfErr}
 use Rattle.std.specs.declared.alloc.AllocError.{AllocError}
 use Rattle.educe_grammar.specs.declared.parse_error.ParseError.{ParseError}
 use Rattle.educe_grammar.specs.declared.parse_error.ParseError.TheVariants.{Memory, Syntax, TooDeep}
 use Rattle.educe_grammar.specs.declared.parse_stream.ParseStream.{ParseStream}
 use Rattle.educe_grammar.specs.declared.parse_stream.SelfPath.{SelfPath}
-use Rattle.educe_grammar.specs.Ahead.{sees_any, sees, at_end, begins_lone}
+use Rattle.educe_grammar.specs.Ahead.{at_end}
 use Rattle.educe_grammar.specs.NotedReads.{read}
 use Rattle.educe_grammar.specs.Noting.{Noted, forget}
 use Rattle.educe_grammar.specs.Parsed.{depth_limit, IsWhole}
 use Rattle.educe_grammar.specs.Reads.{Reads}
 use Rattle.educe_grammar.specs.Rules.{Rule}
 use Rattle.educe_grammar.specs.Steps.{Tokens, Gives}
-use Rattle.educe_grammar.specs.Types.{any_type}
 use Rattle.educe_grammar.proofs.Forgetting.{forget_read}
-use Rattle.educe_grammar.proofs.Knot.{known, read_whole}
 use Rattle.educe_grammar.proofs.ReadsAgain.{ReadsAgain}
 use Rattle.educe_grammar.proofs.Steps.{ok_pair}
-use Rattle.educe_grammar.proofs.TypesAgain.{again_any_type}
 use Rattle.educe_syntax_self.specs.Splicing.{noted_in, notes_of}
 use Rattle.educe_syntax_self.proofs.NotedSteps.{both_same}
-
--- a type is read to its end
-pub type_reads_again : ReadsAgain any_type
-unfolding sees_any sees at_end begins_lone
-type_reads_again budget tokens x h = read_whole any_type budget (again_any_type (known budget) budget (omega arith)) tokens x h refl
 
 -- the tokens, of which nothing is noted yet
 abbrev pub unread : Tokens → ParseStream

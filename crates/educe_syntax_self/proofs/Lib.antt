@@ -16,7 +16,6 @@ pub mod TypeTurns
 pub mod ExprTurns
 pub mod GenericTurns
 pub mod KnownReads
-pub mod GenericsKnown
 pub mod WholeTurns
 pub mod Visiting
 pub mod Splices

@@ -27,15 +27,13 @@ use Rattle.educe_grammar.proofs.Balanced.{reads_copied}
 use Rattle.educe_grammar.proofs.Keeping.{has_no_documentation}
 use Rattle.educe_grammar.proofs.OfDefinitions.{type_tokens}
 use Rattle.educe_grammar.proofs.Productions.{productions}
-use Rattle.educe_grammar.proofs.ReadsAgain.{one_reading, expr_path_again}
+use Rattle.educe_grammar.proofs.ReadsAgain.{one_reading, expr_path_again, generic_param_again, predicate_again, any_type_again}
 use Rattle.educe_grammar.proofs.Steps.{Written-path}
 use Rattle.educe_syntax_self.specs.Heads.{IsHead}
 use Rattle.educe_syntax_self.specs.Replacing.{Changes, Replaces, Changed, changes_below}
 use Rattle.educe_syntax_self.specs.Splicing.{notes_of, replaced_in}
 use Rattle.educe_syntax_self.specs.Visits.{IsVisited, IsVisitedType, IsVisitedPath, with_written, IsVisitedParam, IsVisitedPredicate}
 use Rattle.educe_syntax_self.proofs.GenericTurns.{ParamTurned}
-use Rattle.educe_syntax_self.proofs.GenericsKnown.{param_reads_again, predicate_reads_again}
-use Rattle.educe_syntax_self.proofs.KnownReads.{type_reads_again}
 use Rattle.educe_syntax_self.proofs.Turns.{Any}
 use Rattle.educe_syntax_self.proofs.WholeTurns.{noted, Visit, type_visited, path_visited, param_visited, predicate_visited}
 
@@ -104,16 +102,16 @@ module _ (head : Tokens) (is_head : IsHead head) where
 
   -- what is read has a visit
   pub type_visit : (tokens : Tokens) (x : Ty) → Reads depth_limit any_type tokens x → VisitOf any_type Any tokens x
-  type_visit tokens x reads = type_visited head is_head tokens x (notes_of any_type tokens) (noted any_type type_reads_again tokens x reads)
+  type_visit tokens x reads = type_visited head is_head tokens x (notes_of any_type tokens) (noted any_type any_type_again tokens x reads)
 
   pub path_visit : (tokens : Tokens) (x : ExprPath) → Reads depth_limit expr_path tokens x → VisitOf expr_path Any tokens x
   path_visit tokens x reads = path_visited head is_head tokens x (notes_of expr_path tokens) (noted expr_path expr_path_again tokens x reads)
 
   pub param_visit : (tokens : Tokens) (x : GenericParam) → Reads depth_limit generic_param tokens x → VisitOf generic_param ParamTurned tokens x
-  param_visit tokens x reads = param_visited head is_head tokens x (notes_of generic_param tokens) (noted generic_param param_reads_again tokens x reads)
+  param_visit tokens x reads = param_visited head is_head tokens x (notes_of generic_param tokens) (noted generic_param generic_param_again tokens x reads)
 
   pub predicate_visit : (tokens : Tokens) (x : WherePredicate) → Reads depth_limit predicate tokens x → VisitOf predicate Any tokens x
-  predicate_visit tokens x reads = predicate_visited head is_head tokens x (notes_of predicate tokens) (noted predicate predicate_reads_again tokens x reads)
+  predicate_visit tokens x reads = predicate_visited head is_head tokens x (notes_of predicate tokens) (noted predicate predicate_again tokens x reads)
 
   -- its tokens may be copied
   pub type_copied : (tokens : Tokens) (x : Ty) → Reads depth_limit any_type tokens x → IsTrue (may_be_copied (lexemes (replaced_in any_type head tokens)))
@@ -150,7 +148,7 @@ module _ (head : Tokens) (is_head : IsHead head) where
   type_answer x is_read ts is y reads =
       let v = type_visit (out-Ty x).written.tokens x is_read in
       let own = subst (λ (us : Tokens). Reads (suc depth_limit) any_type us v.value) (sym is) v.reads in
-      value_visited any_type Any (out-Ty x).written.tokens x (out-Ty y).written.tokens y (type_tokens (suc depth_limit) ts y reads ∙ is) v (one_reading any_type type_reads_again (suc depth_limit) ts v.value y own reads)
+      value_visited any_type Any (out-Ty x).written.tokens x (out-Ty y).written.tokens y (type_tokens (suc depth_limit) ts y reads ∙ is) v (one_reading any_type any_type_again (suc depth_limit) ts v.value y own reads)
 
   pub path_answer : (x : ExprPath) → IsReadPath x → (ts : Tokens) → ts ≡ replaced_in expr_path head x.written.tokens → (y : ExprPath) → Reads (suc depth_limit) expr_path ts y → IsVisitedPath head x y
   path_answer x is_read ts is y reads =

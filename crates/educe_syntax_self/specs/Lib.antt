@@ -3,5 +3,4 @@ pub mod Heads
 pub mod Replacing
 pub mod Splicing
 pub mod Visits
-pub mod Nests
 pub mod Laws

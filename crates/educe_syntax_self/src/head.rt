@@ -42,7 +42,11 @@ fn push_lifetime(
 }
 
 /// Appends the tokens of a template, at no place.
-fn push_template(alloc: Global, tokens: &mut TokenStream, template: &str) -> Result<(), AllocError>
+fn push_template(
+    alloc: Global,
+    tokens: &mut TokenStream,
+    template: &'static str,
+) -> Result<(), AllocError>
     requires { IsTrue (is_template template.now) }
     ensures { OnOk result (Adds (quoted template.now) tokens.old tokens.new) }
 {

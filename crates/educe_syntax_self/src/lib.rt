@@ -5,10 +5,8 @@
 mod again;
 mod begins;
 mod head;
-mod knot;
 mod laws;
 mod notes;
-mod readers;
 mod replace_self;
 mod splice;
 

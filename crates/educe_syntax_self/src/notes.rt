@@ -12,8 +12,8 @@ ghost use Rattle.educe_tree.specs.declared.ty.Ty.{Ty};
 ghost use Rattle.educe_syntax_self.specs.Splicing.{notes_of};
 
 use crate::again::unless_memory;
-use crate::knot::{note_param, note_path, note_predicate, note_type};
 use educe_grammar::{ParseStream, SelfPath};
+use educe_syntax::{DEPTH_LIMIT, any_type, expr_path, generic_param, where_predicate};
 use educe_tokens::{Seq, TokenSlice};
 use std::alloc::{AllocError, Global};
 
@@ -23,7 +23,7 @@ pub(crate) fn type_notes(alloc: Global, tokens: &TokenSlice) -> Result<Seq<SelfP
     ensures { IfOk result (λ notes. notes ≡ notes_of any_type tokens.now) }
 {
     let mut input = ParseStream::new(alloc, tokens);
-    unless_memory(note_type(alloc, &mut input))?;
+    unless_memory(any_type(alloc, &mut input, DEPTH_LIMIT))?;
     Ok(input.selves)
 }
 
@@ -33,7 +33,7 @@ pub(crate) fn path_notes(alloc: Global, tokens: &TokenSlice) -> Result<Seq<SelfP
     ensures { IfOk result (λ notes. notes ≡ notes_of expr_path tokens.now) }
 {
     let mut input = ParseStream::new(alloc, tokens);
-    unless_memory(note_path(alloc, &mut input))?;
+    unless_memory(expr_path(alloc, &mut input, DEPTH_LIMIT))?;
     Ok(input.selves)
 }
 
@@ -43,7 +43,7 @@ pub(crate) fn param_notes(alloc: Global, tokens: &TokenSlice) -> Result<Seq<Self
     ensures { IfOk result (λ notes. notes ≡ notes_of generic_param tokens.now) }
 {
     let mut input = ParseStream::new(alloc, tokens);
-    unless_memory(note_param(alloc, &mut input))?;
+    unless_memory(generic_param(alloc, &mut input, DEPTH_LIMIT))?;
     Ok(input.selves)
 }
 
@@ -56,6 +56,6 @@ pub(crate) fn predicate_notes(
     ensures { IfOk result (λ notes. notes ≡ notes_of predicate tokens.now) }
 {
     let mut input = ParseStream::new(alloc, tokens);
-    unless_memory(note_predicate(alloc, &mut input))?;
+    unless_memory(where_predicate(alloc, &mut input, DEPTH_LIMIT))?;
     Ok(input.selves)
 }

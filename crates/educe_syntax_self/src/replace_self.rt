@@ -14,7 +14,7 @@ use crate::head::push_head;
 use crate::notes::{param_notes, path_notes, predicate_notes, type_notes};
 use crate::splice::spliced;
 use educe_grammar::SelfPath;
-use educe_tokens::{Seq, TokenSlice, TokenStream, Written};
+use educe_tokens::{Seq, Token, TokenSlice, TokenStream, Written};
 use educe_tree::{
     AsWritten, ConstParam, DeriveInput, Duplicate, ExprPath, GenericParam, Generics, LifetimeParam,
     Params, Predicates, Ty, TypeParam, WherePredicate,
@@ -24,7 +24,7 @@ use std::alloc::{AllocError, Global};
 /// The head that replaces `Self`: the name of a definition, with its parameters as arguments.
 #[derive(Drop)]
 pub struct ReplaceSelf {
-    pub head: TokenStream,
+    pub head: Seq<Token>,
     pub ghost is_head: { IsHead head },
 }
 
@@ -36,8 +36,9 @@ impl ReplaceSelf {
         ensures head { IfOk result (λ replace. lexemes replace.head ≡ head_for ast.now) }
         ensures nowhere { IfOk result (λ replace. LieNowhere replace.head) }
     {
-        let mut head = Seq::new(alloc);
+        let mut head = TokenStream::new(alloc);
         push_head(alloc, &mut head, &ast.ident, ast.generics.params.as_slice())?;
+        let head = head.into_tokens(alloc)?;
         Ok(ReplaceSelf { head })
     }
 

@@ -14,7 +14,7 @@ use Rattle.educe_tokens.specs.declared.error.Kind.TheVariants.{Alloc}
 use Rattle.educe_tokens.specs.declared.token.Token.{Token}
 use Rattle.educe_tokens.specs.Lexes.{lexemes, Lexes, is_carried, are_carried, end_of, span_at, spans}
 use Rattle.educe_tokens.specs.Brackets.{open_after, kinds, depth_after, nests, IsShallow}
-use Rattle.educe_tokens.specs.Causes.{empty_at, last_of, open_behind, Meets, IsLexicalCause}
+use Rattle.educe_tokens.specs.Causes.{empty_at, last_of, open_behind, Meets, IsLexicalCauseWithin}
 use Rattle.educe_tokens.specs.Refusals.{syntax_at, too_deep_at, not_carried_at}
 use Rattle.educe_tokens.proofs.Lists.{cons_parts}
 use Rattle.educe_tokens.proofs.Opened.{none_is_not_some, same_some, depth_of, depth_within}
@@ -166,7 +166,7 @@ bad_once outer (v ∷ before) (w ∷ other) t u behind after same a b =
     (record { inner = b.inner; opened = two.2; shallow = subst (λ (d : ℕ). nests 128 d (kinds (lexemes other)) ≡ true) deep_other (and_parts (nat_le (depth_after (length outer) w.kind) 128) _ b.shallow).1; bad = b.bad }))
 
 -- a bracket that closes wrongly is bad
-wrong_is_bad : (text : List ℕ) (before : List Token) (token : Token) (behind : List Token) (outer : List Bracket) → Meets text before token behind outer → open_after outer token.kind ≡ None → BadAt [] before token
+wrong_is_bad : (text : List ℕ) (before : List Token) (token : Token) (behind : List Token) (outer : List Bracket) → Meets 128 text before token behind outer → open_after outer token.kind ≡ None → BadAt [] before token
 wrong_is_bad text before token behind outer meets none = record {
   inner = outer;
   opened = meets.opened;
@@ -175,7 +175,7 @@ wrong_is_bad text before token behind outer meets none = record {
 }
 
 -- a bracket that opens too deep is bad
-deep_is_bad : (text : List ℕ) (before : List Token) (token : Token) (behind : List Token) (outer : List Bracket) (b : Bracket) → Meets text before token behind outer → token.kind ≡ Start b → length outer ≡ 128
+deep_is_bad : (text : List ℕ) (before : List Token) (token : Token) (behind : List Token) (outer : List Bracket) (b : Bracket) → Meets 128 text before token behind outer → token.kind ≡ Start b → length outer ≡ 128
     → BadAt [] before token
 deep_is_bad text before token behind outer b meets opens full = record {
   inner = outer;
@@ -206,46 +206,46 @@ module _ (text : List ℕ) where
       none_is_not_some (b ∷ outer) (sym none ∙ ap (open_after outer) (ap (λ (x : Token). x.kind) same ∙ opens))
 
   -- two causes are one, out of memory aside
-  pub cause_alone : (e f : EduceError) → IsLexicalCause text e → IsLexicalCause text f → e.kind ≢ Alloc → f.kind ≢ Alloc → e ≡ f
-  cause_alone e f IsLexicalCause.memory also kind kind_also = absurd (kind refl)
-  cause_alone e f cause IsLexicalCause.memory kind kind_also = absurd (kind_also refl)
-  cause_alone e f (IsLexicalCause.not_carried p l k x reads carried is) (IsLexicalCause.not_carried q m j y reads_also carried_also is_also) kind kind_also =
+  pub cause_alone : (e f : EduceError) → IsLexicalCauseWithin 128 text e → IsLexicalCauseWithin 128 text f → e.kind ≢ Alloc → f.kind ≢ Alloc → e ≡ f
+  cause_alone e f IsLexicalCauseWithin.memory also kind kind_also = absurd (kind refl)
+  cause_alone e f cause IsLexicalCauseWithin.memory kind kind_also = absurd (kind_also refl)
+  cause_alone e f (IsLexicalCauseWithin.not_carried p l k x reads carried is) (IsLexicalCauseWithin.not_carried q m j y reads_also carried_also is_also) kind kind_also =
       let one = stops_once text p q (l.spelling ++ x) (m.spelling ++ y) (stops_at_literal text p l k x reads carried is) (stops_at_literal text q m j y reads_also carried_also is_also) in
       let literal = (one_piece l m x y (last_piece text p l x reads).1 (last_piece text q m y reads_also).1 one.1).0 in
       (λ i. not_carried_at (span_at (end_of 0 (one.0 i)) (literal i)) (literal i).spelling)
-  cause_alone e f (IsLexicalCause.not_carried p l k x reads carried is) (IsLexicalCause.no_piece q y reads_also carried_also some none) kind kind_also =
+  cause_alone e f (IsLexicalCauseWithin.not_carried p l k x reads carried is) (IsLexicalCauseWithin.no_piece q y reads_also carried_also some none) kind kind_also =
       absurd (literal_or_none text p q l k x y reads carried is reads_also carried_also none)
-  cause_alone e f (IsLexicalCause.no_piece p x reads carried some none) (IsLexicalCause.not_carried q m j y reads_also carried_also is_also) kind kind_also =
+  cause_alone e f (IsLexicalCauseWithin.no_piece p x reads carried some none) (IsLexicalCauseWithin.not_carried q m j y reads_also carried_also is_also) kind kind_also =
       absurd (literal_or_none text q p m j y x reads_also carried_also is_also reads carried none)
-  cause_alone e f (IsLexicalCause.no_piece p x reads carried some none) (IsLexicalCause.no_piece q y reads_also carried_also some_also none_also) kind kind_also =
+  cause_alone e f (IsLexicalCauseWithin.no_piece p x reads carried some none) (IsLexicalCauseWithin.no_piece q y reads_also carried_also some_also none_also) kind kind_also =
       let one = stops_once text p q x y (stops_at_none text p x reads carried none) (stops_at_none text q y reads_also carried_also none_also) in
       ap (λ ps. syntax_at (last_of (spans 0 ps) (empty_at (length (encode_utf8_all text))))) one.0
-  cause_alone e f (IsLexicalCause.not_carried p l k x reads carried is) (IsLexicalCause.wrong_close b t c o meets none) kind kind_also = absurd (literal_not_read text p l k x (b ++ t ∷ c) reads carried is meets.lexes)
-  cause_alone e f (IsLexicalCause.not_carried p l k x reads carried is) (IsLexicalCause.unclosed ts n o lexes opened shallow) kind kind_also = absurd (literal_not_read text p l k x ts reads carried is lexes)
-  cause_alone e f (IsLexicalCause.not_carried p l k x reads carried is) (IsLexicalCause.too_deep b t c o r meets opens full) kind kind_also = absurd (literal_not_read text p l k x (b ++ t ∷ c) reads carried is meets.lexes)
-  cause_alone e f (IsLexicalCause.no_piece p x reads carried some none) (IsLexicalCause.wrong_close b t c o meets wrong) kind kind_also = absurd (none_not_read text p x (b ++ t ∷ c) reads carried some none meets.lexes)
-  cause_alone e f (IsLexicalCause.no_piece p x reads carried some none) (IsLexicalCause.unclosed ts n o lexes opened shallow) kind kind_also = absurd (none_not_read text p x ts reads carried some none lexes)
-  cause_alone e f (IsLexicalCause.no_piece p x reads carried some none) (IsLexicalCause.too_deep b t c o r meets opens full) kind kind_also = absurd (none_not_read text p x (b ++ t ∷ c) reads carried some none meets.lexes)
-  cause_alone e f (IsLexicalCause.wrong_close b t c o meets wrong) (IsLexicalCause.not_carried p l k x reads carried is) kind kind_also = absurd (literal_not_read text p l k x (b ++ t ∷ c) reads carried is meets.lexes)
-  cause_alone e f (IsLexicalCause.unclosed ts n o lexes opened shallow) (IsLexicalCause.not_carried p l k x reads carried is) kind kind_also = absurd (literal_not_read text p l k x ts reads carried is lexes)
-  cause_alone e f (IsLexicalCause.too_deep b t c o r meets opens full) (IsLexicalCause.not_carried p l k x reads carried is) kind kind_also = absurd (literal_not_read text p l k x (b ++ t ∷ c) reads carried is meets.lexes)
-  cause_alone e f (IsLexicalCause.wrong_close b t c o meets wrong) (IsLexicalCause.no_piece p x reads carried some none) kind kind_also = absurd (none_not_read text p x (b ++ t ∷ c) reads carried some none meets.lexes)
-  cause_alone e f (IsLexicalCause.unclosed ts n o lexes opened shallow) (IsLexicalCause.no_piece p x reads carried some none) kind kind_also = absurd (none_not_read text p x ts reads carried some none lexes)
-  cause_alone e f (IsLexicalCause.too_deep b t c o r meets opens full) (IsLexicalCause.no_piece p x reads carried some none) kind kind_also = absurd (none_not_read text p x (b ++ t ∷ c) reads carried some none meets.lexes)
-  cause_alone e f (IsLexicalCause.unclosed ts n o lexes opened shallow) (IsLexicalCause.unclosed us m p also opened_also shallow_also) kind kind_also = refl
-  cause_alone e f (IsLexicalCause.unclosed ts n o lexes opened shallow) (IsLexicalCause.wrong_close b t c p meets wrong) kind kind_also =
+  cause_alone e f (IsLexicalCauseWithin.not_carried p l k x reads carried is) (IsLexicalCauseWithin.wrong_close b t c o meets none) kind kind_also = absurd (literal_not_read text p l k x (b ++ t ∷ c) reads carried is meets.lexes)
+  cause_alone e f (IsLexicalCauseWithin.not_carried p l k x reads carried is) (IsLexicalCauseWithin.unclosed ts n o lexes opened shallow) kind kind_also = absurd (literal_not_read text p l k x ts reads carried is lexes)
+  cause_alone e f (IsLexicalCauseWithin.not_carried p l k x reads carried is) (IsLexicalCauseWithin.too_deep b t c o r meets opens full) kind kind_also = absurd (literal_not_read text p l k x (b ++ t ∷ c) reads carried is meets.lexes)
+  cause_alone e f (IsLexicalCauseWithin.no_piece p x reads carried some none) (IsLexicalCauseWithin.wrong_close b t c o meets wrong) kind kind_also = absurd (none_not_read text p x (b ++ t ∷ c) reads carried some none meets.lexes)
+  cause_alone e f (IsLexicalCauseWithin.no_piece p x reads carried some none) (IsLexicalCauseWithin.unclosed ts n o lexes opened shallow) kind kind_also = absurd (none_not_read text p x ts reads carried some none lexes)
+  cause_alone e f (IsLexicalCauseWithin.no_piece p x reads carried some none) (IsLexicalCauseWithin.too_deep b t c o r meets opens full) kind kind_also = absurd (none_not_read text p x (b ++ t ∷ c) reads carried some none meets.lexes)
+  cause_alone e f (IsLexicalCauseWithin.wrong_close b t c o meets wrong) (IsLexicalCauseWithin.not_carried p l k x reads carried is) kind kind_also = absurd (literal_not_read text p l k x (b ++ t ∷ c) reads carried is meets.lexes)
+  cause_alone e f (IsLexicalCauseWithin.unclosed ts n o lexes opened shallow) (IsLexicalCauseWithin.not_carried p l k x reads carried is) kind kind_also = absurd (literal_not_read text p l k x ts reads carried is lexes)
+  cause_alone e f (IsLexicalCauseWithin.too_deep b t c o r meets opens full) (IsLexicalCauseWithin.not_carried p l k x reads carried is) kind kind_also = absurd (literal_not_read text p l k x (b ++ t ∷ c) reads carried is meets.lexes)
+  cause_alone e f (IsLexicalCauseWithin.wrong_close b t c o meets wrong) (IsLexicalCauseWithin.no_piece p x reads carried some none) kind kind_also = absurd (none_not_read text p x (b ++ t ∷ c) reads carried some none meets.lexes)
+  cause_alone e f (IsLexicalCauseWithin.unclosed ts n o lexes opened shallow) (IsLexicalCauseWithin.no_piece p x reads carried some none) kind kind_also = absurd (none_not_read text p x ts reads carried some none lexes)
+  cause_alone e f (IsLexicalCauseWithin.too_deep b t c o r meets opens full) (IsLexicalCauseWithin.no_piece p x reads carried some none) kind kind_also = absurd (none_not_read text p x (b ++ t ∷ c) reads carried some none meets.lexes)
+  cause_alone e f (IsLexicalCauseWithin.unclosed ts n o lexes opened shallow) (IsLexicalCauseWithin.unclosed us m p also opened_also shallow_also) kind kind_also = refl
+  cause_alone e f (IsLexicalCauseWithin.unclosed ts n o lexes opened shallow) (IsLexicalCauseWithin.wrong_close b t c p meets wrong) kind kind_also =
       absurd (bad_not_open text ts b t c (n ∷ o) meets.lexes (wrong_is_bad text b t c p meets wrong) lexes opened shallow)
-  cause_alone e f (IsLexicalCause.unclosed ts n o lexes opened shallow) (IsLexicalCause.too_deep b t c p r meets opens full) kind kind_also =
+  cause_alone e f (IsLexicalCauseWithin.unclosed ts n o lexes opened shallow) (IsLexicalCauseWithin.too_deep b t c p r meets opens full) kind kind_also =
       absurd (bad_not_open text ts b t c (n ∷ o) meets.lexes (deep_is_bad text b t c p r meets opens full) lexes opened shallow)
-  cause_alone e f (IsLexicalCause.wrong_close b t c p meets wrong) (IsLexicalCause.unclosed ts n o lexes opened shallow) kind kind_also =
+  cause_alone e f (IsLexicalCauseWithin.wrong_close b t c p meets wrong) (IsLexicalCauseWithin.unclosed ts n o lexes opened shallow) kind kind_also =
       absurd (bad_not_open text ts b t c (n ∷ o) meets.lexes (wrong_is_bad text b t c p meets wrong) lexes opened shallow)
-  cause_alone e f (IsLexicalCause.too_deep b t c p r meets opens full) (IsLexicalCause.unclosed ts n o lexes opened shallow) kind kind_also =
+  cause_alone e f (IsLexicalCauseWithin.too_deep b t c p r meets opens full) (IsLexicalCauseWithin.unclosed ts n o lexes opened shallow) kind kind_also =
       absurd (bad_not_open text ts b t c (n ∷ o) meets.lexes (deep_is_bad text b t c p r meets opens full) lexes opened shallow)
-  cause_alone e f (IsLexicalCause.wrong_close b t c o meets wrong) (IsLexicalCause.wrong_close d u g p also wrong_also) kind kind_also =
+  cause_alone e f (IsLexicalCauseWithin.wrong_close b t c o meets wrong) (IsLexicalCauseWithin.wrong_close d u g p also wrong_also) kind kind_also =
       ap (λ (x : Token). syntax_at x.span) (bad_alone b d t u c g meets.lexes also.lexes (wrong_is_bad text b t c o meets wrong) (wrong_is_bad text d u g p also wrong_also))
-  cause_alone e f (IsLexicalCause.too_deep b t c o r meets opens full) (IsLexicalCause.too_deep d u g p s also opens_also full_also) kind kind_also =
+  cause_alone e f (IsLexicalCauseWithin.too_deep b t c o r meets opens full) (IsLexicalCauseWithin.too_deep d u g p s also opens_also full_also) kind kind_also =
       ap (λ (x : Token). too_deep_at x.span) (bad_alone b d t u c g meets.lexes also.lexes (deep_is_bad text b t c o r meets opens full) (deep_is_bad text d u g p s also opens_also full_also))
-  cause_alone e f (IsLexicalCause.wrong_close b t c o meets wrong) (IsLexicalCause.too_deep d u g p s also opens full) kind kind_also =
+  cause_alone e f (IsLexicalCauseWithin.wrong_close b t c o meets wrong) (IsLexicalCauseWithin.too_deep d u g p s also opens full) kind kind_also =
       absurd (opens_not_wrong t u o s (bad_alone b d t u c g meets.lexes also.lexes (wrong_is_bad text b t c o meets wrong) (deep_is_bad text d u g p s also opens full)) wrong opens)
-  cause_alone e f (IsLexicalCause.too_deep d u g p s also opens full) (IsLexicalCause.wrong_close b t c o meets wrong) kind kind_also =
+  cause_alone e f (IsLexicalCauseWithin.too_deep d u g p s also opens full) (IsLexicalCauseWithin.wrong_close b t c o meets wrong) kind kind_also =
       absurd (opens_not_wrong t u o s (bad_alone b d t u c g meets.lexes also.lexes (wrong_is_bad text b t c o meets wrong) (deep_is_bad text d u g p s also opens full)) wrong opens)

@@ -17,7 +17,7 @@ use Rattle.educe_tokens.specs.declared.span.Span.{Span}
 use Rattle.educe_tokens.specs.declared.token.Token.{Token}
 use Rattle.educe_tokens.specs.declared.error.Kind.TheVariants.{Alloc}
 use Rattle.educe_tokens.specs.Brackets.{same_bracket, open_after, closes, depth_after, nests, kinds, IsShallow}
-use Rattle.educe_tokens.specs.Causes.{empty_at, last_of, open_behind, IsLexicalCause, HasCause}
+use Rattle.educe_tokens.specs.Causes.{empty_at, last_of, open_behind, IsLexicalCause, IsLexicalCauseWithin, HasCause}
 use Rattle.educe_tokens.specs.Lexes.{lexemes, Lexes}
 use Rattle.educe_tokens.specs.Refusals.{syntax_at, not_carried_at}
 use Rattle.educe_tokens.specs.Steps.{IsCauseOfPiece, IsCauseOfKind, IsReading, refusal_of}
@@ -38,7 +38,7 @@ record GoesOn (outer : List Bracket) (kind : TokenKind) : Type 0 where
 -- the token is rejected for another cause than out of memory
 record IsRefused (outer : List Bracket) (kind : TokenKind) : Type 0 where
   pub cause : BracketError
-  pub is_cause : IsCauseOfKind outer kind cause
+  pub is_cause : IsCauseOfKind 128 outer kind cause
   pub is_told : cause ≢ bracket.Alloc
 
 -- a bracket that closes the innermost one, or another
@@ -80,7 +80,7 @@ module _ (text : List ℕ) where
       let ks = kinds (lexemes tokens) in
       inl (tokens, record { lexes = lexes; balanced = sym (ap (closes []) (append-nil ks)) ∙ closes_behind [] [] ks [] opened; shallow = shallow })
   at_end tokens (o ∷ outer) lexes opened shallow =
-      inr (record { error = syntax_at (empty_at (length (encode_utf8_all text))); is_told = λ same. cc; stands = IsLexicalCause.unclosed tokens o outer lexes opened shallow })
+      inr (record { error = syntax_at (empty_at (length (encode_utf8_all text))); is_told = λ same. cc; stands = IsLexicalCauseWithin.unclosed tokens o outer lexes opened shallow })
 
   -- where some tokens are taken, by the others
   brackets_from : (before behind : List Token) (outer : List Bracket) → Lexes text (before ++ behind) → open_behind [] (kinds (lexemes before)) ≡ Some outer → IsShallow (lexemes before) → length outer ≤ 128 → IsDecided

@@ -21,7 +21,7 @@ use Rattle.educe_tokens_pieces.specs.declared.kind.PieceKind.TheVariants.{Blank,
 use Rattle.educe_tokens_scan.specs.Reading.{Piece, front_piece, Reads}
 use Rattle.educe_tokens_scan.specs.Scan.{piece_at}
 use Rattle.educe_tokens_scan.proofs.Readings.{IsFound, found_is, reads_push, fits_none}
-use Rattle.educe_tokens.specs.Causes.{empty_at, last_of, IsLexicalCause}
+use Rattle.educe_tokens.specs.Causes.{empty_at, last_of, IsLexicalCauseWithin}
 use Rattle.educe_tokens.specs.Lexes.{lexeme_of, lexemes, Lexes, is_token, is_carried, are_carried, piece_of, end_of, span_at, spans}
 use Rattle.educe_tokens.specs.Refusals.{syntax_at, not_carried_at, Cites}
 use Rattle.educe_tokens.specs.Steps.{Adds, IsCauseOfPiece}
@@ -133,13 +133,13 @@ module _ (text rest : List ℕ) (old : List Token) (start : ℕ) (kind : PieceKi
   }
 
   -- an unsupported literal is why, or out of memory
-  uncarried : (k : PieceKind) (e : EduceError) → kind ≡ k → IsCauseOfPiece (take n rest) span k e → IsLexicalCause text e
-  uncarried k e is (IsCauseOfPiece.not_carried literal) =
-      subst (λ s. IsLexicalCause text (not_carried_at s (take n rest))) (sym at) (IsLexicalCause.not_carried b.ps p literal (drop n rest) reads b.carried is)
-  uncarried k e is (IsCauseOfPiece.memory own) = IsLexicalCause.memory
+  uncarried : {limit : ℕ} → (k : PieceKind) (e : EduceError) → kind ≡ k → IsCauseOfPiece (take n rest) span k e → IsLexicalCauseWithin limit text e
+  uncarried {limit} k e is (IsCauseOfPiece.not_carried literal) =
+      subst (λ s. IsLexicalCauseWithin limit text (not_carried_at s (take n rest))) (sym at) (IsLexicalCauseWithin.not_carried b.ps p literal (drop n rest) reads b.carried is)
+  uncarried {limit} k e is (IsCauseOfPiece.memory own) = IsLexicalCauseWithin.memory
 
   -- a piece that adds nothing is a cause of rejection of the text
-  pub piece_cause : (e : EduceError) → IsCauseOfPiece (take n rest) span kind e → IsLexicalCause text e
+  pub piece_cause : {limit : ℕ} → (e : EduceError) → IsCauseOfPiece (take n rest) span kind e → IsLexicalCauseWithin limit text e
   piece_cause e cause = uncarried kind e refl cause
 
 -- an unsupported literal is cited, or out of memory is
@@ -217,7 +217,7 @@ module _ (source rest : List ℕ) (old : List Token) (kind : PieceKind) (m : ℕ
       (before_push (chars source) (chars rest) old (length source - length rest) kind f.count span b found starts ends_there new (subst (λ t. Adds kind t span old new) f.front adds))
 
   -- or why it adds nothing
-  pub front_cause : (e : EduceError) → IsCauseOfPiece (chars (take m rest)) span kind e → IsLexicalCause (chars source) e
+  pub front_cause : {limit : ℕ} → (e : EduceError) → IsCauseOfPiece (chars (take m rest)) span kind e → IsLexicalCauseWithin limit (chars source) e
   front_cause e cause =
       piece_cause (chars source) (chars rest) old (length source - length rest) kind f.count span b found starts ends_there e (subst (λ t. IsCauseOfPiece t span kind e) f.front cause)
 
@@ -249,9 +249,9 @@ last_token (t ∷ ts) last other some is =
     last_at t last ts other (is ∙ ap (λ k. get_or (t ∷ ts) k last) index)
 
 -- where no piece is found, and the text doesn't end, it is rejected at the last token
-pub stuck_cause : (text rest : List ℕ) (old : List Token) (start bytes : ℕ) (e : EduceError) → Before text rest old start → 0 < length rest → piece_at rest ≡ None → length (encode_utf8_all text) ≡ bytes
-    → e ≡ syntax_at (last_of (map span_of old) (empty_at bytes)) → IsLexicalCause text e
-stuck_cause text rest old start bytes e b more none long is =
+pub stuck_cause : {limit : ℕ} → (text rest : List ℕ) (old : List Token) (start bytes : ℕ) (e : EduceError) → Before text rest old start → 0 < length rest → piece_at rest ≡ None → length (encode_utf8_all text) ≡ bytes
+    → e ≡ syntax_at (last_of (map span_of old) (empty_at bytes)) → IsLexicalCauseWithin limit text e
+stuck_cause {limit} text rest old start bytes e b more none long is =
     let some : rest ≢ [] = λ empty. omega (arith, more, ap length empty) in
-    let cause = IsLexicalCause.no_piece b.ps rest b.reads b.carried some (fits_none rest none) in
-    subst (IsLexicalCause text) (sym (is ∙ (λ i. syntax_at (last_of (sym b.places i) (empty_at (sym long i)))))) cause
+    let cause = IsLexicalCauseWithin.no_piece b.ps rest b.reads b.carried some (fits_none rest none) in
+    subst (IsLexicalCauseWithin limit text) (sym (is ∙ (λ i. syntax_at (last_of (sym b.places i) (empty_at (sym long i)))))) cause

@@ -11,11 +11,11 @@ use Rattle.educe_tokens_scan.specs.Reading.{Piece, Reads}
 use Rattle.educe_tokens.specs.declared.error.EduceError.{EduceError}
 use Rattle.educe_tokens.specs.declared.span.Span.{Span}
 use Rattle.educe_tokens.specs.declared.token.Token.{Token}
-use Rattle.educe_tokens.specs.Causes.{empty_at, last_of, IsLexicalCause}
+use Rattle.educe_tokens.specs.Causes.{empty_at, last_of, IsLexicalCauseWithin}
 use Rattle.educe_tokens.specs.Lexes.{lexeme_of, lexemes, Lexes, is_token, piece_of, end_of, span_at, spans}
 use Rattle.educe_tokens.specs.Message.{HasWords}
 use Rattle.educe_tokens.specs.Slices.{IsCutOut, IsSlice}
-use Rattle.educe_tokens.specs.Steps.{IsReading}
+use Rattle.educe_tokens.specs.Steps.{IsReadingWithin}
 use Rattle.educe_tokens.proofs.Bytes.{bytes-append}
 use Rattle.educe_tokens.proofs.Lists.{cons_parts, nil_not_cons}
 use Rattle.educe_tokens.proofs.Tokens.{span_of}
@@ -139,9 +139,9 @@ pub tokens_sliced : (source : List ℕ) (tokens : List Token) → IsUtf8 source 
 tokens_sliced source tokens utf8 lexes = each_weaker (TokenLiesAt (chars source)) (IsSlice source) tokens (λ t. span_cut source t.span t.spelling utf8) (tokens_lie (chars source) tokens lexes)
 
 -- each token's span cuts its spelling out of the source, where the answer is no rejection
-pub answer_sliced : (source : List ℕ) (r : Result (List Token) EduceError) → IsUtf8 source → IfOk r (IsReading (chars source)) → IfOk r (λ tokens. AllByRecursion (IsSlice source) tokens)
-answer_sliced source (Ok tokens) utf8 reading = tokens_sliced source tokens utf8 reading.lexes
-answer_sliced source (Err e) utf8 reading = tt
+pub answer_sliced : (limit : ℕ) → (source : List ℕ) (r : Result (List Token) EduceError) → IsUtf8 source → IfOk r (IsReadingWithin limit (chars source)) → IfOk r (λ tokens. AllByRecursion (IsSlice source) tokens)
+answer_sliced limit source (Ok tokens) utf8 reading = tokens_sliced source tokens utf8 reading.lexes
+answer_sliced limit source (Err e) utf8 reading = tt
 
 -- ---- where tokens begin
 
@@ -210,22 +210,22 @@ met_placed source before token behind utf8 lexes =
     each_at (λ (t : Token). IsCharBoundary source t.span.start) before behind token (tokens_placed source (before ++ token ∷ behind) utf8 lexes)
 
 -- each rejection lies where a character begins, or at the end
-pub cause_placed : (source : List ℕ) (e : EduceError) → IsUtf8 source → IsLexicalCause (chars source) e → IsCharBoundary source e.span.start
-cause_placed source e utf8 (IsLexicalCause.not_carried before literal kind rest reads carried is) =
+pub cause_placed : {limit : ℕ} → (source : List ℕ) (e : EduceError) → IsUtf8 source → IsLexicalCauseWithin limit (chars source) e → IsCharBoundary source e.span.start
+cause_placed source e utf8 (IsLexicalCauseWithin.not_carried before literal kind rest reads carried is) =
     let first = reads_first (chars source) rest before (literal ∷ []) reads in
     ends_placed source first.0 before utf8 first.1
-cause_placed source e utf8 (IsLexicalCause.no_piece before rest reads carried some none) =
+cause_placed source e utf8 (IsLexicalCauseWithin.no_piece before rest reads carried some none) =
     last_placed source [] (chars source) rest 0 before (empty_at (length (encode_utf8_all (chars source)))) utf8 refl refl reads (end_placed source utf8)
-cause_placed source e utf8 (IsLexicalCause.wrong_close before token behind outer meets none) = met_placed source before token behind utf8 meets.lexes
-cause_placed source e utf8 (IsLexicalCause.unclosed tokens innermost outer lexes opened shallow) = end_placed source utf8
-cause_placed source e utf8 (IsLexicalCause.too_deep before token behind outer b meets opens full) = met_placed source before token behind utf8 meets.lexes
-cause_placed source e utf8 IsLexicalCause.memory = IsCharBoundary-start source utf8
+cause_placed source e utf8 (IsLexicalCauseWithin.wrong_close before token behind outer meets none) = met_placed source before token behind utf8 meets.lexes
+cause_placed source e utf8 (IsLexicalCauseWithin.unclosed tokens innermost outer lexes opened shallow) = end_placed source utf8
+cause_placed source e utf8 (IsLexicalCauseWithin.too_deep before token behind outer b meets opens full) = met_placed source before token behind utf8 meets.lexes
+cause_placed source e utf8 IsLexicalCauseWithin.memory = IsCharBoundary-start source utf8
 
 -- each rejection has the words of its kind
-pub cause_words : (text : List ℕ) (e : EduceError) → IsLexicalCause text e → HasWords e.kind e.words
-cause_words text e (IsLexicalCause.not_carried before literal kind rest reads carried is) = refl
-cause_words text e (IsLexicalCause.no_piece before rest reads carried some none) = refl
-cause_words text e (IsLexicalCause.wrong_close before token behind outer meets none) = refl
-cause_words text e (IsLexicalCause.unclosed tokens innermost outer lexes opened shallow) = refl
-cause_words text e (IsLexicalCause.too_deep before token behind outer b meets opens full) = refl
-cause_words text e IsLexicalCause.memory = refl
+pub cause_words : {limit : ℕ} → (text : List ℕ) (e : EduceError) → IsLexicalCauseWithin limit text e → HasWords e.kind e.words
+cause_words text e (IsLexicalCauseWithin.not_carried before literal kind rest reads carried is) = refl
+cause_words text e (IsLexicalCauseWithin.no_piece before rest reads carried some none) = refl
+cause_words text e (IsLexicalCauseWithin.wrong_close before token behind outer meets none) = refl
+cause_words text e (IsLexicalCauseWithin.unclosed tokens innermost outer lexes opened shallow) = refl
+cause_words text e (IsLexicalCauseWithin.too_deep before token behind outer b meets opens full) = refl
+cause_words text e IsLexicalCauseWithin.memory = refl

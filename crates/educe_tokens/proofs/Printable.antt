@@ -124,7 +124,7 @@ word_spelled (c ∷ cs) h =
     split (is_name_start c) refl
 
 -- the tokens of words of a template
-words_spelled : (words : List (List ℕ)) → list_all is_template_word words ≡ true → Spelled (flat_map word_lexemes words)
+pub words_spelled : (words : List (List ℕ)) → list_all is_template_word words ≡ true → Spelled (flat_map word_lexemes words)
 words_spelled [] h = refl
 words_spelled (word ∷ words) h =
     let parts = and_parts (is_template_word word) _ h in

@@ -53,6 +53,10 @@ kinds found = map (λ lexeme. lexeme.kind) found
 abbrev pub IsBalanced : List Lexeme → Type 0
 IsBalanced found = IsTrue (closes [] (kinds found))
 
+-- At most this many brackets are open at once.
+abbrev pub NestsWithin : ℕ → List Lexeme → Type 0
+NestsWithin limit found = IsTrue (nests limit 0 (kinds found))
+
 -- At most `NESTING` brackets are open at once.
 abbrev pub IsShallow : List Lexeme → Type 0
-IsShallow found = IsTrue (nests NESTING 0 (kinds found))
+IsShallow found = NestsWithin NESTING found

@@ -2,7 +2,7 @@
 use Rattle.std.specs.Prelude.{◌≡◌, ◌<◌, ℕ, List, [], ◌∷◌, ◌++◌, length, map, codes, encode_utf8_all}
 use Rattle.std.specs.Fmt.{signed_decimal}
 use Rattle.educe_tokens.specs.declared.error.Kind.{Kind}
-use Rattle.educe_tokens.specs.declared.error.Kind.TheVariants.{Syntax, TooDeep, NotCarried, DuplicateName, DeriveAttributeNotSetUpYet, EduceFormatIncorrect, UnsupportedTrait, ReuseATrait, TraitNotUsed, AttributeIncorrectPlace, AttributeIncorrectFormat, ParameterReset, ExpectedValue, ReuseARank, UnitStructNeedName, UnitVariantNeedName, UnitEnumNeedName, MultipleDefaultVariants, NoDefaultVariant, Alloc}
+use Rattle.educe_tokens.specs.declared.error.Kind.TheVariants.{Syntax, TooDeep, NotCarried, DuplicateName, DeriveAttributeNotSetUpYet, EduceFormatIncorrect, UnsupportedTrait, ReuseATrait, TraitNotUsed, AttributeIncorrectPlace, AttributeIncorrectFormat, ParameterReset, ExpectedValue, ReuseARank, UnitStructNeedName, UnitVariantNeedName, UnitEnumNeedName, MultipleDefaultVariants, NoDefaultVariant, Alloc, BadParts, NotGenerated, BadTable, BadValues, BadRows, OrdNotListed, MethodField, KeyUnknown}
 
 -- The words of the rejection for an `educe` attribute of a type that is no list.
 abbrev pub educe_format : List (List ℕ)
@@ -30,6 +30,14 @@ HasWords UnitEnumNeedName words = words ≡ []
 HasWords MultipleDefaultVariants words = words ≡ []
 HasWords NoDefaultVariant words = words ≡ []
 HasWords Alloc words = words ≡ []
+HasWords BadParts words = length words ≡ 1
+HasWords NotGenerated words = words ≡ []
+HasWords BadTable words = words ≡ []
+HasWords BadValues words = words ≡ []
+HasWords BadRows words = words ≡ []
+HasWords OrdNotListed words = words ≡ []
+HasWords MethodField words = length words ≡ 1
+HasWords KeyUnknown words = words ≡ []
 
 -- The first of the words.
 abbrev pub first_word : List (List ℕ) → List ℕ
@@ -80,3 +88,11 @@ message_of UnitEnumNeedName words = codes "a unit enum needs to have a name"
 message_of MultipleDefaultVariants words = codes "multiple default variants are set"
 message_of NoDefaultVariant words = codes "there is no variant set as default"
 message_of Alloc words = []
+message_of BadParts words = around (codes "expected the parts ") words []
+message_of NotGenerated words = codes "the text is no generated text"
+message_of BadTable words = codes "the table has no reading"
+message_of BadValues words = codes "the values have no reading"
+message_of BadRows words = codes "the rows have no reading"
+message_of OrdNotListed words = codes "the trait `Ord` is not used"
+message_of MethodField words = around (codes "the method `") words (codes "` is not known")
+message_of KeyUnknown words = codes "the discriminant is not known"

@@ -14,7 +14,7 @@ use Rattle.educe_tokens.specs.declared.error.Kind.TheVariants.{Alloc}
 use Rattle.educe_tokens.specs.declared.span.Span.{Span}
 use Rattle.educe_tokens.specs.declared.token.Token.{Token}
 use Rattle.educe_tokens.specs.Lexes.{lexemes, Lexes}
-use Rattle.educe_tokens.specs.Brackets.{open_after, IsBalanced, IsShallow}
+use Rattle.educe_tokens.specs.Brackets.{open_after, IsBalanced, NestsWithin}
 use Rattle.educe_tokens.specs.Refusals.{placeless, syntax_at, too_deep_at, not_carried_at}
 
 -- What a piece adds to the tokens: a blank or a comment adds nothing, and an unsupported literal is never added.
@@ -29,11 +29,12 @@ pub data IsCauseOfPiece (spelling : List ℕ) (span : Span) : PieceKind → Educ
   not_carried : (kind : UncarriedKind) → IsCauseOfPiece spelling span (Uncarried kind) (not_carried_at span spelling)
   memory : (kind : PieceKind) → IsCauseOfPiece spelling span kind (placeless Alloc)
 
--- The cause for which one more token is rejected where these brackets are open, innermost first.
-abbrev pub IsCauseOfKind : List Bracket → TokenKind → BracketError → Type 0
-IsCauseOfKind outer kind bracket.WrongClose = open_after outer kind ≡ None
-IsCauseOfKind outer kind bracket.TooDeep = (b : Bracket) × (kind ≡ Start b) × (length outer ≡ NESTING)
-IsCauseOfKind outer kind bracket.Alloc = Unit {0}
+-- The cause for which one more token is rejected where at most so many brackets may be open, and these are, innermost
+-- first.
+abbrev pub IsCauseOfKind : ℕ → List Bracket → TokenKind → BracketError → Type 0
+IsCauseOfKind limit outer kind bracket.WrongClose = open_after outer kind ≡ None
+IsCauseOfKind limit outer kind bracket.TooDeep = (b : Bracket) × (kind ≡ Start b) × (length outer ≡ limit)
+IsCauseOfKind limit outer kind bracket.Alloc = Unit {0}
 
 -- The rejection that a bracket error becomes at this place.
 abbrev pub refusal_of : BracketError → Span → EduceError
@@ -41,8 +42,12 @@ refusal_of bracket.WrongClose place = syntax_at place
 refusal_of bracket.TooDeep place = too_deep_at place
 refusal_of bracket.Alloc place = placeless Alloc
 
--- The tokens are those of the text, and their brackets close in order and within the limit on nesting.
-pub record IsReading (text : List ℕ) (tokens : List Token) : Type 0 where
+-- The tokens are those of the text, and their brackets close in order and within this limit on nesting.
+pub record IsReadingWithin (limit : ℕ) (text : List ℕ) (tokens : List Token) : Type 0 where
   pub lexes : Lexes text tokens
   pub balanced : IsBalanced (lexemes tokens)
-  pub shallow : IsShallow (lexemes tokens)
+  pub shallow : NestsWithin limit (lexemes tokens)
+
+-- The tokens are those of the text, and their brackets close in order, at most `NESTING` deep.
+abbrev pub IsReading : List ℕ → List Token → Type 0
+IsReading text = IsReadingWithin NESTING text

@@ -59,6 +59,25 @@ pub enum Kind {
     NoDefaultVariant,
     /// Out of memory.
     Alloc,
+    /// An input of several parts does not have the marks of its command, once each and in order,
+    /// with the first of them at its start. The one word is the names of the parts, joined by a comma and
+    /// a blank; the place is the whole input.
+    BadParts,
+    /// A part is no text that the expansion of a definition could write. The place is the part.
+    NotGenerated,
+    /// A part has no reading as a table of answers. The place is the part.
+    BadTable,
+    /// A part has no reading as two values of the definition. The place is the part.
+    BadValues,
+    /// A part has no reading as rows of values of the definition. The place is the part.
+    BadRows,
+    /// The definition does not list `Ord`. The place is the name of the type.
+    OrdNotListed,
+    /// A field that `Ord` keeps has a method, whose path is the one word. The place is the field.
+    MethodField,
+    /// The number of a discriminant is not known, out of the range of its type, or that of an earlier
+    /// variant. The place is the variant.
+    KeyUnknown,
 }
 
 /// A rejection: its kind, its place, and the words that its message cites.
@@ -141,6 +160,12 @@ fn wordless_message(alloc: Global, kind: Kind) -> Result<String, AllocError>
             String::from_str(alloc, "multiple default variants are set")
         }
         Kind::NoDefaultVariant => String::from_str(alloc, "there is no variant set as default"),
+        Kind::NotGenerated => String::from_str(alloc, "the text is no generated text"),
+        Kind::BadTable => String::from_str(alloc, "the table has no reading"),
+        Kind::BadValues => String::from_str(alloc, "the values have no reading"),
+        Kind::BadRows => String::from_str(alloc, "the rows have no reading"),
+        Kind::OrdNotListed => String::from_str(alloc, "the trait `Ord` is not used"),
+        Kind::KeyUnknown => String::from_str(alloc, "the discriminant is not known"),
         _ => unreachable!(),
     }
 }
@@ -172,6 +197,8 @@ fn worded_message(
             around(alloc, "you are trying to reset the `", word, "` parameter")
         }
         Kind::ExpectedValue => String::from_str(alloc, word),
+        Kind::BadParts => around(alloc, "expected the parts ", word, ""),
+        Kind::MethodField => around(alloc, "the method `", word, "` is not known"),
         _ => unreachable!(),
     }
 }

@@ -5,10 +5,10 @@ ghost use Rattle.educe_tokens.specs.Appends.{Appends, AppendsAt, AppendsNowhere,
 ghost use Rattle.educe_tokens.specs.Quote.{word_lexeme};
 ghost use Rattle.educe_tokens.specs.WrittenLexemes.{written_lexemes};
 
-use crate::copied::copied_token;
 use crate::span::Span;
 use crate::spelling::Spelling;
-use crate::token::{Token, TokenStream};
+use crate::stream::TokenStream;
+use crate::token::Token;
 use crate::word::Word;
 use crate::written::Written;
 use educe_tokens_pieces::TokenKind;
@@ -16,7 +16,7 @@ use std::alloc::{AllocError, Global};
 
 /// Appends copies of tokens as they were written, their spans kept.
 pub fn append_written(
-    alloc: Global,
+    _alloc: Global,
     tokens: &mut TokenStream,
     written: &Written,
 ) -> Result<(), AllocError>
@@ -24,12 +24,8 @@ pub fn append_written(
     ensures places { OnOk result (AppendsAt (map (λ t. t.span) written.now.tokens) tokens.old tokens.new) }
     ensures prefix { HasPrefix tokens.old tokens.new }
 {
-    let mut rest = written.tokens.as_slice();
-    while let [first, behind @ ..] = rest {
-        tokens.push(copied_token(alloc, first, behind)?)?;
-        rest = behind;
-    }
-    Ok(())
+    let written = written.duplicate()?;
+    tokens.push_written(written)
 }
 
 /// Appends the one token that a word is, whose span is `Span::NONE`.

@@ -1,30 +1,30 @@
 //! The lexer: from a text to its tokens.
-ghost use Rattle.std.specs.Prelude.{◌≡◌, ◌<◌, ◌≤◌, ◌^◌, ◌⊎◌, length, map, IfOk, IfErr, OnOk, chars, encode_utf8_all, IsTrue, List};
+ghost use Rattle.std.specs.Prelude.{◌≡◌, ◌<◌, ◌≤◌, ◌^◌, ◌⊎◌, length, map, IfOk, IfErr, OnOk, chars, encode_utf8_all, IsTrue, List, ℕ};
 ghost use Rattle.std.specs.List.{AllByRecursion};
 ghost use Rattle.std.specs.Str.{IsCharBoundary};
 ghost use Rattle.educe_tokens_pieces.specs.Pieces.{is_piece};
 ghost use Rattle.educe_tokens.specs.Lexes.{Lexeme, Lexes, LexesAside, lexemes};
-ghost use Rattle.educe_tokens.specs.Brackets.{kinds, IsBalanced, IsShallow};
+ghost use Rattle.educe_tokens.specs.Brackets.{kinds, IsBalanced, IsShallow, NestsWithin};
 ghost use Rattle.educe_tokens.specs.Text.{puncts_join};
-ghost use Rattle.educe_tokens.specs.Causes.{empty_at, last_of, IsLexicalCause, Gives};
+ghost use Rattle.educe_tokens.specs.Causes.{empty_at, last_of, IsLexicalCause, IsLexicalCauseWithin, Gives};
 ghost use Rattle.educe_tokens.specs.Slices.{IsPlace, IsSlice, cut_out};
-ghost use Rattle.educe_tokens.specs.Steps.{Adds, IsCauseOfPiece, IsReading};
+ghost use Rattle.educe_tokens.specs.Steps.{Adds, IsCauseOfPiece, IsReadingWithin};
 ghost use Rattle.educe_tokens.specs.Message.{HasWords};
 ghost use Rattle.educe_tokens.specs.declared.token.Token.{Token};
 
-use crate::brackets::check_brackets;
+use crate::brackets::{NESTING, check_brackets};
 use crate::error::{EduceError, Kind};
 use crate::seq::Seq;
 use crate::span::{SOURCE_LIMIT, Span};
 use crate::spelling::Spelling;
-use crate::token::{Token, TokenStream};
+use crate::token::Token;
 use educe_tokens_pieces::{PieceKind, TokenKind, UncarriedKind, behind_blanks};
 use educe_tokens_scan::next_piece;
 use std::alloc::{AllocError, Global};
 
 /// Adds the token of this kind that lies there.
 fn push_token(
-    tokens: &mut TokenStream,
+    tokens: &mut Seq<Token>,
     kind: TokenKind,
     source: &Spelling,
     span: Span,
@@ -55,7 +55,7 @@ fn not_carried(alloc: Global, kind: UncarriedKind, source: &Spelling, span: Span
 /// Adds the piece that lies there, if it is a token: a blank and a comment are none.
 fn push_piece(
     alloc: Global,
-    tokens: &mut TokenStream,
+    tokens: &mut Seq<Token>,
     kind: PieceKind,
     source: &Spelling,
     span: Span,
@@ -92,11 +92,11 @@ fn last_place(tokens: &[Token], end: u32) -> Span
 /// The tokens among the pieces of a source, each a part of the shared text, which is the same. It
 /// is rejected where no piece fits, at the last token before, or at an unsupported literal,
 /// whichever comes first. Blanks are skipped in one step.
-fn token_pieces(alloc: Global, source: &str, shared: &Spelling) -> Result<TokenStream, EduceError>
+fn token_pieces(alloc: Global, source: &str, shared: &Spelling) -> Result<Seq<Token>, EduceError>
     requires limit { length source.now ≤ SOURCE_LIMIT }
     requires shared { shared.now ≡ chars source.now }
     ensures lexes { IfOk result (λ tokens. Lexes (chars source.now) tokens) }
-    ensures err { IfErr result (λ e. IsLexicalCause (chars source.now) e) }
+    ensures err { IfErr result (λ e. (nesting : ℕ) → IsLexicalCauseWithin nesting (chars source.now) e) }
 {
     let mut tokens = Seq::new(alloc);
     let mut rest = behind_blanks(source);
@@ -117,18 +117,52 @@ fn token_pieces(alloc: Global, source: &str, shared: &Spelling) -> Result<TokenS
     Ok(tokens)
 }
 
-/// The tokens of a text whose brackets close in order, not too deep.
-fn checked_tokens(alloc: Global, source: &str) -> Result<TokenStream, EduceError>
+/// The tokens of a text whose brackets close in order, at most `nesting` of them open at once.
+fn checked_tokens(alloc: Global, source: &str, nesting: u32) -> Result<Seq<Token>, EduceError>
     requires { length source.now ≤ SOURCE_LIMIT }
-    ensures ok { IfOk result (λ tokens. IsReading (chars source.now) tokens) }
-    ensures err { IfErr result (λ e. IsLexicalCause (chars source.now) e) }
+    ensures ok { IfOk result (λ tokens. IsReadingWithin nesting (chars source.now) tokens) }
+    ensures err { IfErr result (λ e. IsLexicalCauseWithin nesting (chars source.now) e) }
 {
     let Ok(shared) = Spelling::from_str(alloc, source) else {
         return Err(EduceError::alloc(alloc));
     };
     let tokens = token_pieces(alloc, source, &shared)?;
-    check_brackets(alloc, &tokens, source.len() as u32)?;
+    check_brackets(alloc, &tokens, source.len() as u32, nesting)?;
     Ok(tokens)
+}
+
+/// The tokens of a text as `lex` reads it, with this limit on the brackets that are open at once in
+/// place of 128.
+pub fn lex_within(alloc: Global, source: &str, nesting: u32) -> Result<Seq<Token>, EduceError>
+    requires { length source.now ≤ SOURCE_LIMIT }
+    ensures lexes { IfOk result (λ tokens. Lexes (chars source.now) tokens) }
+    ensures balanced { IfOk result (λ tokens. IsBalanced (lexemes tokens)) }
+    ensures shallow { IfOk result (λ tokens. NestsWithin nesting (lexemes tokens)) }
+    ensures joined { IfOk result (λ tokens. IsTrue (puncts_join (kinds (lexemes tokens)))) }
+    ensures few { IfOk result (λ tokens. length tokens ≤ length source.now) }
+    // Each span cuts the token's spelling out of the source.
+    ensures slices { IfOk result (λ tokens. AllByRecursion (IsSlice source.now) tokens) }
+    ensures err { IfErr result (λ e. IsLexicalCauseWithin nesting (chars source.now) e) }
+    // The words are those that the message needs, and the place begins at a character or at the end.
+    ensures words { IfErr result (λ e. HasWords e.kind e.words) }
+    ensures place { IfErr result (λ e. IsCharBoundary source.now e.span.start) }
+    // A text that lexes has no cause of rejection.
+    ensures uncaused { IfOk result (λ _. (e : EduceError) → IsLexicalCauseWithin nesting (chars source.now) e → e.kind ≡ Kind.Alloc) }
+    // Where the text has such tokens, the result is these tokens or out of memory: there is no
+    // other reading, and no other rejection.
+    ensures only { (tokens : List Token) → Lexes (chars source.now) tokens →
+        IsBalanced (lexemes tokens) → NestsWithin nesting (lexemes tokens) → Gives result tokens }
+    // A printed text is read back.
+    ensures back { (found : List Lexeme) → LexesAside (chars source.now) found →
+        IsBalanced found → NestsWithin nesting found →
+        IfOk result (λ tokens. lexemes tokens ≡ found) × IfErr result (λ e. e.kind ≡ Kind.Alloc) }
+    // A text whose brackets close in order and nest deeper is rejected for that, unless memory fails.
+    ensures deep { (found : List Lexeme) → LexesAside (chars source.now) found →
+        IsBalanced found → (NestsWithin nesting found → ⊥) →
+        IfOk result (λ _. ⊥) ×
+        IfErr result (λ e. (e.kind ≡ Kind.TooDeep) ⊎ (e.kind ≡ Kind.Alloc)) }
+{
+    checked_tokens(alloc, source, nesting)
 }
 
 /// The tokens of a text (Rust Reference, Lexical structure), whose brackets close in order, at most
@@ -142,7 +176,7 @@ fn checked_tokens(alloc: Global, source: &str) -> Result<TokenStream, EduceError
 /// - brackets are open at the end (`Syntax`, empty at the end of the text).
 ///
 /// Out of memory (`Alloc`) has no place.
-pub fn lex(alloc: Global, source: &str) -> Result<TokenStream, EduceError>
+pub fn lex(alloc: Global, source: &str) -> Result<Seq<Token>, EduceError>
     requires { length source.now ≤ SOURCE_LIMIT }
     ensures lexes { IfOk result (λ tokens. Lexes (chars source.now) tokens) }
     ensures balanced { IfOk result (λ tokens. IsBalanced (lexemes tokens)) }
@@ -171,5 +205,5 @@ pub fn lex(alloc: Global, source: &str) -> Result<TokenStream, EduceError>
         IfOk result (λ _. ⊥) ×
         IfErr result (λ e. (e.kind ≡ Kind.TooDeep) ⊎ (e.kind ≡ Kind.Alloc)) }
 {
-    checked_tokens(alloc, source)
+    lex_within(alloc, source, NESTING as u32)
 }

@@ -12,6 +12,9 @@ pub struct Seq<T> {
     items: Vec<T>,
 }
 
+/// A list of numbers, such as indices.
+pub type Numbers = Seq<usize>;
+
 impl<T> Model for Seq<T> {
     ghost use Rattle.std.specs.Prelude.{List};
     ghost use Rattle.std.specs.Coded.{coded_list};
@@ -77,6 +80,15 @@ impl<T> Seq<T> {
     {
         self.items.push(item)?;
         Ok(())
+    }
+
+    /// Removes the last item and returns it; the empty list stays empty.
+    pub fn pop(&mut self) -> Option<T>
+        ensures some { IfSome result (λ item. self.old ≡ self.new ++ item ∷ []) }
+        ensures none { IfNone result (self.old ≡ []) }
+        ensures empty { IfNone result (self.new ≡ []) }
+    {
+        self.items.pop()
     }
 
     /// Drops all items, and keeps the memory for others.

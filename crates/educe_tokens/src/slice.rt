@@ -1,7 +1,8 @@
 //! Parts of token lists that several owners share.
 ghost use Rattle.std.specs.Prelude.{◌≡◌, ◌-◌, ◌==◌, ◌≤◌, IfOk, length, take, drop};
 
-use crate::token::{Token, TokenStream};
+use crate::seq::Seq;
+use crate::token::Token;
 use std::alloc::{AllocError, Global};
 use std::marker::Model;
 use std::rc::Rc;
@@ -10,7 +11,7 @@ use std::rc::Rc;
 /// neither the list around it nor who shares it.
 #[derive(Drop)]
 pub struct TokenSlice {
-    list: Rc<TokenStream>,
+    list: Rc<Seq<Token>>,
     start: usize,
     end: usize,
 }
@@ -29,7 +30,7 @@ impl Model for TokenSlice {
 
 impl TokenSlice {
     /// A slice of all tokens of a list, which is moved.
-    pub fn new(alloc: Global, tokens: TokenStream) -> Result<TokenSlice, AllocError>
+    pub fn new(alloc: Global, tokens: Seq<Token>) -> Result<TokenSlice, AllocError>
         ensures { IfOk result (λ slice. slice ≡ tokens) }
     {
         let end = tokens.len();
@@ -59,7 +60,7 @@ impl TokenSlice {
     pub fn as_slice(&self) -> &[Token]
         ensures { result.now ≡ self.now }
     {
-        let tokens: &TokenStream = &self.list;
+        let tokens: &Seq<Token> = &self.list;
         &tokens.as_slice()[self.start..self.end]
     }
 

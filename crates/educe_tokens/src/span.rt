@@ -1,6 +1,6 @@
 //! Places in a source.
-ghost use Rattle.std.specs.Prelude.{◌≡◌, ◌≤◌, length};
-ghost use Rattle.educe_tokens.specs.Span.{line_of, column_of};
+ghost use Rattle.std.specs.Prelude.{◌≡◌, ◌+◌, ◌^◌, ◌<◌, ◌≤◌, length};
+ghost use Rattle.educe_tokens.specs.Span.{line_of, column_of, shifted};
 ghost use Rattle.std.specs.Str.{IsCharBoundary};
 
 /// The limit on the size of a source, in bytes.
@@ -16,6 +16,18 @@ pub struct Span {
 impl Span {
     /// The span of no place: that of generated tokens, and of a rejection that has no place.
     pub const NONE: Span = Span { start: 0, end: 0 };
+
+    /// The span of the same length that begins and ends so many bytes later.
+    pub fn shifted(self, by: u32) -> Span
+        requires start { self.start + by < 2 ^ 32 }
+        requires end { self.end + by < 2 ^ 32 }
+        ensures { result ≡ shifted by self }
+    {
+        Span {
+            start: self.start + by,
+            end: self.end + by,
+        }
+    }
 
     /// The line and the column of the start, both counted from 1: a line ends at a line feed, a
     /// column is a character.

@@ -4,18 +4,38 @@ ghost use Rattle.educe_tokens_pieces.specs.Pieces.{spells};
 ghost use Rattle.educe_tokens.specs.Appends.{Appends, AppendsNowhere, HasPrefix};
 ghost use Rattle.educe_tokens.specs.Quote.{is_name_start, mark_kind, word_lexemes, is_template_word, quoted, is_template};
 
-use crate::growing::push_spelled;
+use crate::kept_template::KeptTemplate;
+use crate::seq::Seq;
+use crate::span::Span;
 use crate::spelling::Spelling;
-use crate::token::TokenStream;
+use crate::stream::TokenStream;
+use crate::token::Token;
 use educe_tokens_pieces::{Bracket, TokenKind};
 use std::alloc::{AllocError, Global};
 
 /// Appends the tokens of a template, whose spans are `Span::NONE`.
-pub fn quote(alloc: Global, tokens: &mut TokenStream, template: &str) -> Result<(), AllocError>
+pub fn quote(
+    _alloc: Global,
+    tokens: &mut TokenStream,
+    template: &'static str,
+) -> Result<(), AllocError>
     requires { IsTrue (is_template template.now) }
     ensures ok { OnOk result (Appends (quoted template.now) tokens.old tokens.new) }
     ensures nowhere { OnOk result (AppendsNowhere tokens.old tokens.new) }
     ensures prefix { HasPrefix tokens.old tokens.new }
+{
+    tokens.push_template(KeptTemplate { text: template })
+}
+
+/// Appends the tokens of a template one by one, whose spans are `Span::NONE`.
+pub(crate) fn push_words(
+    alloc: Global,
+    tokens: &mut Seq<Token>,
+    template: &str,
+) -> Result<(), AllocError>
+    requires { IsTrue (is_template template.now) }
+    ensures ok { OnOk result (Appends (quoted template.now) tokens.old tokens.new) }
+    ensures nowhere { OnOk result (AppendsNowhere tokens.old tokens.new) }
 {
     for word in template.split(' ') {
         quote_word(alloc, tokens, word)?;
@@ -24,7 +44,7 @@ pub fn quote(alloc: Global, tokens: &mut TokenStream, template: &str) -> Result<
 }
 
 /// Appends the tokens of a word of a template.
-fn quote_word(alloc: Global, tokens: &mut TokenStream, word: &str) -> Result<(), AllocError>
+fn quote_word(alloc: Global, tokens: &mut Seq<Token>, word: &str) -> Result<(), AllocError>
     requires { IsTrue (is_template_word word.now) }
     ensures ok { OnOk result (Appends (word_lexemes word.now) tokens.old tokens.new) }
     ensures nowhere { OnOk result (AppendsNowhere tokens.old tokens.new) }
@@ -46,7 +66,7 @@ fn quote_word(alloc: Global, tokens: &mut TokenStream, word: &str) -> Result<(),
 /// Appends the token of this kind that the text spells.
 fn push_text(
     alloc: Global,
-    tokens: &mut TokenStream,
+    tokens: &mut Seq<Token>,
     kind: TokenKind,
     text: &str,
 ) -> Result<(), AllocError>
@@ -55,7 +75,13 @@ fn push_text(
     ensures nowhere { OnOk result (AppendsNowhere tokens.old tokens.new) }
     ensures prefix { HasPrefix tokens.old tokens.new }
 {
-    push_spelled(tokens, kind, Spelling::from_str(alloc, text)?)
+    let spelling = Spelling::from_str(alloc, text)?;
+    let span = Span::NONE;
+    tokens.push(Token {
+        kind,
+        span,
+        spelling,
+    })
 }
 
 /// Whether a word that begins with this byte is an identifier.

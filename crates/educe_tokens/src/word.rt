@@ -5,6 +5,7 @@ ghost use Rattle.educe_tokens_pieces.specs.Chars.{begins};
 ghost use Rattle.educe_tokens_pieces.specs.Pieces.{is_name_or_index};
 ghost use Rattle.educe_tokens.specs.Quote.{is_ascii_name, word_lexeme};
 
+use crate::seq::Seq;
 use crate::spelling::Spelling;
 use educe_tokens_pieces::{LiteralKind, TokenKind};
 use std::alloc::{AllocError, Global};
@@ -15,6 +16,9 @@ pub struct Word {
     pub text: Spelling,
     pub ghost spelled: { IsTrue (is_name_or_index text) },
 }
+
+/// Names in their order.
+pub type Names = Seq<Word>;
 
 impl Word {
     /// The text as a word.

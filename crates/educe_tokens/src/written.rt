@@ -6,8 +6,8 @@ ghost use Rattle.educe_tokens.specs.Text.{is_written};
 ghost use Rattle.educe_tokens.specs.Lexes.{lexemes};
 ghost use Rattle.educe_tokens.specs.Quote.{quoted, is_template};
 
-use crate::seq::Seq;
 use crate::slice::TokenSlice;
+use crate::stream::TokenStream;
 use crate::template::quote;
 use std::alloc::{AllocError, Global};
 
@@ -29,16 +29,16 @@ impl Written {
     }
 
     /// The tokens of a template that stands for itself, whose spans are `Span::NONE`.
-    pub fn from_template(alloc: Global, template: &str) -> Result<Written, AllocError>
+    pub fn from_template(alloc: Global, template: &'static str) -> Result<Written, AllocError>
         requires is_template { IsTrue (is_template template.now) }
         requires written { IsTrue (is_written (quoted template.now)) }
         ensures quoted { IfOk result (λ written. lexemes written.tokens ≡ quoted template.now) }
         ensures printed { IfOk result (λ written. copied (lexemes written.tokens) ≡ quoted template.now) }
         ensures nowhere { IfOk result (λ written. LieNowhere written.tokens) }
     {
-        let mut tokens = Seq::new(alloc);
+        let mut tokens = TokenStream::new(alloc);
         quote(alloc, &mut tokens, template)?;
-        let tokens = TokenSlice::new(alloc, tokens)?;
+        let tokens = tokens.into_slice(alloc)?;
         Ok(Written { tokens })
     }
 

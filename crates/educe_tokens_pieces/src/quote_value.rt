@@ -22,8 +22,11 @@ fn push_given(value: &mut String, given: Option<char>) -> Result<(), AllocError>
 /// up to the first error. Fails only when out of memory (Rust Reference, String literals).
 pub fn str_value(alloc: Global, literal: &str) -> Result<String, AllocError>
     ensures given { IfOk result (λ s. chars (string_bytes s) ≡ given (Within.Open Quote.Str) (drop 1 (chars literal.now))) }
-    ensures value { IfOk result (λ s. (parts : List Part) → IsBody Quote.Str (drop 1 (chars literal.now)) parts → chars (string_bytes s) ≡ value_of parts) }
-    ensures parts { IsTrue (is_str (chars literal.now)) → IfOk result (λ s. (parts : List Part) × IsBody Quote.Str (drop 1 (chars literal.now)) parts × (chars (string_bytes s) ≡ value_of parts)) }
+    ensures value { IfOk result (λ s. (parts : List Part) → IsBody Quote.Str (drop 1 (chars literal.now)) parts →
+        chars (string_bytes s) ≡ value_of parts) }
+    ensures parts { IsTrue (is_str (chars literal.now)) →
+        IfOk result (λ s. (parts : List Part) × IsBody Quote.Str (drop 1 (chars literal.now)) parts ×
+        (chars (string_bytes s) ≡ value_of parts)) }
 {
     let mut value = String::new(alloc);
     let mut within = Within::Open(Quote::Str);

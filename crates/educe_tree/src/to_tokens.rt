@@ -9,7 +9,7 @@ ghost use Rattle.educe_tokens.specs.WrittenLexemes.{written_lexemes};
 ghost use Rattle.educe_tokens.specs.declared.written.Written.{Written};
 ghost use Rattle.educe_tokens.proofs.Printable.{printable-written, well_formed_from, ends_apart_from, lexes_back_from};
 
-use educe_tokens::{Seq, TokenStream, Written, append_written, text};
+use educe_tokens::{TokenStream, Written, append_written, text};
 use std::alloc::{AllocError, Global};
 
 /// A value that is printed as tokens, which may stand side by side with those of other values.
@@ -68,7 +68,7 @@ pub fn text_of_tree<T: ToTokens>(alloc: Global, tree: &T) -> Result<String, Allo
     ensures well_formed { IsWellFormed (T.lexemes_of tree.now) }
     ensures ends_apart { EndsApart (T.lexemes_of tree.now) }
 {
-    let mut tokens = Seq::new(alloc);
+    let mut tokens = TokenStream::new(alloc);
     tree.to_tokens(alloc, &mut tokens)?;
     text(alloc, &tokens)
 }

@@ -1,9 +1,10 @@
 //! The worked examples: a name, a text, and what is answered to it.
 
-use educe_vectors_runs::check_table;
+use crate::tables::check_table;
 use std::test::Fail;
 
 mod builders;
+mod commands;
 mod devices;
 mod discriminants;
 mod enums;
@@ -12,6 +13,7 @@ mod evaluations;
 mod expansions;
 mod fields;
 mod handlers;
+mod hostile;
 mod impls;
 mod inherited;
 mod listings;
@@ -19,6 +21,7 @@ mod names;
 mod phases;
 mod ranks;
 mod readings;
+mod realistic;
 mod refusals;
 mod selves;
 mod visits;

@@ -1,11 +1,11 @@
 //! A worked example of what a builder answers when it is called by itself: `Clone` at a variant (documentation of
 //! `educe`, Clone).
 
+use crate::lexing::cites;
 use educe_attrs::{Trait, TypeBuilder, clone};
 use educe_syntax::{Attributes, DeriveInput, Shape};
+use educe_tests::{check_at, definition};
 use educe_tokens::{EduceError, Kind, Span};
-use educe_vectors_checks::{check_at, definition};
-use educe_vectors_examples::cites;
 use std::alloc::Global;
 use std::test::Fail;
 

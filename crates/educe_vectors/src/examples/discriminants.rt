@@ -2,7 +2,7 @@
 
 use educe_cmp::{Constants, discriminants_of};
 use educe_syntax::{DeriveInput, text_of_tree};
-use educe_vectors_checks::{check_rows, definition};
+use educe_tests::{check_rows, definition};
 use std::alloc::{AllocError, Global};
 use std::test::Fail;
 

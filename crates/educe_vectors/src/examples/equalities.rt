@@ -1,7 +1,7 @@
 //! Worked examples of `Eq`: its impl, and the check of the types of fields (documentation of `educe`,
 //! Eq).
 
-use educe_vectors_runs::check_table;
+use crate::tables::check_table;
 use std::test::Fail;
 
 static CHECKS: &str = r#"

@@ -1,6 +1,6 @@
 //! Worked examples of what the functions of items evaluate to, where one order speaks for both, and of `eq`.
 
-use educe_vectors_runs::check_table;
+use crate::tables::check_table;
 use std::test::Fail;
 
 static ORDERS: &str = r#"

@@ -1,6 +1,6 @@
 //! Worked examples of definitions that are expanded.
 
-use educe_vectors_runs::check_table;
+use crate::tables::check_table;
 use std::test::Fail;
 
 static UNREAD: &str = r#"

@@ -1,7 +1,7 @@
 //! Worked examples of what is said of a comparison at its type and at a field (documentation of
 //! `educe`, PartialEq; PartialOrd; Ord).
 
-use educe_vectors_runs::check_table;
+use crate::tables::check_table;
 use std::test::Fail;
 
 static FORMS: &str = r#"
@@ -68,6 +68,29 @@ a raw name is no parameter
     #[educe(Ord(ignore))]
     #[educe(Ord(method(path_to_method)))]
     #[educe(Ord(rank = integer))]
+    #[educe(Ord(reverse))]
+
+`reverse` twice
+#[educe(Ord)] struct S { #[educe(Ord(reverse, reverse = false))] a: u8 }
+: rejected 1:47: you are trying to reset the `reverse` parameter
+
+`reverse` of equality
+#[educe(PartialEq)] struct S { #[educe(PartialEq(reverse))] a: u8 }
+: rejected 1:40: you are using an incorrect format of the `PartialEq` attribute, which should be reformatted as follows:
+    #[educe(PartialEq = false)]
+    #[educe(PartialEq(ignore))]
+    #[educe(PartialEq(method(path_to_method)))]
+
+`reverse` that is no truth
+#[educe(Ord)] struct S { #[educe(Ord(reverse = 3))] a: u8 }
+: rejected 1:48: expected `reverse = false`
+
+`reverse` at the type
+#[educe(Ord(reverse))] struct S { a: u8 }
+: rejected 1:9: you are using an incorrect format of the `Ord` attribute, which should be reformatted as follows:
+    #[educe(Ord)]
+    #[educe(Ord(bound(where_predicates)))]
+    #[educe(Ord(bound = false))]
 
 a value behind a trait at its type
 #[educe(PartialEq = false)] struct S { a: u8 }

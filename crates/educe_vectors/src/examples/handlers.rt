@@ -1,25 +1,21 @@
 //! What handlers ask before they make their items, and their parts for structs and for enums.
 ghost use Rattle.std.specs.Prelude.{◌≡◌, [], false, IsTrue, IfOk, List};
-ghost use Rattle.educe_laws.specs.Handlers.{IsReady, Noted};
-ghost use Rattle.educe_laws.specs.Listed as listing;
-ghost use Rattle.educe_laws.specs.Rows.{is_order};
+ghost use Rattle.educe_meaning.specs.Handlers.{IsReady, Noted};
+ghost use Rattle.educe_settings.specs.Listed as listing;
+ghost use Rattle.educe_settings.specs.Rows.{is_order};
 ghost use Rattle.educe_syntax.specs.Refusal.{IsDefinition};
 ghost use Rattle.educe_syntax.specs.Shape.{Shape};
 
 use super::readings::{read_definition, spelled};
 use educe_attrs::{Stop, Trait, Traits, error_of, is_listed, type_listing};
 use educe_cmp::{EqHandler, OrdHandler, PartialEqHandler, PartialOrdHandler};
-use educe_handlers::{
-    EnumPart, StructPart, Task, TraitHandler, TraitHandlerContext, settings_of_cases,
-};
-use educe_make_clone::{CloneHandler, CopyHandler, can_use_bitwise_copy};
-use educe_make_debug::DebugHandler;
-use educe_make_default::DefaultHandler;
-use educe_make_hash::HashHandler;
-use educe_make_markers::has_custom_method;
+use educe_handlers::{EnumPart, StructPart, TraitHandler, TraitHandlerContext};
+use educe_make::{CloneHandler, CopyHandler, DebugHandler, DefaultHandler, HashHandler};
+use educe_settings::{Task, has_custom_method, settings_of_cases};
+use educe_settings_types::can_use_bitwise_copy;
 use educe_syntax::{DeriveInput, Shape};
+use educe_tests::{check_at, check_equal, check_rows};
 use educe_tokens::Seq;
-use educe_vectors_checks::{check_at, check_equal, check_rows};
 use std::alloc::Global;
 use std::test::Fail;
 
@@ -43,7 +39,7 @@ fn listed_traits(alloc: Global, ast: &DeriveInput) -> Result<Traits, Fail>
 /// Whether `clone` copies values as a whole, by what the fields say.
 fn copies_by_fields(alloc: Global, task: Task<'_, '_>) -> Result<bool, Fail>
     requires listed { task.listed.now ≡ listing.listed task.ast.now }
-    requires unranked { is_order task.which ≡ false }
+    requires unranked { is_order task.trait_ ≡ false }
 {
     let settings = unstopped(alloc, settings_of_cases(alloc, task))?;
     let has_method = has_custom_method(settings.as_slice());
@@ -57,7 +53,7 @@ fn copies(alloc: Global, source: &str) -> Result<String, Fail> {
     let ast = read_definition(alloc, source)?;
     let traits = listed_traits(alloc, &ast)?;
     let task = Task {
-        which: Trait::Clone,
+        trait_: Trait::Clone,
         ast: &ast,
         listed: traits.as_slice(),
     };
@@ -115,7 +111,7 @@ fn added<H: TraitHandler>(
 {
     let mut ctx = TraitHandlerContext::new(alloc);
     let mut items = Seq::new(alloc);
-    let answered = H::trait_meta_handler(alloc, ast, &mut ctx, &mut items, listed);
+    let answered = H::trait_meta_handler(alloc, ast, &mut ctx, &mut items, listed, None);
     drop(ctx);
     match answered {
         Ok(()) => Ok(spelled(alloc, items)?),

@@ -1,7 +1,7 @@
 //! Worked examples of impls: the attributes that they take from the type, and what is left unread
 //! (Rust Reference, Lint check attributes; documentation of `educe`, Traits).
 
-use educe_vectors_runs::check_table;
+use crate::tables::check_table;
 use std::test::Fail;
 
 static IMPLS: &str = r#"

@@ -1,9 +1,10 @@
 //! What handlers note of predicates, and what is inherited of it (documentation of `educe`, Bounds).
 
 use educe_attrs::Trait;
+use educe_bound::{PredicateSet, extend_where_predicates};
 use educe_handlers::TraitHandlerContext;
 use educe_syntax::{Predicates, parse_predicates, text_of_tree};
-use educe_vectors_checks::{check_rows, found, lexed_slice};
+use educe_tests::{check_rows, found, lexed_slice};
 use std::alloc::{AllocError, Global};
 use std::test::Fail;
 
@@ -44,12 +45,13 @@ fn texts(alloc: Global, predicates: &Predicates) -> Result<String, AllocError> {
 fn inherited(
     alloc: Global,
     ctx: &TraitHandlerContext,
-    own: Predicates,
+    own: &Predicates,
 ) -> Result<String, AllocError> {
-    let mut own = own;
-    ctx.inherit_from(alloc, &[Trait::Ord, Trait::Hash, Trait::Clone], &mut own)?;
-    let texts = texts(alloc, &own);
-    drop(own);
+    let mut all = PredicateSet::new(alloc);
+    extend_where_predicates(&mut all, own)?;
+    ctx.inherit_from(&[Trait::Ord, Trait::Hash, Trait::Clone], &mut all)?;
+    let texts = texts(alloc, all.list());
+    drop(all);
     texts
 }
 
@@ -59,7 +61,9 @@ fn answer(alloc: Global, text: &str) -> Result<String, Fail> {
     let (own, noted_texts) = text.split_once("; ").ok_or(text)?;
     let (of_clone, of_ord) = noted_texts.split_once("; ").ok_or(text)?;
     let ctx = noted(alloc, of_clone, of_ord)?;
-    let found = inherited(alloc, &ctx, predicates(alloc, own)?);
+    let own = predicates(alloc, own)?;
+    let found = inherited(alloc, &ctx, &own);
+    drop(own);
     drop(ctx);
     Ok(found?)
 }
@@ -74,7 +78,7 @@ T: A; T: B, T: A; U: C, T: B
 : where T : A, U : C, T : B,
 
 T: A, T: A; T: A; T: A, T: B, T: B
-: where T : A, T : A, T : B,
+: where T : A, T : B,
 
 ; T: A, T: B; T: B
 : where T : B, T : A,

@@ -1,7 +1,7 @@
 //! Worked examples of what a type lists: the traits, and why a listing is rejected (documentation of
 //! `educe`, Traits).
 
-use educe_vectors_runs::check_table;
+use crate::tables::check_table;
 use std::test::Fail;
 
 static LISTINGS: &str = r#"

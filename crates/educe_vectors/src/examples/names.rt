@@ -1,7 +1,7 @@
 //! Worked examples of the text of user-written functions, and of inputs that have the name of the second
 //! value as a word (documentation of `educe`, PartialEq; PartialOrd; Ord).
 
-use educe_vectors_runs::check_table;
+use crate::tables::check_table;
 use std::test::Fail;
 
 static METHODS: &str = r#"

@@ -1,7 +1,7 @@
 //! Worked examples of texts with several causes of a rejection. A cause of an earlier phase is reported
 //! before one of a later phase: the text, the names, what the type lists, the attributes.
 
-use educe_vectors_runs::check_table;
+use crate::tables::check_table;
 use std::test::Fail;
 
 static SEVERAL: &str = r#"
@@ -36,6 +36,7 @@ four faults of fields
     #[educe(Ord(ignore))]
     #[educe(Ord(method(path_to_method)))]
     #[educe(Ord(rank = integer))]
+    #[educe(Ord(reverse))]
 : rejected 1:50: expected `rank = integer`
 : rejected 1:54: the trait `Hash` is not used
 : rejected 1:76: unsupported trait `Foo`, available traits:
@@ -56,6 +57,7 @@ a field whose rank is not read has none
     #[educe(Ord(ignore))]
     #[educe(Ord(method(path_to_method)))]
     #[educe(Ord(rank = integer))]
+    #[educe(Ord(reverse))]
 
 a fault of one order, where the other one is right
 #[educe(PartialOrd, Ord)] struct S { #[educe(PartialOrd(foo), Ord(rank = 1))] a: u8 }
@@ -64,6 +66,7 @@ a fault of one order, where the other one is right
     #[educe(PartialOrd(ignore))]
     #[educe(PartialOrd(method(path_to_method)))]
     #[educe(PartialOrd(rank = integer))]
+    #[educe(PartialOrd(reverse))]
 
 a rank used again in both orders
 #[educe(PartialOrd, Ord)] struct S { #[educe(PartialOrd(rank = 1), Ord(rank = 2))] a: u8, #[educe(PartialOrd(rank = 1), Ord(rank = 2))] b: u8 }
@@ -98,6 +101,7 @@ then the attributes
     #[educe(Ord(ignore))]
     #[educe(Ord(method(path_to_method)))]
     #[educe(Ord(rank = integer))]
+    #[educe(Ord(reverse))]
 
 and then nothing
 #[educe(Ord)] struct S { a: u8, b: u8 }

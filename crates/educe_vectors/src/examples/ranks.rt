@@ -1,6 +1,6 @@
 //! Worked examples of ranks: those of fields that take part differ.
 
-use educe_vectors_runs::check_table;
+use crate::tables::check_table;
 use std::test::Fail;
 
 static AGAIN: &str = r#"

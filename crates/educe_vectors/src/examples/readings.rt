@@ -8,7 +8,7 @@ use educe_body::{Items, spell};
 use educe_syntax::{
     DeriveInput, ExprPath, Field, Fields, Shape, ToTokens, parse_path, text_of_tree,
 };
-use educe_vectors_checks::{definition, lexed_slice};
+use educe_tests::{definition, lexed_slice};
 use std::alloc::{AllocError, Global};
 use std::test::Fail;
 

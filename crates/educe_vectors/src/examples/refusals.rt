@@ -1,6 +1,6 @@
 //! Worked examples of the line that says where and why a definition is rejected.
 
-use educe_vectors_runs::check_table;
+use crate::tables::check_table;
 use std::test::Fail;
 
 static PLACES: &str = r#"

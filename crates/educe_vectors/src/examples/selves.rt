@@ -1,7 +1,7 @@
 //! Worked examples of `Self` in what stands outside of an impl: the name of the definition with its
 //! parameters stands in its place.
 
-use educe_vectors_runs::check_table;
+use crate::tables::check_table;
 use std::test::Fail;
 
 static SELVES: &str = r#"

@@ -1,16 +1,16 @@
 //! `Self` in types, paths and generics, and in the markers of fields, by the calls that replace it.
-ghost use Rattle.educe_handlers.specs.Ranked.{kept_of};
+ghost use Rattle.educe_settings.specs.Ranked.{kept_of};
 ghost use Rattle.educe_make_markers.specs.Marking.{MayMark};
 ghost use Rattle.educe_syntax.specs.Readings.{HasReadParts, IsReadField, IsReadPath};
 
 use super::readings::{field_at, read_definition, read_path, spelled, texts};
 use educe_attrs::Trait;
-use educe_handlers::{How, Ranked};
 use educe_make_markers::{MarkerNames, method_markers};
+use educe_settings::{How, Ranked};
 use educe_syntax::{DeriveInput, ExprPath, Field, Generics, Ident};
 use educe_syntax_self::ReplaceSelf;
+use educe_tests::{check_rows, check_text, printed};
 use educe_tokens::Span;
-use educe_vectors_checks::{check_rows, check_text, printed};
 use std::alloc::{AllocError, Global};
 use std::test::Fail;
 
@@ -168,6 +168,7 @@ fn marked<'a>(field: &'a Field, method: &'a ExprPath) -> Ranked<'a, 'a>
         place: 0,
         rank: 0,
         rank_span: Span::NONE,
+        reverse: false,
         how: How::ByMethod(method),
     }
 }

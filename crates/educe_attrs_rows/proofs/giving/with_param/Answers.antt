@@ -47,6 +47,12 @@ returns-in-Rank c =
     (map_ok (λ (_ : Unit {0}). c.with_rank.new.values) c.with_rank.result))
     (sym c.in-Rank.is) c.with_rank.ensures
 
+pub returns-in-Reverse : goal.returns-in-Reverse
+returns-in-Reverse c =
+    subst (λ (p : Param). Gives Memory (with_param c.args.row.now p c.args.path.now c.args.meta.now c.args.values.now)
+    (map_ok (λ (_ : Unit {0}). c.with_reverse.new.values) c.with_reverse.result))
+    (sym c.in-Reverse.is) c.with_reverse.ensures
+
 pub returns-in-Bound : goal.returns-in-Bound
 returns-in-Bound c =
     subst (λ (p : Param). Gives Memory (with_param c.args.row.now p c.args.path.now c.args.meta.now c.args.values.now)

@@ -13,6 +13,7 @@ returns c =
     let four : List (List ℕ) = with_line three row.ignore name (codes "(ignore)") in
     let five : List (List ℕ) = with_line four row.method name (codes "(method(path_to_method))") in
     let six : List (List ℕ) = with_line five row.rank name (codes "(rank = integer)") in
+    let seven : List (List ℕ) = with_line six row.reverse name (codes "(reverse)") in
     let first : c.in_ok-lines.lines ≡ one = c.in_ok-lines.ensures in
     let second : c.in_ok-lines-2.lines ≡ two =
     c.in_ok-lines-2.ensures ∙ line_as name (codes "(expression = expr)") c.in_ok-lines.lines one row.expression row.expression first refl in
@@ -24,5 +25,7 @@ returns c =
     c.in_ok-lines-5.ensures ∙ line_as name (codes "(method(path_to_method))") c.in_ok-lines-4.lines four row.method row.method fourth refl in
     let sixth : c.in_ok-lines-6.lines ≡ six =
     c.in_ok-lines-6.ensures ∙ line_as name (codes "(rank = integer)") c.in_ok-lines-5.lines five row.rank row.rank fifth refl in
-    ok_as c.with_line-7.result (with_line c.in_ok-lines-6.lines row.bound name (codes "(bound(where_predicates))")) (with_line six row.bound name (codes "(bound(where_predicates))")) c.with_line-7.ensures
-    (line_as name (codes "(bound(where_predicates))") c.in_ok-lines-6.lines six row.bound row.bound sixth refl)
+    let seventh : c.in_ok-lines-7.lines ≡ seven =
+    c.in_ok-lines-7.ensures ∙ line_as name (codes "(reverse)") c.in_ok-lines-6.lines six row.reverse row.reverse sixth refl in
+    ok_as c.with_line-8.result (with_line c.in_ok-lines-7.lines row.bound name (codes "(bound(where_predicates))")) (with_line seven row.bound name (codes "(bound(where_predicates))")) c.with_line-8.ensures
+    (line_as name (codes "(bound(where_predicates))") c.in_ok-lines-7.lines seven row.bound row.bound seventh refl)

@@ -1,6 +1,6 @@
 use Rattle.std.proofs.Common.{◌<◌, ◌^◌, Some, subst, arith}
 use Rattle.educe_body_forms.specs.Keys.{IsIndexOf}
-use Rattle.educe_body_forms.proofs.Indices.{index_tells}
+use Rattle.educe_body_forms.specs.Indices.{index_tells}
 use Rattle.educe_body_forms.proofs.keys.has_key.Goals as goal
 
 pub returns-in-Some-index : goal.returns-in-Some-index

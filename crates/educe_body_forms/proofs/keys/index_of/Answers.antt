@@ -1,5 +1,5 @@
 use Rattle.std.proofs.Common.{◌∙◌, sym}
-use Rattle.educe_body_forms.proofs.Indices.{no_index_by_first, index_is_read}
+use Rattle.educe_body_forms.specs.Indices.{no_index_by_first, index_is_read}
 use Rattle.educe_body_forms.proofs.keys.index_of.Goals as goal
 
 pub returns-then-begins_plain : goal.returns-then-begins_plain

@@ -1,6 +1,6 @@
 use Rattle.std.proofs.Common.{◌<◌, ◌^◌, ◌∙◌, List, ℕ, IsTrue, ap, sym, subst, arith, chars}
 use Rattle.educe_tokens.specs.Pieces.{is_name_or_index}
-use Rattle.educe_body_forms.proofs.Indices.{decimal_is_index, chars_decimal}
+use Rattle.educe_body_forms.specs.Indices.{decimal_is_index, chars_decimal}
 use Rattle.educe_body_forms.proofs.keys.index_word.Goals as goal
 
 pub new-requires : goal.new-requires

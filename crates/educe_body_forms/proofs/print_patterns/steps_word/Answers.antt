@@ -1,7 +1,7 @@
 use Rattle.std.proofs.Common.{◌<◌, ◌^◌, ◌++◌, ◌∙◌, List, ℕ, IsTrue, ap, sym, subst, arith, chars, codes}
 use Rattle.educe_tokens.specs.Pieces.{is_name_or_index}
 use Rattle.educe_body_forms.specs.Suffixed.{steps_spelled}
-use Rattle.educe_body_forms.proofs.Indices.{chars_steps}
+use Rattle.educe_body_forms.specs.Indices.{chars_steps}
 use Rattle.educe_body_forms.proofs.print_patterns.steps_word.Goals as goal
 
 pub new-requires : goal.new-requires

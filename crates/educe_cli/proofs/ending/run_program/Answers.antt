@@ -1,4 +1,4 @@
-use Rattle.std.proofs.Common.{inl, refl}
+use Rattle.std.proofs.Common.{inl, inr, refl}
 use Rattle.educe_core.specs.Status.TheVariants.{NoMemory}
 use Rattle.educe_cli.proofs.ending.run_program.Goals as goal
 
@@ -7,7 +7,7 @@ pub returns-in_default-words-clause-ended : goal.returns-in_default-words-clause
 returns-in_default-words-clause-ended g c =
     rw c.in-Ok.is (record {
       status = NoMemory;
-      answers = inl (refl, record { sink_kept = record { bytes = refl; faults = refl }; notes_kept = record { bytes = refl; faults = refl } });
+      answers = inr (record { status_is = refl; source_kept = record { bytes = refl; faults = refl }; sink_kept = record { bytes = refl; faults = refl }; notes_kept = record { bytes = refl; faults = refl } });
       coded = c.code.ensures;
     })
 
@@ -16,6 +16,6 @@ pub returns-clause-ended : goal.returns-clause-ended
 returns-clause-ended g c =
     rw c.in-Ok.is (record {
       status = c.run-status.result;
-      answers = rw c.in-Ok-words.ensures at c.run-status.ensures.answer;
+      answers = inl (rw c.in-Ok-words.ensures at c.run-status.ensures.answer);
       coded = cc;
     })

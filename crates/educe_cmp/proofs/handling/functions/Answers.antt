@@ -1,7 +1,7 @@
 use Rattle.std.proofs.Common.{◌≡◌, subst, sym}
 use Rattle.std.specs.Prelude.{IfOk}
 use Rattle.educe_body_forms.specs.declared.comparison.Comparison.{Comparison}
-use Rattle.educe_laws.specs.Blocks.{IsFunction, function_name}
+use Rattle.educe_meaning.specs.Blocks.{IsFunction, function_name}
 use Rattle.educe_cmp.proofs.handling.functions.Goals as goal
 
 pub returns-in-PartialEq : goal.returns-in-PartialEq

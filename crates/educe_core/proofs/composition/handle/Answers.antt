@@ -1,10 +1,10 @@
 use Rattle.std.proofs.Common.{◌≡◌, ◌∙◌, true, false, ap, sym}
 use Rattle.educe_attrs.specs.Phases.{OfHandler}
 use Rattle.educe_bound_traits.specs.Traits.{is_listed}
-use Rattle.educe_laws.specs.Handled.{handling, IsListedCause}
-use Rattle.educe_laws.specs.Handlers.{traits_before}
-use Rattle.educe_laws.specs.Listed.{listed}
-use Rattle.educe_laws.proofs.Stops.{stop_returned}
+use Rattle.educe_settings.specs.Handled.{handling, IsListedCause}
+use Rattle.educe_meaning.specs.Handlers.{traits_before}
+use Rattle.educe_settings.specs.Listed.{listed}
+use Rattle.educe_settings.proofs.Stops.{stop_returned}
 use Rattle.educe_core.proofs.Composing.{listed_answered, unlisted_more, listed_refused}
 use Rattle.educe_core.proofs.composition.handle.Goals as goal
 

@@ -1,7 +1,7 @@
-use Rattle.educe_laws.specs.Handled.{IsListedCause}
+use Rattle.educe_settings.specs.Handled.{IsListedCause}
 use Rattle.educe_core.specs.Headline.{IsHandlerCause}
-use Rattle.educe_laws.specs.Listed.{IsListingCause}
-use Rattle.educe_laws.proofs.Stops.{stop_passed, stop_returned}
+use Rattle.educe_settings.specs.Listed.{IsListingCause}
+use Rattle.educe_settings.proofs.Stops.{stop_passed, stop_returned}
 use Rattle.educe_core.proofs.handler.items_of.Goals as goal
 
 pub returns-in_err-listed-clause-err : goal.returns-in_err-listed-clause-err

@@ -1,3 +1,4 @@
+use Rattle.educe_core.proofs.Alone.{alone}
 use Rattle.educe_core.proofs.Causes.{uncaused_if_valid}
 use Rattle.educe_core.proofs.Decided as decided
 use Rattle.educe_core.proofs.laws.expansion_laws.Goals as goal
@@ -8,4 +9,5 @@ returns c = record {
   unread_refused = decided.unread_refused;
   valid_if_uncaused = decided.valid_if_uncaused;
   uncaused_if_valid = uncaused_if_valid;
+  alone_if_undefined = alone;
 }

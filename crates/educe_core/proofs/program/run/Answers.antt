@@ -1,8 +1,9 @@
 use Rattle.std.proofs.Common.{ℕ, List, map, string_bytes, inl, inr}
 use Rattle.educe_core_devices.specs.Devices.{Change, change}
-use Rattle.educe_core.specs.Run.{Answers}
-use Rattle.educe_core.proofs.Outcomes.{Usage-from_words, TooLong-from_length, NotUtf8-from_bytes, Done-from_valid, Done-without_cause}
-use Rattle.educe_core.proofs.Outcomes.{ReadFault-fails, ReadFault-from_faults, WriteFault-fails, WriteFault-from_sink, WriteFault-from_notes}
+use Rattle.educe_core_commands.specs.Outcomes.{Outcomes}
+use Rattle.educe_core.specs.Spoken.{IsSpoken, meaning, usage_line}
+use Rattle.educe_core_commands.proofs.Lawful.{outcomes}
+use Rattle.educe_core.proofs.WordsApart.{spoken_once}
 use Rattle.educe_core.proofs.program.run.Goals as goal
 
 pub returns : goal.returns
@@ -14,18 +15,19 @@ returns g c =
     let sink : Change = change (g.K.Sink.held was.sink.now) (g.K.Sink.held now.sink) (g.K.Sink.faults was.sink.now) (g.K.Sink.faults now.sink) (g.K.Sink.may_fail was.sink.now) in
     let notes : Change = change (g.E.Sink.held was.notes.now) (g.E.Sink.held now.notes) (g.E.Sink.faults was.notes.now) (g.E.Sink.faults now.notes) (g.E.Sink.may_fail was.notes.now) in
     let status = c.run_words.result in
-    let answer : Answers words source sink notes status = c.run_words.ensures.answer in
+    let implied : Outcomes IsSpoken meaning words source sink notes status = outcomes IsSpoken meaning usage_line spoken_once words source sink notes status c.run_words.ensures.answer in
     record {
-      answer = answer;
-      usage = Usage-from_words words source sink notes status answer;
-      too_long = TooLong-from_length words source sink notes status answer;
-      not_utf8 = NotUtf8-from_bytes words source sink notes status answer;
-      valid = Done-from_valid words source sink notes status answer;
-      caused = Done-without_cause words source sink notes status answer;
-      read_fault = λ is. let fails = ReadFault-fails words source sink notes status answer is in (fails.rose, fails.might);
-      source_faults = ReadFault-from_faults words source sink notes status answer;
-      write_fault = λ is. elim (WriteFault-fails words source sink notes status answer is) [ inl sinks ↦ inl (sinks.rose, sinks.might) | inr noted ↦ inr (noted.rose, noted.might) ];
-      sink_faults = WriteFault-from_sink words source sink notes status answer;
-      notes_faults = WriteFault-from_notes words source sink notes status answer;
+      answer = c.run_words.ensures.answer;
+      usage = implied.usage;
+      too_long = implied.too_long;
+      not_utf8 = implied.not_utf8;
+      valid = implied.valid;
+      caused = implied.caused;
+      read_fault = λ is. let fails = implied.read_fault is in (fails.rose, fails.might);
+      source_faults = implied.source_faults;
+      write_fault = λ is. elim (implied.write_fault is) [ inl sinks ↦ inl (sinks.rose, sinks.might) | inr noted ↦ inr (noted.rose, noted.might) ];
+      sink_faults = implied.sink_faults;
+      notes_faults = implied.notes_faults;
       most = c.run_words.ensures.most;
+      untouched = c.run_words.ensures.untouched;
     }

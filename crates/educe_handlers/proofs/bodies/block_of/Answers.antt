@@ -1,4 +1,4 @@
-use Rattle.educe_handlers.proofs.Lists.{one_pushed}
+use Rattle.educe_settings.proofs.Lists.{one_pushed}
 use Rattle.educe_handlers.proofs.bodies.block_of.Goals as goal
 
 pub returns : goal.returns

@@ -2,7 +2,7 @@ use Rattle.std.proofs.Common.{◌≡◌}
 use Rattle.std.proofs.lemmas.Result.{IfOk-weaker}
 use Rattle.educe_syntax.specs.Ident.{Ident}
 use Rattle.educe_handlers.proofs.Named.{name_copied}
-use Rattle.educe_laws.specs.Arms.{IsName}
+use Rattle.educe_meaning.specs.Arms.{IsName}
 use Rattle.educe_handlers.proofs.bodies.same_name.Goals as goal
 
 pub returns : goal.returns

@@ -3,7 +3,7 @@ use Rattle.std.specs.Borrow.{Bor}
 use Rattle.std.specs.List.{AllByRecursion}
 use Rattle.educe_syntax.specs.Readings.{IsReadType}
 use Rattle.educe_syntax.specs.Ty.{Ty}
-use Rattle.educe_handlers.specs.EveryType.{behind}
+use Rattle.educe_settings.specs.EveryType.{behind}
 use Rattle.educe_handlers.proofs.header.copy_predicates.Goals as goal
 
 pub returns-then-copied-clause-read : goal.returns-then-copied-clause-read

@@ -1,17 +1,17 @@
-use Rattle.educe_laws.specs.Handlers.{handled_of, traits_before, inherited_from}
-use Rattle.educe_laws.specs.Headers.{AreOf, prerequisites}
-use Rattle.educe_laws.specs.Listed.{listed}
-use Rattle.educe_laws.proofs.Inheriting.{noted_read}
+use Rattle.educe_meaning.specs.Handlers.{handled_of, traits_before, inherited_from}
+use Rattle.educe_meaning.specs.Headers.{AreOf, prerequisites}
+use Rattle.educe_settings.specs.Listed.{listed}
+use Rattle.educe_meaning.proofs.Inheriting.{noted_read}
 use Rattle.educe_handlers.specs.Laws.{lawful_traits}
 use Rattle.educe_handlers.proofs.header.header_of.Goals as goal
 
 pub added-requires-clause-noted : goal.added-requires-clause-noted
 added-requires-clause-noted c =
-    let d = c.args.task.ast.now in noted_read d (handled_of (listed d) (traits_before c.args.task.which)) c.args.ctx.now c.requires.ready.noted_are
+    let d = c.args.task.ast.now in noted_read d (handled_of (listed d) (traits_before c.args.task.trait_)) c.args.ctx.now c.requires.ready.noted_are
 
 pub returns-clause-generics : goal.returns-clause-generics
 returns-clause-generics c =
-    let which = c.args.task.which in
+    let which = c.args.task.trait_ in
     let d = c.args.task.ast.now in
     let noted = c.args.ctx.now in
     let adds = c.in_ok-added.ensures.adds in
@@ -28,7 +28,7 @@ returns-clause-generics c =
 
 pub returns-clause-added : goal.returns-clause-added
 returns-clause-added c =
-    let which = c.args.task.which in
+    let which = c.args.task.trait_ in
     let d = c.args.task.ast.now in
     let noted = c.args.ctx.now in
     let adds = c.in_ok-added.ensures.adds in

@@ -3,7 +3,7 @@ use Rattle.std.specs.Borrow.{Bor}
 use Rattle.std.specs.List.{AllByRecursion}
 use Rattle.educe_syntax.specs.Readings.{IsReadType}
 use Rattle.educe_syntax.specs.Ty.{Ty}
-use Rattle.educe_handlers.specs.EveryType.{behind}
+use Rattle.educe_settings.specs.EveryType.{behind}
 use Rattle.educe_handlers.proofs.header.own_predicates.Goals as goal
 
 pub returns-clause-read : goal.returns-clause-read

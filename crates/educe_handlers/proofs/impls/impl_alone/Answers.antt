@@ -1,4 +1,4 @@
-use Rattle.educe_handlers.proofs.Lists.{one_pushed}
+use Rattle.educe_settings.proofs.Lists.{one_pushed}
 use Rattle.educe_handlers.proofs.impls.impl_alone.Goals as goal
 
 pub returns : goal.returns

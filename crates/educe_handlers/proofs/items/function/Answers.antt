@@ -1,5 +1,5 @@
 use Rattle.std.proofs.Common.{refl}
-use Rattle.educe_handlers.proofs.Lists.{one_pushed}
+use Rattle.educe_settings.proofs.Lists.{one_pushed}
 use Rattle.educe_handlers.proofs.items.function.Goals as goal
 
 pub returns : goal.returns

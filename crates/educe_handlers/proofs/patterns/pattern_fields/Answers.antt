@@ -1,6 +1,6 @@
 use Rattle.std.proofs.Common.{◌≡◌, ◌<◌, take, length, subst, arith}
 use Rattle.std.proofs.lemmas.List.{take_all}
-use Rattle.educe_laws.specs.Arms.{ArePatternFields}
+use Rattle.educe_meaning.specs.Arms.{ArePatternFields}
 use Rattle.educe_handlers.proofs.PatternFields.{fields_more}
 use Rattle.educe_handlers.proofs.patterns.pattern_fields.Goals as goal
 

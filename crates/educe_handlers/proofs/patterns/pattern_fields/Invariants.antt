@@ -1,5 +1,5 @@
 use Rattle.std.proofs.Common.{take}
-use Rattle.educe_laws.specs.Arms.{ArePatternFields}
+use Rattle.educe_meaning.specs.Arms.{ArePatternFields}
 use Rattle.educe_handlers.proofs.patterns.pattern_fields.Given as goal
 
 abbrev pub invariant-loop-place : goal.invariant-loop-place

@@ -1,6 +1,6 @@
 use Rattle.std.proofs.Common.{Bool, ap, sym, ◌∙◌}
 use Rattle.educe_syntax.specs.Ident.{Ident}
-use Rattle.educe_laws.specs.Steps.{reference_form}
+use Rattle.educe_meaning.specs.Steps.{reference_form}
 use Rattle.educe_handlers.proofs.reading.reference.Goals as goal
 
 pub returns-then-copied : goal.returns-then-copied

@@ -1,6 +1,6 @@
 use Rattle.std.proofs.Common.{List, subst, refl}
 use Rattle.educe_attrs.specs.FieldSettings.{FieldSettings}
-use Rattle.educe_laws.specs.Arms.{IsPatternBy}
+use Rattle.educe_meaning.specs.Arms.{IsPatternBy}
 use Rattle.educe_make_clone.proofs.clone_body.clone_arm.Goals as goal
 
 pub returns : goal.returns

@@ -1,7 +1,7 @@
 use Rattle.std.proofs.Common.{◌≡◌, ◌∷◌, [], sym, ◌∙◌}
 use Rattle.std.proofs.lemmas.Result.{IfOk-weaker}
 use Rattle.educe_body_forms.specs.declared.form.Form.{Unreachable}
-use Rattle.educe_laws.specs.CloneBodies.{IsCloneEnum}
+use Rattle.educe_meaning.specs.CloneBodies.{IsCloneEnum}
 use Rattle.educe_make_clone.specs.Matches.{IsMatchOf}
 use Rattle.educe_make_clone.proofs.Matched.{clone_matched, clone_unmatched}
 use Rattle.educe_make_clone.proofs.clone_body.clone_enum.Goals as goal

@@ -1,8 +1,8 @@
 use Rattle.std.proofs.Common.{◌≡◌, List, [], ◌∷◌, subst}
 use Rattle.std.proofs.lemmas.Result.{IfOk-weaker}
 use Rattle.std.specs.Prelude.{ℕ, None}
-use Rattle.educe_laws.specs.CloneBodies.{IsCloneConstruct, IsCloneStruct}
-use Rattle.educe_laws.specs.Steps.{of_base}
+use Rattle.educe_meaning.specs.CloneBodies.{IsCloneConstruct, IsCloneStruct}
+use Rattle.educe_meaning.specs.Steps.{of_base}
 use Rattle.educe_make_clone.proofs.clone_body.clone_struct.Goals as goal
 
 pub returns : goal.returns

@@ -3,8 +3,8 @@ use Rattle.std.specs.List.{AllZip}
 use Rattle.std.specs.Option.{option_map}
 use Rattle.educe_syntax.specs.Ident.{Ident}
 use Rattle.educe_handlers.specs.Readings.{reading_of}
-use Rattle.educe_laws.specs.CloneBodies.{IsCloneInit}
-use Rattle.educe_laws.specs.Settings.{Kept}
+use Rattle.educe_meaning.specs.CloneBodies.{IsCloneInit}
+use Rattle.educe_settings.specs.Settings.{Kept}
 use Rattle.educe_make_clone.proofs.clone_body.cloned.Goals as goal
 
 pub returns : goal.returns

@@ -1,7 +1,7 @@
 use Rattle.std.proofs.Common.{ap}
 use Rattle.educe_body_values.specs.declared.callee.BuiltIn.TheVariants.{Clone}
 use Rattle.educe_body_forms.specs.declared.form.Form.{Call}
-use Rattle.educe_handlers.specs.Ranked.{how_of}
+use Rattle.educe_settings.specs.Ranked.{how_of}
 use Rattle.educe_handlers.proofs.CalledPaths.{called_is}
 use Rattle.educe_make_clone.proofs.clone_body.init.Goals as goal
 

@@ -1,5 +1,5 @@
 use Rattle.educe_handlers.specs.Readings.{reading_of}
-use Rattle.educe_laws.specs.CloneBodies.{IsCloneInit}
+use Rattle.educe_meaning.specs.CloneBodies.{IsCloneInit}
 use Rattle.educe_make_clone.proofs.KeptLists.{kept_more, kept_all}
 use Rattle.educe_make_clone.proofs.clone_body.inits.Goals as goal
 

@@ -1,22 +1,18 @@
-use Rattle.std.proofs.Common.{◌∙◌, List, map, subst, arith}
+use Rattle.std.proofs.Common.{◌∙◌, List, subst, arith}
 use Rattle.std.specs.List.{AllZip}
 use Rattle.std.proofs.lemmas.List.{take_all}
 use Rattle.educe_syntax.specs.Variant.{Variant}
 use Rattle.educe_bound_traits.specs.declared.traits.Trait.TheVariants.{Clone}
-use Rattle.educe_handlers.specs.SeenTypes.{Sees}
-use Rattle.educe_handlers.proofs.Lists.{zip_more}
-use Rattle.educe_handlers.proofs.Visited.{sees_none, sees_more}
-use Rattle.educe_laws.specs.Cases.{fields_in}
-use Rattle.educe_laws.specs.CloneBodies.{IsCloneArm, IsFromArm}
+use Rattle.educe_settings.proofs.Lists.{zip_more}
+use Rattle.educe_meaning.specs.CloneBodies.{IsCloneArm, IsFromArm}
 use Rattle.educe_make_clone.specs.CloneNames.{names_of}
-use Rattle.educe_handlers.proofs.SettingsAt.{settings_each, settings_at}
+use Rattle.educe_settings.proofs.SettingsAt.{settings_each, settings_at}
 use Rattle.educe_make_clone.proofs.clone_cases.all_arms.Goals as goal
 
 pub loop-place-init : goal.loop-place-init
 loop-place-init c = record {
   own = rw c.new-clone.ensures tt;
   from = rw c.new-clone_from.ensures tt;
-  seen = sees_none Clone c.args.task.ast.now c.args.types.now;
 }
 
 pub bounds-settings-place : goal.bounds-settings-place
@@ -43,7 +39,6 @@ loop-place-preserved c =
       own = zip_more (IsCloneArm ast names) variants i variant variant c.loop-place.clone _ _ less item c.loop-place.invariant.own c.in_ok-push.ensures.ok c.in_ok-own.ensures.clone;
       from = zip_more (IsFromArm ast names) variants i variant variant c.loop-place.clone_from _ _ less item c.loop-place.invariant.from c.in_ok-push-2.ensures.ok
           c.in_ok-own.ensures.clone_from;
-      seen = sees_more Clone ast variants i variant variant _ _ _ less item c.loop-place.invariant.seen c.in_ok-own.ensures.types;
     }
 
 pub returns-clause-clone : goal.returns-clause-clone
@@ -55,8 +50,3 @@ pub returns-clause-clone_from : goal.returns-clause-clone_from
 returns-clause-clone_from c =
     subst (λ (front : List Variant). AllZip (IsFromArm c.args.task.ast.now (names_of c.args.names.now)) front c.loop-place.clone_from)
     (take_all c.loop-place.place c.args.variants.now c.loop-place-test.false) c.loop-place.invariant.from
-
-pub returns-clause-types : goal.returns-clause-types
-returns-clause-types c =
-    subst (λ (front : List Variant). Sees Clone c.args.task.ast.now (map fields_in front) c.args.types.now c.loop-place.types)
-    (take_all c.loop-place.place c.args.variants.now c.loop-place-test.false) c.loop-place.invariant.seen

@@ -1,9 +1,6 @@
-use Rattle.std.proofs.Common.{map, take}
+use Rattle.std.proofs.Common.{take}
 use Rattle.std.specs.List.{AllZip}
-use Rattle.educe_bound_traits.specs.declared.traits.Trait.TheVariants.{Clone}
-use Rattle.educe_handlers.specs.SeenTypes.{Sees}
-use Rattle.educe_laws.specs.Cases.{fields_in}
-use Rattle.educe_laws.specs.CloneBodies.{IsCloneArm, IsFromArm}
+use Rattle.educe_meaning.specs.CloneBodies.{IsCloneArm, IsFromArm}
 use Rattle.educe_make_clone.specs.CloneNames.{names_of}
 use Rattle.educe_make_clone.proofs.clone_cases.all_arms.Given as goal
 
@@ -11,5 +8,4 @@ abbrev pub invariant-loop-place : goal.invariant-loop-place
 invariant-loop-place l = record {
   own : AllZip (IsCloneArm l.task.ast.now (names_of l.names)) (take l.place l.variants) l.clone;
   from : AllZip (IsFromArm l.task.ast.now (names_of l.names)) (take l.place l.variants) l.clone_from;
-  seen : Sees Clone l.task.ast.now (map fields_in (take l.place l.variants)) l.initial.types l.types;
 }

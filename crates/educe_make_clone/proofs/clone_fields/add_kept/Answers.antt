@@ -1,8 +1,8 @@
 use Rattle.std.proofs.Common.{List, ◌++◌, map, length, ap, ◌∙◌}
 use Rattle.std.proofs.lemmas.List.{length-map}
 use Rattle.std.proofs.lemmas.Result.{on_ok_weaker}
-use Rattle.educe_handlers.specs.Ranked.{kept_of}
-use Rattle.educe_laws.specs.Settings.{Kept, kept_by}
+use Rattle.educe_settings.specs.Ranked.{kept_of}
+use Rattle.educe_settings.specs.Settings.{Kept, kept_by}
 use Rattle.educe_make_clone.proofs.clone_fields.add_kept.Goals as goal
 
 pub add_case-requires : goal.add_case-requires

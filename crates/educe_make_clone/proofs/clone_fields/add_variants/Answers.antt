@@ -4,11 +4,11 @@ use Rattle.std.proofs.lemmas.Grind.{flat_map-append}
 use Rattle.std.proofs.lemmas.List.{take_all}
 use Rattle.educe_syntax.specs.Variant.{Variant}
 use Rattle.educe_bound_traits.specs.declared.traits.Trait.TheVariants.{Clone}
-use Rattle.educe_handlers.specs.Ranked.{kept_of}
-use Rattle.educe_handlers.proofs.SettingsAt.{settings_each, settings_at}
-use Rattle.educe_handlers.proofs.Visited.{mapped_more}
-use Rattle.educe_laws.specs.Cases.{fields_in}
-use Rattle.educe_laws.specs.Settings.{settings_of, kept_fields}
+use Rattle.educe_settings.specs.Ranked.{kept_of}
+use Rattle.educe_settings.proofs.SettingsAt.{settings_each, settings_at}
+use Rattle.educe_settings.proofs.Visited.{mapped_more}
+use Rattle.educe_settings.specs.Cases.{fields_in}
+use Rattle.educe_settings.specs.Settings.{settings_of, kept_fields}
 use Rattle.educe_make_clone.proofs.clone_fields.add_variants.Goals as goal
 
 pub bounds-settings-place : goal.bounds-settings-place

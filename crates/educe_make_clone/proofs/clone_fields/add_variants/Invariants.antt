@@ -1,9 +1,9 @@
 use Rattle.std.proofs.Common.{◌≡◌, ◌++◌, map, take}
 use Rattle.std.specs.List.{flat_map}
 use Rattle.educe_bound_traits.specs.declared.traits.Trait.TheVariants.{Clone}
-use Rattle.educe_handlers.specs.Ranked.{kept_of}
-use Rattle.educe_laws.specs.Cases.{fields_in}
-use Rattle.educe_laws.specs.Settings.{kept_fields}
+use Rattle.educe_settings.specs.Ranked.{kept_of}
+use Rattle.educe_settings.specs.Cases.{fields_in}
+use Rattle.educe_settings.specs.Settings.{kept_fields}
 use Rattle.educe_make_clone.proofs.clone_fields.add_variants.Given as goal
 
 abbrev pub invariant-loop-place : goal.invariant-loop-place

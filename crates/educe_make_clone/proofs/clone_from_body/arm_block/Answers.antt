@@ -1,7 +1,7 @@
 use Rattle.std.proofs.Common.{◌≡◌, ◌∙◌, ◌∷◌, [], List, map, Some, ap}
 use Rattle.std.proofs.lemmas.Result.{IfOk-weaker}
 use Rattle.educe_body_forms.specs.declared.form.Form.{Form, IfLet}
-use Rattle.educe_handlers.specs.Ranked.{kept_of}
+use Rattle.educe_settings.specs.Ranked.{kept_of}
 use Rattle.educe_make_clone.specs.CloneNames.{names_of}
 use Rattle.educe_make_clone.specs.FromArms.{IsFromArmBlock}
 use Rattle.educe_make_clone.proofs.clone_from_body.arm_block.Goals as goal

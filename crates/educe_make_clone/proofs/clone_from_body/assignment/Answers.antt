@@ -1,7 +1,7 @@
 use Rattle.educe_body_forms.specs.declared.form.Form.{AssignField}
-use Rattle.educe_handlers.specs.Ranked.{how_of}
+use Rattle.educe_settings.specs.Ranked.{how_of}
 use Rattle.educe_handlers.proofs.CalledPaths.{called_is}
-use Rattle.educe_laws.specs.CloneBodies.{assigning}
+use Rattle.educe_meaning.specs.CloneBodies.{assigning}
 use Rattle.educe_make_clone.proofs.clone_from_body.assignment.Goals as goal
 
 pub returns : goal.returns

@@ -1,8 +1,8 @@
 use Rattle.std.proofs.Common.{take}
 use Rattle.std.specs.List.{AllZip}
-use Rattle.educe_handlers.specs.declared.ranked.Ranked.{Ranked}
-use Rattle.educe_handlers.specs.Ranked.{kept_of}
-use Rattle.educe_laws.specs.CloneBodies.{IsAssignment}
+use Rattle.educe_settings.specs.declared.ranked.Ranked.{Ranked}
+use Rattle.educe_settings.specs.Ranked.{kept_of}
+use Rattle.educe_meaning.specs.CloneBodies.{IsAssignment}
 use Rattle.educe_make_clone.proofs.clone_from_body.assignments.Given as goal
 
 abbrev pub invariant-loop-ranked : goal.invariant-loop-ranked

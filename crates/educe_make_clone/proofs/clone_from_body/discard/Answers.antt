@@ -1,7 +1,7 @@
 use Rattle.std.proofs.Common.{◌≡◌, ◌∷◌, []}
 use Rattle.std.proofs.lemmas.Result.{IfOk-weaker}
 use Rattle.educe_body_forms.specs.declared.form.Form.{Discard}
-use Rattle.educe_laws.specs.CloneBodies.{IsDiscard}
+use Rattle.educe_meaning.specs.CloneBodies.{IsDiscard}
 use Rattle.educe_make_clone.proofs.clone_from_body.discard.Goals as goal
 
 pub returns : goal.returns

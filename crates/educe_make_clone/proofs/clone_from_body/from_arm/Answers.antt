@@ -1,9 +1,9 @@
 use Rattle.std.proofs.Common.{List, subst, refl}
 use Rattle.std.specs.List.{AllZip}
 use Rattle.educe_attrs.specs.FieldSettings.{FieldSettings}
-use Rattle.educe_laws.specs.Arms.{IsPatternBy}
-use Rattle.educe_laws.specs.CloneBodies.{IsThrough}
-use Rattle.educe_laws.specs.Settings.{Kept}
+use Rattle.educe_meaning.specs.Arms.{IsPatternBy}
+use Rattle.educe_meaning.specs.CloneBodies.{IsThrough}
+use Rattle.educe_settings.specs.Settings.{Kept}
 use Rattle.educe_make_clone.specs.CloneNames.{names_of}
 use Rattle.educe_make_clone.proofs.clone_from_body.from_arm.Goals as goal
 

@@ -1,6 +1,6 @@
 use Rattle.std.proofs.Common.{sym, ◌∙◌}
 use Rattle.std.proofs.lemmas.Result.{IfOk-weaker}
-use Rattle.educe_laws.specs.CloneBodies.{IsDiscard, IsFromEnum}
+use Rattle.educe_meaning.specs.CloneBodies.{IsDiscard, IsFromEnum}
 use Rattle.educe_make_clone.specs.CloneNames.{names_of}
 use Rattle.educe_make_clone.specs.Matches.{IsMatchOf}
 use Rattle.educe_make_clone.proofs.Matched.{from_matched, from_unmatched}

@@ -3,9 +3,9 @@ use Rattle.std.specs.List.{AllZip}
 use Rattle.std.proofs.lemmas.List.{length-map}
 use Rattle.std.proofs.lemmas.Result.{IfOk-weaker}
 use Rattle.educe_body_forms.specs.declared.form.Form.{Form}
-use Rattle.educe_handlers.specs.Ranked.{kept_of}
-use Rattle.educe_laws.specs.CloneBodies.{IsDiscard, IsAssignment, AreAssignments, IsFromStruct}
-use Rattle.educe_laws.specs.Settings.{Kept}
+use Rattle.educe_settings.specs.Ranked.{kept_of}
+use Rattle.educe_meaning.specs.CloneBodies.{IsDiscard, IsAssignment, AreAssignments, IsFromStruct}
+use Rattle.educe_settings.specs.Settings.{Kept}
 use Rattle.educe_make_clone.specs.CloneNames.{names_of}
 use Rattle.educe_make_clone.proofs.Assigning.{none_assigned, some_assigned}
 use Rattle.educe_make_clone.proofs.clone_from_body.from_struct.Goals as goal

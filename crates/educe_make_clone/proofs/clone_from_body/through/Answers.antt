@@ -2,7 +2,7 @@ use Rattle.std.proofs.Common.{ℕ, List, ◌++◌, ap, ◌∙◌}
 use Rattle.educe_body_forms.specs.Keys.{binding_key}
 use Rattle.educe_body_values.specs.declared.callee.BuiltIn.TheVariants.{CloneFrom}
 use Rattle.educe_body_forms.specs.declared.form.Form.{AssignThrough}
-use Rattle.educe_handlers.specs.Ranked.{how_of}
+use Rattle.educe_settings.specs.Ranked.{how_of}
 use Rattle.educe_handlers.proofs.CalledPaths.{called_is}
 use Rattle.educe_make_clone.proofs.clone_from_body.through.Goals as goal
 

@@ -1,4 +1,4 @@
-use Rattle.educe_laws.specs.CloneBodies.{IsThrough}
+use Rattle.educe_meaning.specs.CloneBodies.{IsThrough}
 use Rattle.educe_make_clone.specs.CloneNames.{names_of}
 use Rattle.educe_make_clone.proofs.KeptLists.{kept_more, kept_all}
 use Rattle.educe_make_clone.proofs.clone_from_body.throughs.Goals as goal

@@ -1,8 +1,8 @@
 use Rattle.std.proofs.Common.{take}
 use Rattle.std.specs.List.{AllZip}
-use Rattle.educe_handlers.specs.declared.ranked.Ranked.{Ranked}
-use Rattle.educe_handlers.specs.Ranked.{kept_of}
-use Rattle.educe_laws.specs.CloneBodies.{IsThrough}
+use Rattle.educe_settings.specs.declared.ranked.Ranked.{Ranked}
+use Rattle.educe_settings.specs.Ranked.{kept_of}
+use Rattle.educe_meaning.specs.CloneBodies.{IsThrough}
 use Rattle.educe_make_clone.specs.CloneNames.{names_of}
 use Rattle.educe_make_clone.proofs.clone_from_body.throughs.Given as goal
 

@@ -1,9 +1,9 @@
 use Rattle.std.proofs.Common.{ℕ, ◌∙◌, List, [], ◌∷◌, ◌++◌, map, ap, subst}
 use Rattle.educe_bound_traits.specs.declared.traits.Trait.TheVariants.{Clone}
-use Rattle.educe_handlers.proofs.Lists.{one_pushed}
-use Rattle.educe_handlers.specs.Ranked.{kept_of}
-use Rattle.educe_laws.specs.Markers.{AreMarkers}
-use Rattle.educe_laws.specs.Settings.{Kept}
+use Rattle.educe_settings.proofs.Lists.{one_pushed}
+use Rattle.educe_settings.specs.Ranked.{kept_of}
+use Rattle.educe_meaning.specs.Markers.{AreMarkers}
+use Rattle.educe_settings.specs.Settings.{Kept}
 use Rattle.educe_make_clone.specs.CloneNames.{names_of}
 use Rattle.educe_make_markers.specs.Marking.{own_texts}
 use Rattle.educe_make_clone.proofs.clone_handling.clone_items.Goals as goal

@@ -1,9 +1,9 @@
 use Rattle.educe_make_clone.proofs.clone_handling.cloning.Goals as goal
 
-pub returns-clause-are : goal.returns-clause-are
-returns-clause-are c =
+pub returns : goal.returns
+returns c =
     let ast = c.args.task.ast.now in
-    let are = c.in_ok-blocks.ensures.are in
+    let are = c.in_ok-blocks.ensures in
     record {
       first = c.in_ok-functions.functions;
       second = c.in_ok-from_function.field-0;

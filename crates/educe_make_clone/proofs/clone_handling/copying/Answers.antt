@@ -3,8 +3,8 @@ use Rattle.std.proofs.Common.{◌≡◌, refl}
 use Rattle.std.proofs.lemmas.Result.{IfOk-weaker}
 use Rattle.educe_body_forms.specs.declared.form.Form.{Form, WholeCopy}
 use Rattle.educe_handlers.proofs.Formed.{function_with}
-use Rattle.educe_laws.specs.Blocks.{AreCopying}
-use Rattle.educe_laws.specs.Making.{HasOneForm}
+use Rattle.educe_meaning.specs.Blocks.{AreCopying}
+use Rattle.educe_meaning.specs.Making.{HasOneForm}
 use Rattle.educe_make_clone.proofs.clone_handling.copying.Goals as goal
 
 pub returns : goal.returns

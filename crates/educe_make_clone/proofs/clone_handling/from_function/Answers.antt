@@ -2,9 +2,9 @@ use Rattle.std.specs.Prelude.{codes}
 use Rattle.std.proofs.Common.{◌∙◌}
 use Rattle.std.proofs.lemmas.Result.{IfOk-weaker}
 use Rattle.educe_handlers.proofs.Formed.{function_with}
-use Rattle.educe_handlers.proofs.Lists.{one_pushed}
-use Rattle.educe_laws.specs.Blocks.{IsFunction}
-use Rattle.educe_laws.specs.CloneBodies.{IsFromBody}
+use Rattle.educe_settings.proofs.Lists.{one_pushed}
+use Rattle.educe_meaning.specs.Blocks.{IsFunction}
+use Rattle.educe_meaning.specs.CloneBodies.{IsFromBody}
 use Rattle.educe_make_clone.specs.CloneNames.{names_of}
 use Rattle.educe_make_clone.proofs.clone_handling.from_function.Goals as goal
 

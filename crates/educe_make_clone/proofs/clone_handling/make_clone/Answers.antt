@@ -9,18 +9,16 @@ use Rattle.educe_attrs.specs.Causes.{NoCause}
 use Rattle.educe_attrs.specs.Fields.{HaveNoCauses}
 use Rattle.educe_attrs.specs.Places.{OfField}
 use Rattle.educe_bound_traits.specs.declared.traits.Trait.TheVariants.{Clone}
-use Rattle.educe_handlers.specs.Ranked.{kept_of}
-use Rattle.educe_handlers.specs.SeenTypes.{read_of, touched_of}
+use Rattle.educe_settings.specs.Ranked.{kept_of}
 use Rattle.educe_handlers.proofs.Formed.{impl_with}
-use Rattle.educe_laws.specs.Blocks.{AreCloneFunctions}
-use Rattle.educe_laws.specs.Cases.{cases_of}
-use Rattle.educe_laws.specs.Copying.{copies_whole}
-use Rattle.educe_laws.specs.Listed.{listed}
-use Rattle.educe_laws.specs.Rows.{field_row}
-use Rattle.educe_laws.specs.Settings.{all_kept}
-use Rattle.educe_laws.specs.Types.{AreCloneTypes}
-use Rattle.educe_laws.proofs.Elements.{In-all}
-use Rattle.educe_laws.proofs.ReadHeaders.{lawful_headers}
+use Rattle.educe_meaning.specs.Blocks.{AreCloneFunctions}
+use Rattle.educe_settings.specs.Cases.{cases_of}
+use Rattle.educe_settings.specs.Copying.{copies_whole}
+use Rattle.educe_settings.specs.Listed.{listed}
+use Rattle.educe_settings.specs.Rows.{field_row}
+use Rattle.educe_settings.specs.Settings.{all_kept}
+use Rattle.educe_settings.proofs.Elements.{In-all}
+use Rattle.educe_meaning.proofs.ReadHeaders.{lawful_headers}
 use Rattle.educe_make_clone.specs.CloneNames.{names_of}
 use Rattle.educe_make_markers.specs.Marking.{MayMark}
 use Rattle.educe_make_markers.proofs.Visiting.{in_case, own_field, markers_visit}
@@ -34,17 +32,12 @@ kept_visit d is read =
     let found = in_case d.shape fields f outer inner in
     (own_field d is f found, In-all (λ (f : Field). NoCause (OfField Clone (field_row Clone) (listed d) f.attrs)) (all_fields d) f read found))
 
-pub impl_of-requires-clause-types : goal.impl_of-requires-clause-types
-impl_of-requires-clause-types c =
-    let types = c.functions.new.types in
-    subst (λ (b : Bool). AreCloneTypes b c.args.ast.now (read_of types) (touched_of types)) c.requires.copies c.in_ok-functions.ensures.types
-
 pub clone_items-requires-clause-item : goal.clone_items-requires-clause-item
 clone_items-requires-clause-item c =
     let ast = c.args.ast.now in
     let names = names_of c.in_ok-names.names in
     impl_with Clone ast (AreCloneFunctions (copies_whole ast) ast names) c.in_ok-functions.functions c.in_ok-item.item c.in_ok-item.ensures.item
-    (subst (λ (b : Bool). AreCloneFunctions b ast names c.in_ok-functions.functions) c.requires.copies c.in_ok-functions.ensures.are)
+    (subst (λ (b : Bool). AreCloneFunctions b ast names c.in_ok-functions.functions) c.requires.copies c.in_ok-functions.ensures)
 
 pub clone_items-requires-clause-named : goal.clone_items-requires-clause-named
 clone_items-requires-clause-named c = (lawful_definitions.parts c.args.ast.now.tokens c.args.ast.now c.requires.ready.is_read.whole).named

@@ -1,8 +1,8 @@
 use Rattle.std.specs.Prelude.{codes}
 use Rattle.std.proofs.lemmas.Result.{IfOk-weaker}
 use Rattle.educe_handlers.proofs.Formed.{function_with}
-use Rattle.educe_laws.specs.Blocks.{IsFunction}
-use Rattle.educe_laws.specs.CloneBodies.{IsCloneBody}
+use Rattle.educe_meaning.specs.Blocks.{IsFunction}
+use Rattle.educe_meaning.specs.CloneBodies.{IsCloneBody}
 use Rattle.educe_make_clone.proofs.clone_handling.own_function.Goals as goal
 
 pub returns : goal.returns

@@ -2,10 +2,10 @@ use Rattle.std.proofs.Common.{◌∙◌, List, [], ◌∷◌, ◌++◌, map, tak
 use Rattle.std.specs.List.{flat_map}
 use Rattle.std.proofs.lemmas.Grind.{flat_map-append}
 use Rattle.std.proofs.lemmas.List.{take_all, take_more}
-use Rattle.educe_handlers.specs.Ranked.{kept_of}
-use Rattle.educe_laws.specs.Settings.{Kept, kept_by}
-use Rattle.educe_make_debug_shown.specs.Cases.{kept_in}
-use Rattle.educe_make_debug_shown.specs.declared.debug_shown.Case.{Case}
+use Rattle.educe_settings.specs.Ranked.{kept_of}
+use Rattle.educe_settings.specs.Settings.{Kept, kept_by}
+use Rattle.educe_make_debug.specs.Cases.{kept_in}
+use Rattle.educe_make_debug.specs.declared.debug_shown.Case.{Case}
 use Rattle.educe_make_debug.proofs.debug_fields.all_shown.Goals as goal
 
 pub loop-case-init : goal.loop-case-init

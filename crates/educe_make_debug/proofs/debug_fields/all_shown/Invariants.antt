@@ -1,7 +1,7 @@
 use Rattle.std.proofs.Common.{◌≡◌, map, take}
 use Rattle.std.specs.List.{flat_map}
-use Rattle.educe_handlers.specs.Ranked.{kept_of}
-use Rattle.educe_make_debug_shown.specs.Cases.{kept_in}
+use Rattle.educe_settings.specs.Ranked.{kept_of}
+use Rattle.educe_make_debug.specs.Cases.{kept_in}
 use Rattle.educe_make_debug.proofs.debug_fields.all_shown.Given as goal
 
 abbrev pub invariant-loop-case : goal.invariant-loop-case

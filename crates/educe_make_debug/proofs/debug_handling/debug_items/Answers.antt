@@ -1,10 +1,10 @@
 use Rattle.std.proofs.Common.{◌∙◌, ℕ, List, ◌++◌, subst}
 use Rattle.educe_bound_traits.specs.declared.traits.Trait.TheVariants.{Debug}
-use Rattle.educe_handlers.proofs.Lists.{one_pushed}
-use Rattle.educe_laws.specs.Markers.{AreMarkers}
-use Rattle.educe_laws.specs.Settings.{Kept}
-use Rattle.educe_laws.specs.Shown.{all_shown}
-use Rattle.educe_make_debug_bodies.specs.DebugNames.{names_of}
+use Rattle.educe_settings.proofs.Lists.{one_pushed}
+use Rattle.educe_meaning.specs.Markers.{AreMarkers}
+use Rattle.educe_settings.specs.Settings.{Kept}
+use Rattle.educe_settings.specs.Shown.{all_shown}
+use Rattle.educe_make_debug.specs.DebugNames.{names_of}
 use Rattle.educe_make_markers.specs.Marking as marking
 use Rattle.educe_make_debug.proofs.debug_handling.debug_items.Goals as goal
 

@@ -1,10 +1,10 @@
 use Rattle.std.proofs.Common.{◌≡◌, ◌∙◌, map, ap}
 use Rattle.std.specs.List.{flat_map}
 use Rattle.std.proofs.lemmas.Result.{IfOk-weaker}
-use Rattle.educe_handlers.specs.Ranked.{kept_of}
-use Rattle.educe_laws.specs.Shown.{all_shown}
-use Rattle.educe_make_debug_shown.specs.Cases.{kept_in}
-use Rattle.educe_make_debug_reading.proofs.Enough.{shown_kept}
+use Rattle.educe_settings.specs.Ranked.{kept_of}
+use Rattle.educe_settings.specs.Shown.{all_shown}
+use Rattle.educe_make_debug.specs.Cases.{kept_in}
+use Rattle.educe_make_debug.proofs.Enough.{shown_kept}
 use Rattle.educe_make_debug.proofs.debug_handling.fields_of.Goals as goal
 
 pub returns : goal.returns

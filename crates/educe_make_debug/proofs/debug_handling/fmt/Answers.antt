@@ -3,10 +3,10 @@ use Rattle.std.specs.Prelude.{codes}
 use Rattle.std.proofs.lemmas.Result.{IfOk-weaker}
 use Rattle.educe_syntax.specs.DeriveInput.{DeriveInput}
 use Rattle.educe_handlers.proofs.Formed.{function_with}
-use Rattle.educe_laws.specs.Blocks.{IsFunction}
-use Rattle.educe_laws.specs.Headers.{AreCopied}
-use Rattle.educe_laws.specs.ShownBodies.{IsDebugBody}
-use Rattle.educe_make_debug_bodies.specs.DebugNames.{names_of}
+use Rattle.educe_meaning.specs.Blocks.{IsFunction}
+use Rattle.educe_settings.specs.Packed.{AreCopied}
+use Rattle.educe_meaning.specs.ShownBodies.{IsDebugBody}
+use Rattle.educe_make_debug.specs.DebugNames.{names_of}
 use Rattle.educe_make_debug.proofs.debug_handling.fmt.Goals as goal
 
 pub body-requires-clause-copied : goal.body-requires-clause-copied

@@ -1,9 +1,9 @@
 use Rattle.std.proofs.Common.{◌≡◌, ◌∙◌, true, ap, refl, sym}
 use Rattle.educe_attrs.specs.FieldSettings.{FieldSettings}
-use Rattle.educe_laws.specs.Making.{field_tokens, IsInit}
-use Rattle.educe_handlers.proofs.Lists.{zip_more}
-use Rattle.educe_make_default.specs.Defaults.{settings_by}
-use Rattle.educe_handlers.proofs.Growing.{image_at}
+use Rattle.educe_meaning.specs.Making.{field_tokens, IsInit}
+use Rattle.educe_settings.proofs.Lists.{zip_more}
+use Rattle.educe_settings_types.specs.Defaults.{settings_by}
+use Rattle.educe_settings.proofs.Growing.{image_at}
 use Rattle.educe_make_default.proofs.default_body.inits.Goals as goal
 
 pub loop-place-preserved : goal.loop-place-preserved

@@ -1,7 +1,7 @@
 use Rattle.std.specs.Prelude.{codes}
 use Rattle.std.proofs.lemmas.Result.{IfOk-weaker}
-use Rattle.educe_laws.specs.Blocks.{IsFunction}
-use Rattle.educe_laws.specs.Making.{IsDefaultBody}
+use Rattle.educe_meaning.specs.Blocks.{IsFunction}
+use Rattle.educe_meaning.specs.Making.{IsDefaultBody}
 use Rattle.educe_handlers.proofs.Formed.{function_with}
 use Rattle.educe_make_default.proofs.default_handling.default_function.Goals as goal
 

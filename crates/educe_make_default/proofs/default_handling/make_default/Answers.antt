@@ -1,10 +1,10 @@
 use Rattle.std.proofs.Common.{Bool, subst}
 use Rattle.std.specs.Prelude.{codes}
 use Rattle.educe_bound_traits.specs.declared.traits.Trait.TheVariants.{Default}
-use Rattle.educe_laws.specs.Blocks.{IsFunction, AreNew}
-use Rattle.educe_laws.specs.Making.{IsDefaultBody}
+use Rattle.educe_meaning.specs.Blocks.{IsFunction, AreNew}
+use Rattle.educe_meaning.specs.Making.{IsDefaultBody}
 use Rattle.educe_handlers.proofs.Formed.{impl_with}
-use Rattle.educe_make_default.specs.Defaults.{new_items}
+use Rattle.educe_make_default.specs.MadeForms.{new_items}
 use Rattle.educe_make_default.proofs.default_handling.make_default.Goals as goal
 
 pub returns-clause-block : goal.returns-clause-block

@@ -1,7 +1,7 @@
 use Rattle.std.proofs.Common.{Bool, [], ◌∷◌, refl, subst, sym}
 use Rattle.educe_syntax.specs.Generics.{Generics}
 use Rattle.educe_body_items.specs.declared.items.Item.TheVariants.{New}
-use Rattle.educe_laws.specs.Blocks.{AreNew, IsNew}
+use Rattle.educe_meaning.specs.Blocks.{AreNew, IsNew}
 use Rattle.educe_make_default.proofs.default_handling.new_if.Goals as goal
 
 pub returns-in_ok-new_item : goal.returns-in_ok-new_item

@@ -2,7 +2,7 @@ use Rattle.std.proofs.Common.{refl}
 use Rattle.std.specs.Prelude.{codes}
 use Rattle.educe_tokens.specs.Quote.{quoted}
 use Rattle.educe_body_forms.specs.declared.form.Form.{Pasted}
-use Rattle.educe_laws.specs.Making.{IsNewBody}
+use Rattle.educe_meaning.specs.Making.{IsNewBody}
 use Rattle.educe_handlers.proofs.Formed.{function_with}
 use Rattle.educe_make_default.proofs.default_handling.new_item.Goals as goal
 

@@ -1,4 +1,4 @@
-use Rattle.educe_handlers.proofs.Lists.{two_pushed}
+use Rattle.educe_settings.proofs.Lists.{two_pushed}
 use Rattle.educe_make_hash.specs.HashNames.{names_of}
 use Rattle.educe_make_hash.proofs.hash_body.body.Goals as goal
 

@@ -1,8 +1,8 @@
 use Rattle.std.proofs.Common.{◌++◌, ◌∙◌, ap, subst, refl}
-use Rattle.educe_handlers.proofs.Lists.{one_pushed}
-use Rattle.educe_laws.specs.Arms.{IsPatternBy}
-use Rattle.educe_laws.specs.HashBodies.{AreHashSteps}
-use Rattle.educe_laws.specs.Steps.{bound}
+use Rattle.educe_settings.proofs.Lists.{one_pushed}
+use Rattle.educe_meaning.specs.Arms.{IsPatternBy}
+use Rattle.educe_meaning.specs.HashBodies.{AreHashSteps}
+use Rattle.educe_meaning.specs.Steps.{bound}
 use Rattle.educe_make_hash.proofs.hash_cases.arm.Goals as goal
 
 pub returns : goal.returns

@@ -5,9 +5,9 @@ use Rattle.educe_syntax.specs.Ident.{Ident}
 use Rattle.educe_syntax.specs.Variant.{Variant}
 use Rattle.educe_body_forms.specs.declared.form.Arm.{Arm}
 use Rattle.educe_body_forms.specs.declared.form.Form.{Form, MatchValue}
-use Rattle.educe_handlers.proofs.Lists.{one_pushed}
-use Rattle.educe_laws.specs.Arms.{IsName, AreArms}
-use Rattle.educe_laws.specs.HashBodies.{HashNames, IsHashArm, IsHashEnumBlock}
+use Rattle.educe_settings.proofs.Lists.{one_pushed}
+use Rattle.educe_meaning.specs.Arms.{IsName, AreArms}
+use Rattle.educe_meaning.specs.HashBodies.{HashNames, IsHashArm, IsHashEnumBlock}
 use Rattle.educe_make_hash.proofs.hash_cases.match_block.Goals as goal
 
 -- a match with arms is the block for an enum, whose variants they are those of

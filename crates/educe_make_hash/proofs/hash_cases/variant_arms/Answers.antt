@@ -1,31 +1,26 @@
-use Rattle.std.proofs.Common.{List, map, subst}
+use Rattle.std.proofs.Common.{subst}
 use Rattle.std.proofs.lemmas.List.{take_all}
-use Rattle.educe_syntax.specs.Variant.{Variant}
-use Rattle.educe_handlers.specs.SeenTypes.{Sees}
-use Rattle.educe_handlers.proofs.Refused.{variants_more, variants_all, variant_stopped}
-use Rattle.educe_handlers.proofs.Visited.{sees_none, sees_more}
-use Rattle.educe_laws.specs.Arms.{AreArms}
-use Rattle.educe_laws.specs.Cases.{fields_in}
-use Rattle.educe_laws.specs.HashBodies.{IsHashArm}
+use Rattle.educe_settings.proofs.Uncaused.{variants_more, variants_all, variant_stopped}
+use Rattle.educe_meaning.specs.Arms.{AreArms}
+use Rattle.educe_meaning.specs.HashBodies.{IsHashArm}
 use Rattle.educe_make_hash.specs.HashNames.{names_of}
 use Rattle.educe_make_hash.proofs.ArmLists.{arms_more}
 use Rattle.educe_make_hash.proofs.hash_cases.variant_arms.Goals as goal
 
 pub returns-in-Err-clause-err : goal.returns-in-Err-clause-err
 returns-in-Err-clause-err c =
-    variant_stopped c.args.task.which c.args.task.ast.now c.args.variants.now c.loop-place.place c.index-variants-place.result c.loop-place-test.true c.index-variants-place.is
+    variant_stopped c.args.task.trait_ c.args.task.ast.now c.args.variants.now c.loop-place.place c.index-variants-place.result c.loop-place-test.true c.index-variants-place.is
     c.in-Err.stop c.in-Err.ensures.err
 
 pub loop-place-init : goal.loop-place-init
 loop-place-init c = record {
   arms = rw c.new-arms.ensures tt;
-  seen = sees_none c.args.task.which c.args.task.ast.now c.args.types.now;
   uncaused = tt;
 }
 
 pub loop-place-preserved : goal.loop-place-preserved
 loop-place-preserved c =
-    let which = c.args.task.which in
+    let which = c.args.task.trait_ in
     let ast = c.args.task.ast.now in
     let variants = c.args.variants.now in
     let variant = c.index-variants-place.result in
@@ -34,7 +29,6 @@ loop-place-preserved c =
     record {
       arms = arms_more (IsHashArm ast (names_of c.args.names.now)) variants i variant variant c.loop-place.arms c.push.new.self c.in-Ok.arm
           less c.index-variants-place.is c.loop-place.invariant.arms c.in_ok-push-in-Ok.ensures.ok c.in-Ok.ensures.ok;
-      seen = sees_more which ast variants i variant variant _ _ _ less c.index-variants-place.is c.loop-place.invariant.seen c.in-Ok.ensures.types;
       uncaused = variants_more which ast variants i variant variant less c.index-variants-place.is c.loop-place.invariant.uncaused c.in-Ok.ensures.uncaused;
     }
 
@@ -44,11 +38,6 @@ returns-clause-ok c =
     subst (λ front. AreArms (IsHashArm c.args.task.ast.now (names_of c.args.names.now)) 0 front c.loop-place.arms)
     (take_all c.loop-place.place variants c.loop-place-test.false) c.loop-place.invariant.arms
 
-pub returns-clause-types : goal.returns-clause-types
-returns-clause-types c =
-    subst (λ (front : List Variant). Sees c.args.task.which c.args.task.ast.now (map fields_in front) c.args.types.now c.loop-place.types)
-    (take_all c.loop-place.place c.args.variants.now c.loop-place-test.false) c.loop-place.invariant.seen
-
 pub returns-clause-uncaused : goal.returns-clause-uncaused
 returns-clause-uncaused c =
-    variants_all c.args.task.which c.args.task.ast.now c.args.variants.now c.loop-place.place c.loop-place-test.false c.loop-place.invariant.uncaused
+    variants_all c.args.task.trait_ c.args.task.ast.now c.args.variants.now c.loop-place.place c.loop-place-test.false c.loop-place.invariant.uncaused

@@ -1,6 +1,6 @@
 use Rattle.std.proofs.Common.{◌∙◌, ℕ, List, ◌∷◌, [], ◌++◌, ap}
-use Rattle.educe_handlers.proofs.Lists.{two_pushed}
-use Rattle.educe_laws.specs.Checks.{texts_of}
+use Rattle.educe_settings.proofs.Lists.{two_pushed}
+use Rattle.educe_meaning.specs.Checks.{texts_of}
 use Rattle.educe_make_markers.specs.Marking.{own_texts}
 use Rattle.educe_make_markers.proofs.markers.marker_names.Goals as goal
 

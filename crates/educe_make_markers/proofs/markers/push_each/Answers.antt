@@ -1,10 +1,10 @@
 use Rattle.std.proofs.Common.{List, map, sym, subst}
 use Rattle.std.proofs.lemmas.List.{take_all}
-use Rattle.educe_handlers.specs.declared.ranked.Ranked.{Ranked}
-use Rattle.educe_handlers.specs.Ranked.{kept_of}
-use Rattle.educe_handlers.proofs.Visited.{mapped_more}
-use Rattle.educe_laws.specs.Settings.{Kept}
-use Rattle.educe_laws.proofs.Elements.{In-all, In-at, In-mapped}
+use Rattle.educe_settings.specs.declared.ranked.Ranked.{Ranked}
+use Rattle.educe_settings.specs.Ranked.{kept_of}
+use Rattle.educe_settings.proofs.Visited.{mapped_more}
+use Rattle.educe_settings.specs.Settings.{Kept}
+use Rattle.educe_settings.proofs.Elements.{In-all, In-at, In-mapped}
 use Rattle.educe_make_markers.specs.Marking.{MayMark, AddsMarkers}
 use Rattle.educe_make_markers.proofs.Marking.{none_added, joined}
 use Rattle.educe_make_markers.proofs.markers.push_each.Goals as goal

@@ -1,5 +1,5 @@
 use Rattle.std.proofs.Common.{map, take}
-use Rattle.educe_handlers.specs.Ranked.{kept_of}
+use Rattle.educe_settings.specs.Ranked.{kept_of}
 use Rattle.educe_make_markers.specs.Marking.{AddsMarkers}
 use Rattle.educe_make_markers.proofs.markers.push_each.Given as goal
 

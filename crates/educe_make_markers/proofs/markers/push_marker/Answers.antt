@@ -1,8 +1,8 @@
 use Rattle.std.proofs.Common.{ap}
 use Rattle.std.proofs.lemmas.Result.{on_ok_weaker}
-use Rattle.educe_handlers.specs.declared.ranked.How.{How}
-use Rattle.educe_handlers.specs.Ranked.{how_of, kept_of}
-use Rattle.educe_laws.specs.Markers.{marked_by}
+use Rattle.educe_settings.specs.declared.ranked.How.{How}
+use Rattle.educe_settings.specs.Ranked.{how_of, kept_of}
+use Rattle.educe_meaning.specs.Markers.{marked_by}
 use Rattle.educe_make_markers.proofs.Marking.{with_method}
 use Rattle.educe_make_markers.proofs.markers.push_marker.Goals as goal
 

@@ -1,7 +1,7 @@
 use Rattle.std.proofs.Common.{List, ◌++◌, map, ap, ◌∙◌}
 use Rattle.std.proofs.lemmas.Result.{on_ok_weaker}
-use Rattle.educe_handlers.specs.Ranked.{kept_of}
-use Rattle.educe_laws.specs.Settings.{Kept}
+use Rattle.educe_settings.specs.Ranked.{kept_of}
+use Rattle.educe_settings.specs.Settings.{Kept}
 use Rattle.educe_make_markers.proofs.several_cases.add_case.Goals as goal
 
 pub returns : goal.returns

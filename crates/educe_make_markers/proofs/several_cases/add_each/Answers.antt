@@ -1,8 +1,8 @@
 use Rattle.std.proofs.Common.{◌∙◌, List, [], ◌∷◌, ◌++◌, map, take, ap, sym, append_assoc}
 use Rattle.std.proofs.lemmas.List.{map-append}
-use Rattle.educe_handlers.specs.Ranked.{kept_of}
-use Rattle.educe_handlers.proofs.Visited.{mapped_more}
-use Rattle.educe_laws.specs.Settings.{Kept}
+use Rattle.educe_settings.specs.Ranked.{kept_of}
+use Rattle.educe_settings.proofs.Visited.{mapped_more}
+use Rattle.educe_settings.specs.Settings.{Kept}
 use Rattle.educe_make_markers.proofs.several_cases.add_each.Goals as goal
 
 pub loop-ranked-preserved : goal.loop-ranked-preserved

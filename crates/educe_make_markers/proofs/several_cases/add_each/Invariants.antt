@@ -1,5 +1,5 @@
 use Rattle.std.proofs.Common.{◌≡◌, ◌++◌, map, take}
-use Rattle.educe_handlers.specs.Ranked.{kept_of}
+use Rattle.educe_settings.specs.Ranked.{kept_of}
 use Rattle.educe_make_markers.proofs.several_cases.add_each.Given as goal
 
 abbrev pub invariant-loop-ranked : goal.invariant-loop-ranked

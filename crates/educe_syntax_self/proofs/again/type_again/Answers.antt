@@ -1,13 +1,14 @@
 use Rattle.std.proofs.Common.{suc}
 use Rattle.educe_grammar.specs.Parsed.{depth_limit}
 use Rattle.educe_grammar.specs.Types.{any_type}
-use Rattle.educe_syntax_self.proofs.KnownReads.{only_memory, found_again, type_reads_again}
+use Rattle.educe_grammar.proofs.ReadsAgain.{any_type_again}
+use Rattle.educe_syntax_self.proofs.KnownReads.{only_memory, found_again}
 use Rattle.educe_syntax_self.proofs.again.type_again.Goals as goal
 
 pub unless_memory-requires : goal.unless_memory-requires
 unless_memory-requires c =
-    only_memory any_type type_reads_again (suc depth_limit) c.args.tokens.now c.requires.0 c.requires.1 c.new-input.result c.read_type.new.input c.read_type.result c.new-input.ensures.cursor c.new-input.ensures.selves c.read_type.ensures
+    only_memory any_type any_type_again (suc depth_limit) c.args.tokens.now c.requires.0 c.requires.1 c.new-input.result c.any_type.new.input c.any_type.result c.new-input.ensures.cursor c.new-input.ensures.selves c.any_type.ensures
 
 pub returns : goal.returns
 returns c =
-    found_again any_type type_reads_again (suc depth_limit) c.args.tokens.now c.requires.0 c.requires.1 c.new-input.result c.read_type.new.input c.read_type.result c.unless_memory.result c.new-input.ensures.cursor c.new-input.ensures.selves c.unless_memory.ensures c.read_type.ensures
+    found_again any_type any_type_again (suc depth_limit) c.args.tokens.now c.requires.0 c.requires.1 c.new-input.result c.any_type.new.input c.any_type.result c.unless_memory.result c.new-input.ensures.cursor c.new-input.ensures.selves c.unless_memory.ensures c.any_type.ensures

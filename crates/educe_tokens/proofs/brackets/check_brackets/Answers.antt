@@ -3,7 +3,7 @@ use Rattle.std.proofs.lemmas.Bool.{eqb-true}
 use Rattle.std.proofs.lemmas.List.{length-reverse}
 use Rattle.educe_tokens.specs.declared.token.Token.{Token}
 use Rattle.educe_tokens.specs.Lexes.{lexemes, Lexes}
-use Rattle.educe_tokens.specs.Brackets.{closes, depth_after, kinds, IsShallow}
+use Rattle.educe_tokens.specs.Brackets.{closes, depth_after, kinds, NestsWithin}
 use Rattle.educe_tokens.proofs.Bracketed.{opened_item, shallow_item, all_shallow, token_cause, unclosed_cause, all_closed}
 use Rattle.educe_tokens.proofs.brackets.check_brackets.Goals as goal
 
@@ -38,5 +38,5 @@ returns-then-is_empty-clause-balanced c =
 
 pub returns-then-is_empty-clause-shallow : goal.returns-then-is_empty-clause-shallow
 returns-then-is_empty-clause-shallow c =
-    subst (λ (ts : List Token). IsShallow (lexemes ts)) c.as_slice-token-items.ensures
-    (all_shallow c.as_slice-token-items.result.now c.loop-token.token-index (omega (arith, c.loop-token-test.false)) c.loop-token.invariant.shallow)
+    subst (λ (ts : List Token). NestsWithin c.args.nesting (lexemes ts)) c.as_slice-token-items.ensures
+    (all_shallow c.args.nesting c.as_slice-token-items.result.now c.loop-token.token-index (omega (arith, c.loop-token-test.false)) c.loop-token.invariant.shallow)

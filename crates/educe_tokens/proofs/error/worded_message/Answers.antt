@@ -9,3 +9,6 @@ returns-in-ReuseATrait c = rw (c.in-ReuseATrait.is, sym c.as_str-word.ensures.by
 
 pub returns-in-TraitNotUsed : goal.returns-in-TraitNotUsed
 returns-in-TraitNotUsed c = rw (c.in-TraitNotUsed.is, sym c.as_str-word.ensures.bytes) c.around-in-TraitNotUsed.ensures
+
+pub returns-in-MethodField : goal.returns-in-MethodField
+returns-in-MethodField c = rw (c.in-MethodField.is, sym c.as_str-word.ensures.bytes) c.around-in-MethodField.ensures

@@ -7,7 +7,7 @@ use Rattle.educe_tokens_pieces.specs.Pieces.{is_piece}
 use Rattle.educe_tokens_scan.specs.InPlace.{IsFront}
 use Rattle.educe_tokens.specs.declared.span.Span.{Span}
 use Rattle.educe_tokens.specs.declared.token.Token.{Token}
-use Rattle.educe_tokens.specs.Causes.{empty_at, last_of, IsLexicalCause}
+use Rattle.educe_tokens.specs.Causes.{empty_at, last_of, IsLexicalCauseWithin}
 use Rattle.educe_tokens.specs.Refusals.{syntax_at}
 use Rattle.educe_tokens.specs.Steps.{Adds, IsCauseOfPiece}
 use Rattle.educe_tokens.proofs.Cutting.{front_place, front_cut}
@@ -22,7 +22,7 @@ loop-rest-init c =
     record { utf8 = c.behind_blanks-rest.utf8; before = rw c.new-tokens.ensures first.0; within = first.1 }
 
 pub returns-in_default-clause-err : goal.returns-in_default-clause-err
-returns-in_default-clause-err c = subst (IsLexicalCause (chars c.args.source.now)) (sym c.alloc.ensures) IsLexicalCause.memory
+returns-in_default-clause-err c = λ nesting. subst (IsLexicalCauseWithin nesting (chars c.args.source.now)) (sym c.alloc.ensures) IsLexicalCauseWithin.memory
 
 pub returns-in_default-found-clause-err : goal.returns-in_default-found-clause-err
 returns-in_default-found-clause-err c =
@@ -30,7 +30,7 @@ returns-in_default-found-clause-err c =
     let u : IsUtf8 rest = c.loop-rest.invariant.utf8 in
     let place = ap syntax_at (c.last_place-place.ensures ∙ ap (λ (ts : List Token). last_of (map span_of ts) (empty_at (length c.args.source.now))) c.as_slice.ensures) in
     let some = some_chars rest u (omega (arith, false-eqb _ 0 c.loop-rest-test.ensures)) in
-    stuck_cause _ (chars rest) _ _ _ _ c.loop-rest.invariant.before some (rw c.in_default-found.is at c.in-Ok.ensures.value)
+    λ nesting. stuck_cause _ (chars rest) _ _ _ _ c.loop-rest.invariant.before some (rw c.in_default-found.is at c.in-Ok.ensures.value)
     (bytes_of c.args.source.now c.utf8.source) (c.new.ensures ∙ place)
 
 pub push_piece-requires-clause-place : goal.push_piece-requires-clause-place
@@ -63,7 +63,7 @@ returns-in_err-push_piece-clause-err c =
     let span : Span = record { start = start; end = start + c.in-Some.len } in
     let cut = front_cut c.args.source.now c.args.shared.now rest c.loop-rest.tokens c.in-Some.kind c.in-Some.len span c.utf8.source u c.requires.shared c.loop-rest.invariant.before f refl refl in
     let cause = subst (λ (s : List ℕ). IsCauseOfPiece s span c.in-Some.kind c.in_err-push_piece.field-0.0) cut c.in_err-push_piece.ensures.err in
-    rw (p.1, p.2) (front_cause c.args.source.now rest c.loop-rest.tokens c.in-Some.kind c.in-Some.len span u c.loop-rest.invariant.before f refl refl c.in_err-push_piece.field-0.0 cause)
+    rw (p.1, p.2) (λ nesting. front_cause c.args.source.now rest c.loop-rest.tokens c.in-Some.kind c.in-Some.len span u c.loop-rest.invariant.before f refl refl c.in_err-push_piece.field-0.0 cause)
 
 pub loop-rest-smaller : goal.loop-rest-smaller
 loop-rest-smaller c =

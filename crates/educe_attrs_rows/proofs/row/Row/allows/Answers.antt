@@ -24,5 +24,8 @@ returns-in-Method c = ap (λ (p : Param). allows c.args.self.now p) (sym c.in-Me
 pub returns-in-Rank : goal.returns-in-Rank
 returns-in-Rank c = ap (λ (p : Param). allows c.args.self.now p) (sym c.in-Rank.is)
 
+pub returns-in-Reverse : goal.returns-in-Reverse
+returns-in-Reverse c = ap (λ (p : Param). allows c.args.self.now p) (sym c.in-Reverse.is)
+
 pub returns-in-Bound : goal.returns-in-Bound
 returns-in-Bound c = ap (λ (p : Param). allows c.args.self.now p) (sym c.in-Bound.is)

@@ -24,5 +24,8 @@ returns-in-Method c = c.is_some-in-Method.ensures ∙ ap (λ (p : Param). has p 
 pub returns-in-Rank : goal.returns-in-Rank
 returns-in-Rank c = c.is_some-in-Rank.ensures ∙ ap (λ (p : Param). has p c.args.self.now) (sym c.in-Rank.is)
 
+pub returns-in-Reverse : goal.returns-in-Reverse
+returns-in-Reverse c = c.is_some-in-Reverse.ensures ∙ ap (λ (p : Param). has p c.args.self.now) (sym c.in-Reverse.is)
+
 pub returns-in-Bound : goal.returns-in-Bound
 returns-in-Bound c = c.is_some-in-Bound.ensures ∙ ap (λ (p : Param). has p c.args.self.now) (sym c.in-Bound.is)

@@ -1,7 +1,7 @@
 use Rattle.std.proofs.Common.{◌≡◌, ◌≤◌, ◌^◌, true, arith, length}
 use Rattle.educe_bound_traits.specs.Traits.{is_listed}
 use Rattle.educe_handlers.proofs.Headed.{noted_through}
-use Rattle.educe_laws.specs.Listed.{listed}
+use Rattle.educe_settings.specs.Listed.{listed}
 use Rattle.educe_handlers.proofs.handler.TraitHandler.trait_meta_handler.Goals as goal
 
 pub returns-clause-adds : goal.returns-clause-adds

@@ -1,27 +1,25 @@
-use Rattle.std.proofs.Common.{◌≡◌, ◌∙◌, true, inl, inr, refl, ap}
+use Rattle.std.proofs.Common.{◌≡◌, ◌∙◌, true, inr, refl, ap}
+use Rattle.std.proofs.lemmas.Bool.{false≢true}
 use Rattle.std.specs.List.{list_any}
-use Rattle.educe_tokens.specs.declared.error.EduceError.{EduceError}
-use Rattle.educe_syntax.specs.DeriveInput.{DeriveInput}
 use Rattle.educe_attrs.specs.Phases.{OfHandler}
 use Rattle.educe_attrs.specs.Places.{OfPlace}
-use Rattle.educe_bound_traits.specs.declared.traits.Trait.TheVariants.{Clone}
-use Rattle.educe_bound_traits.specs.Traits.{is_listed}
-use Rattle.educe_handlers.proofs.Refused.{fields_uncaused, handler_uncaused}
-use Rattle.educe_laws.specs.Handled.{IsFieldwiseCause, OfShape, handling}
-use Rattle.educe_laws.specs.Listed.{listed}
-use Rattle.educe_laws.specs.Rows.{type_row}
-use Rattle.educe_laws.proofs.Refused.{type_refused, shape_refused}
-use Rattle.educe_laws.proofs.Stops.{stop_passed}
-use Rattle.educe_make_clone.specs.Bitwise.{OfCopy}
+use Rattle.educe_bound_traits.specs.declared.traits.Trait.{Trait}
+use Rattle.educe_bound_traits.specs.declared.traits.Trait.TheVariants.{Clone, Eq}
+use Rattle.educe_bound_traits.specs.Traits.{is_listed, same_trait}
+use Rattle.educe_settings.proofs.Uncaused.{fields_uncaused, handler_uncaused}
+use Rattle.educe_settings.specs.Handled.{OfShape, handling}
+use Rattle.educe_settings.specs.Listed.{listed}
+use Rattle.educe_settings.specs.Rows.{type_row}
+use Rattle.educe_settings.proofs.Refused.{type_refused, shape_refused}
+use Rattle.educe_settings.proofs.Stops.{stop_passed}
+use Rattle.educe_settings_types.specs.Bitwise.{OfCopy}
 use Rattle.educe_make_clone.specs.CloneLaws.{lawful_clones}
-use Rattle.educe_make_clone.proofs.Bitwise.{copies_known}
-use Rattle.educe_make_markers.specs.Methods.{has_method}
+use Rattle.educe_settings_types.proofs.Bitwise.{copies_known, copy_refused}
+use Rattle.educe_settings.specs.Methods.{has_method}
 use Rattle.educe_make_clone.proofs.clone.CloneHandlerTraitHandler.block.Goals as goal
 
--- what the type says of `Copy` is a cause of `Clone`
-copy_refused : (d : DeriveInput) (e : EduceError) → OfCopy d e → OfHandler (handling d) Clone e
-copy_refused d e (lists, inl in_lists) = type_refused Clone refl d e (inl in_lists)
-copy_refused d e (lists, inr said) = inr (IsFieldwiseCause.by_copy refl lists said.1)
+pub seen_types-requires-clause-equal : goal.seen_types-requires-clause-equal
+seen_types-requires-clause-equal c = λ is lists. absurd (false≢true (ap (λ (own : Trait). same_trait own Eq) is))
 
 pub returns-in_err-bound-clause-err : goal.returns-in_err-bound-clause-err
 returns-in_err-bound-clause-err c =

@@ -1,7 +1,6 @@
 use Rattle.std.proofs.Common.{[], ◌∷◌, subst}
 use Rattle.std.specs.Prelude.{codes}
 use Rattle.educe_body.specs.Chosen.{IsPrefix}
-use Rattle.educe_body.specs.Held.{AreWordsOf}
 use Rattle.educe_handlers.proofs.Chosen.{chosen_first}
 use Rattle.educe_make_clone.proofs.clone_names.CloneNames.choose.Goals as goal
 
@@ -14,7 +13,7 @@ returns c =
     record {
       are = record {
         words = c.in_ok-used.used;
-        words_are = subst (λ tokens. AreWordsOf tokens c.in_ok-used.used) c.as_slice.ensures c.in_ok-used.ensures;
+        words_are = c.in_ok-used.ensures;
         chosen =
             chosen_first _ _ (codes "source") _ (codes "__educe_clone_method_used" ∷ codes "educe__value" ∷ []) (c.in_ok-function.function.text ∷ last) source.chosen source.held
             (chosen_first _ _ (codes "__educe_clone_method_used") _ (codes "educe__value" ∷ []) last function.chosen function.held

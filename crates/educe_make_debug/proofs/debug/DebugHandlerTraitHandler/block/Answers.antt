@@ -1,11 +1,16 @@
-use Rattle.std.proofs.Common.{◌≡◌, true, subst}
-use Rattle.educe_bound_traits.specs.declared.traits.Trait.TheVariants.{Debug}
-use Rattle.educe_bound_traits.specs.Traits.{is_listed}
-use Rattle.educe_laws.specs.Listed.{listed}
-use Rattle.educe_laws.proofs.ShownEvaluating.{debug_evaluates}
-use Rattle.educe_make_debug_reading.proofs.Enough.{HasEnough, has_enough}
-use Rattle.educe_make_debug_reading.proofs.Uncaused.{debug_uncaused}
+use Rattle.std.proofs.Common.{◌≡◌, true, subst, ap}
+use Rattle.std.proofs.lemmas.Bool.{false≢true}
+use Rattle.educe_bound_traits.specs.declared.traits.Trait.{Trait}
+use Rattle.educe_bound_traits.specs.declared.traits.Trait.TheVariants.{Debug, Eq}
+use Rattle.educe_bound_traits.specs.Traits.{is_listed, same_trait}
+use Rattle.educe_settings.specs.Listed.{listed}
+use Rattle.educe_meaning.proofs.ShownEvaluating.{debug_evaluates}
+use Rattle.educe_make_debug.proofs.Enough.{HasEnough, has_enough}
+use Rattle.educe_make_debug.proofs.Uncaused.{debug_uncaused}
 use Rattle.educe_make_debug.proofs.debug.DebugHandlerTraitHandler.block.Goals as goal
+
+pub seen_types-requires-clause-equal : goal.seen_types-requires-clause-equal
+seen_types-requires-clause-equal c = λ is lists. absurd (false≢true (ap (λ (own : Trait). same_trait own Eq) is))
 
 pub returns-clause-means : goal.returns-clause-means
 returns-clause-means c = λ few. debug_evaluates c.args.ast.now _ c.requires.ready.is_read few c.in_ok-shown.ensures.read.cases c.in_ok-make_debug.ensures.block

@@ -1,20 +1,24 @@
-use Rattle.std.proofs.Common.{◌≡◌, true, refl}
+use Rattle.std.proofs.Common.{◌≡◌, true, refl, ap}
+use Rattle.std.proofs.lemmas.Bool.{false≢true}
 use Rattle.std.specs.Prelude.{codes}
 use Rattle.educe_attrs.specs.Phases.{OfHandler}
 use Rattle.educe_attrs.specs.Places.{OfPlace}
-use Rattle.educe_bound_traits.specs.Traits.{is_listed}
-use Rattle.educe_bound_traits.specs.declared.traits.Trait.TheVariants.{Hash}
+use Rattle.educe_bound_traits.specs.Traits.{is_listed, same_trait}
+use Rattle.educe_bound_traits.specs.declared.traits.Trait.{Trait}
+use Rattle.educe_bound_traits.specs.declared.traits.Trait.TheVariants.{Hash, Eq}
 use Rattle.educe_handlers.proofs.Formed.{function_block}
-use Rattle.educe_handlers.proofs.Refused.{other_clear, fields_uncaused, handler_uncaused}
-use Rattle.educe_handlers.proofs.Visited.{sees_all}
-use Rattle.educe_laws.specs.Handled.{OfShape, handling}
-use Rattle.educe_laws.specs.HashBodies.{IsHashBody}
-use Rattle.educe_laws.specs.Listed.{listed}
-use Rattle.educe_laws.specs.Rows.{type_row}
-use Rattle.educe_laws.proofs.Refused.{type_refused, shape_refused}
-use Rattle.educe_laws.proofs.Stops.{stop_passed}
+use Rattle.educe_settings.proofs.Uncaused.{other_clear, fields_uncaused, handler_uncaused}
+use Rattle.educe_settings.specs.Handled.{OfShape, handling}
+use Rattle.educe_meaning.specs.HashBodies.{IsHashBody}
+use Rattle.educe_settings.specs.Listed.{listed}
+use Rattle.educe_settings.specs.Rows.{type_row}
+use Rattle.educe_settings.proofs.Refused.{type_refused, shape_refused}
+use Rattle.educe_settings.proofs.Stops.{stop_passed}
 use Rattle.educe_make_hash.specs.Laws.{lawful_hashes}
 use Rattle.educe_make_hash.proofs.hash.HashHandlerTraitHandler.block.Goals as goal
+
+pub seen_types-requires-clause-equal : goal.seen_types-requires-clause-equal
+seen_types-requires-clause-equal c = λ is lists. absurd (false≢true (ap (λ (own : Trait). same_trait own Eq) is))
 
 pub returns-in_err-bound-clause-err : goal.returns-in_err-bound-clause-err
 returns-in_err-bound-clause-err c =
@@ -27,10 +31,6 @@ returns-in_err-body-clause-err c =
     let ast = c.args.ast.now in
     stop_passed (OfShape Hash ast ast.shape) (OfHandler (handling ast) Hash) (shape_refused Hash refl ast)
     c.from_residual-in_err-body.result c.in_err-body.field-0.0 c.from_residual-in_err-body.ensures.1 c.in_err-body.ensures.err
-
-pub impl_block-requires-clause-types : goal.impl_block-requires-clause-types
-impl_block-requires-clause-types c =
-    sees_all Hash c.args.ast.now c.no_types-types.result c.body.new.types c.no_types-types.ensures.read c.no_types-types.ensures.touched c.in_ok-body.ensures.types
 
 pub returns-clause-block : goal.returns-clause-block
 returns-clause-block c =

@@ -1,7 +1,6 @@
 use Rattle.std.proofs.Common.{[], ◌∷◌, ◌∙◌, subst}
 use Rattle.std.specs.Prelude.{codes}
 use Rattle.educe_body.specs.Chosen.{IsPrefix}
-use Rattle.educe_body.specs.Held.{AreWordsOf}
 use Rattle.educe_handlers.proofs.Chosen.{chosen_first, held_more}
 use Rattle.educe_make_hash.proofs.hash_names.HashNames.choose.Goals as goal
 
@@ -13,7 +12,7 @@ returns c =
     record {
       are = record {
         words = c.in_ok-used.used;
-        words_are = subst (λ tokens. AreWordsOf tokens c.in_ok-used.used) c.as_slice.ensures c.in_ok-used.ensures;
+        words_are = c.in_ok-used.ensures;
         chosen =
             chosen_first _ _ (codes "state") _ (codes "H" ∷ []) (c.in_ok-hasher.hasher.text ∷ []) state.chosen state.held
             (chosen_first _ _ (codes "H") _ [] [] hasher.chosen hasher.held tt);

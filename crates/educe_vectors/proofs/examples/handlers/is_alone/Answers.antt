@@ -10,10 +10,10 @@ use Rattle.educe_bound_traits.specs.declared.traits.Trait.{Trait}
 use Rattle.educe_bound_traits.specs.declared.traits.Trait.TheVariants as trait
 use Rattle.educe_bound_traits.specs.Traits.{is_listed}
 use Rattle.educe_bound_traits.proofs.Apart.{same_is}
-use Rattle.educe_laws.specs.Handled.{handling}
-use Rattle.educe_laws.specs.Handlers.{Noted, IsNoted, IsReady, AreUncaused, handled_of, traits_before}
-use Rattle.educe_laws.specs.Listed.{listed}
-use Rattle.educe_laws.proofs.Elements.{In-from_Contains, each_weaker}
+use Rattle.educe_settings.specs.Handled.{handling}
+use Rattle.educe_meaning.specs.Handlers.{Noted, IsNoted, IsReady, AreUncaused, handled_of, traits_before}
+use Rattle.educe_settings.specs.Listed.{listed}
+use Rattle.educe_settings.proofs.Elements.{In-from_Contains, each_weaker}
 use Rattle.educe_vectors.proofs.examples.handlers.is_alone.Goals as goal
 
 -- of one trait, the one that is listed

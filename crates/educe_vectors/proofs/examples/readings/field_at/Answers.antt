@@ -1,5 +1,5 @@
 use Rattle.std.proofs.Common.{sym}
-use Rattle.educe_laws.proofs.Elements.{In-all, In-at}
+use Rattle.educe_settings.proofs.Elements.{In-all, In-at}
 use Rattle.educe_syntax.specs.Readings.{IsReadField}
 use Rattle.educe_vectors.proofs.examples.readings.field_at.Goals as goal
 

@@ -1,4 +1,0 @@
-use Rattle.educe_cmp_eq.proofs.eq_handling.plain_block.Goals as goal
-
-pub returns : goal.returns
-returns c = record { item = c.args.item; are = c.in_ok-items.ensures; impl_is = c.requires }

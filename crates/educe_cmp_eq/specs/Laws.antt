@@ -1,7 +1,0 @@
--- The laws of `Eq` as terms, which proofs cite with no call.
-use Rattle.educe_laws.specs.EqLaws.{EqLaws}
-use Rattle.educe_laws.proofs.Checked as checked
-
--- What holds of the block of `Eq`.
-pub lawful_checks : EqLaws
-lawful_checks = checked.lawful_checks

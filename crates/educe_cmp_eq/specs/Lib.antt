@@ -1,2 +1,0 @@
--- The laws of `Eq` as terms.
-pub mod Laws

@@ -1,7 +1,0 @@
--- The laws of comparisons as terms, which proofs cite with no call.
-use Rattle.educe_laws.specs.Laws.{ComparisonLaws}
-use Rattle.educe_laws.proofs.Evaluating as evaluating
-
--- The functions of a comparison's block evaluate to what the comparison means.
-pub lawful_comparisons : ComparisonLaws
-lawful_comparisons = evaluating.lawful_comparisons

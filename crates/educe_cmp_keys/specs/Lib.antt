@@ -1,4 +1,0 @@
--- The names that functions declare.
-pub mod Names
--- The laws of comparisons as terms.
-pub mod Laws

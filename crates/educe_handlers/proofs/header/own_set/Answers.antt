@@ -1,0 +1,11 @@
+use Rattle.std.proofs.Common.{List, subst, sym}
+use Rattle.std.specs.Borrow.{Bor}
+use Rattle.std.specs.List.{AllByRecursion}
+use Rattle.educe_syntax.specs.Readings.{IsReadType}
+use Rattle.educe_syntax.specs.Ty.{Ty}
+use Rattle.educe_settings.specs.EveryType.{behind}
+use Rattle.educe_handlers.proofs.header.own_set.Goals as goal
+
+pub returns-clause-read : goal.returns-clause-read
+returns-clause-read c = λ bound names types.
+    c.predicate_set.ensures.read bound names (subst (λ (items : List (Bor Ty)). AllByRecursion IsReadType (behind items)) (sym c.deref.ensures.value) types)

@@ -1,5 +1,0 @@
-use Rattle.educe_laws.proofs.CloneEvaluating.{lawful_clones}
-use Rattle.educe_laws.proofs.laws.clone_laws.Goals as goal
-
-pub returns : goal.returns
-returns c = lawful_clones

@@ -1,5 +1,0 @@
-use Rattle.educe_laws.proofs.DefaultEvaluating.{lawful_defaults}
-use Rattle.educe_laws.proofs.laws.default_laws.Goals as goal
-
-pub returns : goal.returns
-returns c = lawful_defaults

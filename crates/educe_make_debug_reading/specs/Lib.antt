@@ -1,4 +1,0 @@
--- What is read of a definition.
-pub mod Read
--- Names that are needed.
-pub mod Needs

@@ -1,8 +1,0 @@
-use Rattle.std.proofs.Common.{refl}
-use Rattle.std.proofs.lemmas.Result.{IfOk-weaker}
-use Rattle.educe_laws.specs.HashBodies.{IsPlaceStep}
-use Rattle.educe_make_hash_steps.proofs.feeding.place_step.Goals as goal
-
-pub returns : goal.returns
-returns c =
-    IfOk-weaker c.feed.result _ (IsPlaceStep c.args.state.now.text c.args.place) (λ x fed. record { position = _; position_is = refl; is = fed }) c.feed.ensures

@@ -1,3 +1,0 @@
-pub mod Nests
-pub mod Answers
-pub mod Laws

@@ -1,0 +1,12 @@
+pub mod Sees
+pub mod CheckedTypes
+pub mod Bitwise
+pub mod Variants
+pub mod Marks
+pub mod Written
+pub mod Choosing
+pub mod Marked
+pub mod Choices
+pub mod DefaultUncaused
+pub mod ReadCases
+pub mod ShownTypes

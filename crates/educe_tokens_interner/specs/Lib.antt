@@ -1,0 +1,4 @@
+pub mod Distinct
+pub mod Keys
+pub mod Interned
+pub mod Places

@@ -1,6 +1,0 @@
-use Rattle.std.proofs.Common.{◌≡◌, map, take}
-use Rattle.educe_vectors_body.specs.Values.{numbered}
-use Rattle.educe_vectors_body.proofs.values.value.Given as goal
-
-abbrev pub invariant-loop-number : goal.invariant-loop-number
-invariant-loop-number l = l.fields ≡ map numbered (take l.number-index l.numbers)
